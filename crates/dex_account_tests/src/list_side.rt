@@ -70,7 +70,8 @@ fn clients(side: &ListSide) -> [u64; 4]
     clients
 }
 
-// Of bids with one price the one with the greater id is older; of asks the one with the lesser. A full side takes no more.
+// Of bids with one price the one with the greater id is older; of asks the one with the lesser. A full side takes no
+// more.
 #[test]
 fn orders_stand_by_price_and_then_by_age(rt: HostRuntime) -> Result<(), Fail> {
     let bids = three(rt.alloc(), Side::Bid)?;

@@ -50,7 +50,8 @@ trader_at-bytes_at address (first ∷ others) bytes found =
     there ∙ trader_at-bytes_at address others bytes (sym past ∙ found))
     (cases_Bool (is_same address first.address))
 
--- where one owner's account is replaced by one that stands for a trader, the accounts stand for the traders with that one
+-- where one owner's account is replaced by one that stands for a trader, the accounts stand for the traders with that
+-- one
 pub StandForTraders-changed_at : (owner : Address) (change : List ℕ → List ℕ) (trader : Trader) (accounts : List PlainAccount) (market : Address) (traders : Traders) (old : List ℕ)
     → StandForTraders accounts market traders → bytes_at owner accounts ≡ Some old → StandsForTrader (change old) market trader
     → StandForTraders (changed_at owner change accounts) market (put_trader owner trader traders)

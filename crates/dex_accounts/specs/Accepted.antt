@@ -15,8 +15,8 @@ use Rattle.dex_token.specs.TokenAccount.{IsWallet, wallet_words}
 abbrev pub NamesMarket : Address → PlainAccount → Type 0
 NamesMarket market account = IsOpened account.bytes → market_of account.bytes ≡ market
 
--- the accounts of a market are accepted: each as an account of its kind, the market account names its own address, the vaults
--- are of the market's mints, and every open-orders account that was ever opened names the market
+-- the accounts of a market are accepted: each as an account of its kind, the market account names its own address, the
+-- vaults are of the market's mints, and every open-orders account that was ever opened names the market
 pub record IsAccepted (accounts : PlainMarketAccounts) : Type 0 where
   pub market : IsMarket accounts.market
   pub requests : IsRequestQueue accounts.requests

@@ -15,8 +15,8 @@ use Rattle.dex_ring.specs.StandsFor.{StandsForEvents}
 use Rattle.dex_slab.specs.Slab.{resting, room_in}
 use Rattle.dex_accounts.specs.Owners.{bytes_at, changed_at}
 
--- the parts of a market: the bytes of its market account, of its request queue and of its event queue, of each side its orders and
--- how many it can hold, and the open-orders accounts
+-- the parts of a market: the bytes of its market account, of its request queue and of its event queue, of each side its
+-- orders and how many it can hold, and the open-orders accounts
 pub record MarketParts : Type 0 where
   pub market : List ℕ
   pub requests : List ℕ

@@ -43,7 +43,8 @@ pub fn parts_of_accounts_are_of_their_market()
         → AreOf (parts_of accounts) market }
 {}
 
-/// And back again: accounts stand for the market of their parts, where addresses and vaults are its, and the sides are accepted.
+/// And back again: accounts stand for the market of their parts, where addresses and vaults are its, and the sides are
+/// accepted.
 pub fn accounts_stand_for_the_market_of_their_parts()
     ensures { (accounts : PlainMarketAccounts) (m : Market) → AreOf (parts_of accounts) m
         → accounts.address ≡ m.listing.address → accounts.authority ≡ m.listing.authority
@@ -75,8 +76,8 @@ pub fn an_open_account_is_its_traders()
         → StandsForTrader bytes m.listing.address (Open (account_of bytes)) }
 {}
 
-/// Where one owner's account is replaced by one that stands for a trader, the accounts stand for the traders with that one.
-/// No account gets another address.
+/// Where one owner's account is replaced by one that stands for a trader, the accounts stand for the traders with that
+/// one. No account gets another address.
 pub fn a_replaced_account_stands_for_its_replaced_trader()
     ensures stand { (owner : Address) (change : List ℕ → List ℕ) (trader : Trader) (accounts : List PlainAccount)
         (market : Address) (traders : Traders)

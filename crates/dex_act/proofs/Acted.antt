@@ -34,7 +34,7 @@ probes-own : (move : Address → Movement) (first : Address) (cell : CellState) 
     → probes (move first) cell ≡ (is_probe (move first).kind && is_same cell.address first)
 probes-own move first cell wallet = ap (λ (a : Address). is_probe (move first).kind && is_same a cell.address) (wallet first) ∙ ap (λ (b : Bool). is_probe (move first).kind && b) (is_same-sym first cell.address)
 
--- a cell behind several probes, and it has room for them
+-- a cell after several probes, and it has room for them
 record Probed (row : PlainRow) (moves : List Movement) (cell after : CellState) : Type 0 where
   is : moves_probed row moves cell ≡ after
   room : HasRoomFor row moves cell
@@ -91,7 +91,7 @@ probed-once row move (first ∷ others) cell wallet once can =
     and-true true = refl
     and-true false = refl
 
--- a cell behind a row's look at it
+-- a cell after a row's look at it
 abbrev cell_looked : PlainRow → Seen → Transfers → CellState → CellState
 cell_looked row seen t cell = cond (any_hit cell.address (roles_of seen) && is_probe (movement_of seen t cell.address).kind) (cell_moved row Probe 0 cell) cell
 
@@ -113,7 +113,7 @@ probed-looked row seen t cell can =
 
 -- ---- a cell after a row
 
--- a cell's addresses behind what is taken and brought
+-- a cell's addresses after what is taken and brought
 pub paid-address : (row : PlainRow) (seen : Seen) (t : Transfers) → KeepsAddress (cell_paid row seen t)
 paid-address row seen t cell =
     let paid : CellState = cell_debited row seen t.coin_in t.pc_in cell in
@@ -201,7 +201,7 @@ module _ (row : PlainRow) (seen : Seen) (m : Market) (t : Transfers) (cell : Cel
   abbrev by_move : Movement → Bool → CellState
   by_move x hit = cond hit (cell_moved row x.kind x.amount cell) cell
 
-  -- where it is looked at behind what is paid, there is room for the entry
+  -- where it is looked at after what is paid, there is room for the entry
   probed : Probed row (front (places (movements seen t))) (cell_paid row seen t cell) (cell_looked row seen t (cell_paid row seen t cell))
   probed =
       let same : (cell_paid row seen t cell).address ≡ cell.address = paid-address row seen t cell in

@@ -88,7 +88,7 @@ pub pc-mints : (seen : Seen) (m : Market) (t : Transfers) (cells : List CellStat
     → All (λ (cell : CellState). IsOf m.listing.pc_mint (amount_at cell.address seen.pc t.pc_in) cell) cells
 pc-mints seen m t cells moves sees = λ k default lt. (all-moves seen m t cells moves sees k default lt).pc_in
 
--- behind the deposits
+-- after the deposits
 pub debited-address : (row : PlainRow) (seen : Seen) (coin pc : ℕ) → KeepsAddress (cell_debited row seen coin pc)
 debited-address row seen coin pc cell = moved_some-address row Debit (paid_at seen coin pc cell) cell
 
@@ -130,7 +130,7 @@ can-be-paid row seen m t cells places moves sees at =
           (amount_in (parcel_of m.listing.pc_mint t.referrer_out)) coin_is pc_is referrer_is;
     }
 
--- the cells behind both
+-- the cells after both
 pub paid-whole : (row : PlainRow) (seen : Seen) (m : Market) (t : Transfers) (cells : List CellState)
     → let payouts = paid_out m t in
     map (cell_credited row seen (amount_in payouts.coin) (amount_in payouts.pc) (amount_in payouts.referrer)) (map (cell_debited row seen t.coin_in t.pc_in) cells)

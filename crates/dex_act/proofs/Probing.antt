@@ -78,7 +78,7 @@ module _ (row : PlainRow) (seen : Seen) (places : WalletPlaces) (moves : List Mo
         room = All-weaker (HasRoomFor row (move ∷ left)) (HasRoomFor row (move ∷ [])) (λ cell can. (can.0, tt)) cells probing.can.room;
       }
 
-  -- and the others behind it
+  -- and the others after it
   pub probing-more : (move : Movement) (left : List Movement) (new : List CellState) → Probing row seen places moves (move ∷ left) start cells
       → new ≡ map (move_probed row move) cells → Probing row seen places moves left start new
   probing-more move left new probing is =

@@ -42,7 +42,7 @@ seen-at row seen market cells at for among = rw (for.sees.coin, for.sees.pc, for
 
 -- ---- looks
 
--- what the probes of the entry's movements ask of the cells behind what was paid, and what they leave
+-- what the probes of the entry's movements ask of the cells after what was paid, and what they leave
 module _ (row : Row) (seen : Seen) (market : MarketCellState) (cells paid : List CellState) (sees : SeesCells seen cells) (t : Transfers)
     (moves : RowMoves seen (market_at market) t) (paid_is : paid ≡ map (cell_paid (row_of row) seen t) cells)
     (told : List (Option Movement)) (told_is : told ≡ places (movements seen t)) where
@@ -90,7 +90,7 @@ module _ (row : Row) (seen : Seen) (plan : Plan) (market : MarketCellState) (cel
       made m.listing.pc_mint (subst (λ (x : Transfers). AreOf m.listing.pc_mint seen.pc x.pc_in cells) (sym told-step) (pc-mints seen m t cells moves sees))
       ∙ ap (λ (x : Transfers). parcel_of m.listing.pc_mint x.pc_in) told
 
-  -- the cells behind the deposits, and the payouts
+  -- the cells after the deposits, and the payouts
   module _ (debited : List CellState) (debited_is : debited ≡ map (cell_debited (row_of row) seen amounts.coin_in amounts.pc_in) cells)
       (payouts : Payouts) (paid : payouts ≡ paid_out m t) where
     behind : debited ≡ map (cell_debited (row_of row) seen t.coin_in t.pc_in) cells
@@ -130,7 +130,7 @@ module _ (row : Row) (seen : Seen) (market : MarketCellState) (cells : List Cell
 
 -- ---- what it is to wallets
 
--- what always holds of wallets' cells holds behind a row, and their wallets are as the fold says
+-- what always holds of wallets' cells holds after a row, and their wallets are as the fold says
 module _ (row : Row) (seen : Seen) (market : MarketCellState) (cells new : List CellState) (for : IsFor row seen market) (sees : SeesCells seen cells)
     (t : Transfers) (moves : RowMoves seen (market_at market) t) (acted : new ≡ map (cell_acted (row_of row) seen t) cells) where
   pub have-acted : HaveActed (row_of row) seen t cells new

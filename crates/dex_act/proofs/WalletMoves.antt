@@ -105,7 +105,7 @@ moved-twice row kind first second cell (inr none) =
     let all : first ≡ first + second = omega (arith, none) in
     ap (λ (n : ℕ). moved_some row kind n (moved_some row kind first cell)) none ∙ ap (λ (n : ℕ). moved_some row kind n cell) all
 
--- behind the movement of a role
+-- after the movement of a role
 pub later-moved : (row : PlainRow) (kind : MoveKind) (role : Option WalletSeen) (amount : ℕ) (later : Address → ℕ) (cell : CellState)
     → (amount_at cell.address role amount ≡ 0) ⊎ (later cell.address ≡ 0)
     → moved_some row kind (later (role_moved row kind role amount cell).address) (role_moved row kind role amount cell)
@@ -193,7 +193,7 @@ credited-apart row seen a b cells apart =
     ∙ map-same (λ cell. role_moved row Credit seen.referrer b (role_moved row Credit seen.pc a cell)) (pc_credited row seen a b) cells (λ cell.
     later-moved row Credit seen.pc a (λ x. amount_at x seen.referrer b) cell (apart-amounts cell.address seen.pc seen.referrer a b apart))
 
--- what can be put into a cell can be behind the movement of a role, where one of them is nothing
+-- what can be put into a cell can be after the movement of a role, where one of them is nothing
 put-after : (row : PlainRow) (role : Option WalletSeen) (amount : ℕ) (mint : Address) (later : Address → ℕ) (cell : CellState)
     → ((amount_at cell.address role amount ≡ 0) × CanPut mint (later cell.address) cell) ⊎ (later cell.address ≡ 0)
     → CanPut mint (later (role_moved row Credit role amount cell).address) (role_moved row Credit role amount cell)

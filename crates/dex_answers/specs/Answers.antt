@@ -36,9 +36,9 @@ use Rattle.dex_answers.specs.declared.status.Status.TheVariants as status
 abbrev pub rows_told : PlainScript → ℕ
 rows_told script = length (items_of script.rows)
 
--- this is what is left when all items of a script have acted in their order. It is lawful, its markets are sound and its mints
--- conserved; of each swap both legs took, or neither; and where there is no swap it is what is left when the rows have acted, each
--- by itself
+-- this is what is left when all items of a script have acted in their order. It is lawful, its markets are sound and
+-- its mints conserved; of each swap both legs took, or neither; and where there is no swap it is what is left when the
+-- rows have acted, each by itself
 pub record IsPlayed (script : PlainScript) (outcome : PlainOutcome) : Type 0 where
   pub replay : IsReplayOf script outcome
   pub run : IsRunOf script outcome
@@ -51,8 +51,9 @@ Replayed bytes told text =
     (script : PlainScript) × (outcome : PlainOutcome) × Reads false bytes script × IsPlayed script outcome
     × (text ≡ told script outcome)
 
--- the bytes are a script (one for a batch, where so told), this is what is left when all its items have acted, and the text is its
--- report. The values of the outcome fit and its movements stand from the front, so no other such outcome has this report
+-- the bytes are a script (one for a batch, where so told), this is what is left when all its items have acted, and the
+-- text is its report. The values of the outcome fit and its movements stand from the front, so no other such outcome
+-- has this report
 abbrev pub Reported : Bool → List ℕ → List ℕ → Type 0
 Reported batch bytes text =
     (script : PlainScript) × (outcome : PlainOutcome) × Reads batch bytes script × IsPlayed script outcome × IsToldOutcome outcome
@@ -66,8 +67,8 @@ IsClean bytes accounts = AnswersText bytes (Ok accounts) × (findings accounts �
 abbrev pub row_line : ℕ → FaultKind → List ℕ
 row_line row kind = lines.script_refused (record { row = row; kind = kind_number kind; code = code_of kind })
 
--- the bytes are no script (none for a batch, where so told): the text names the first faulty row, or it tells the fault or the
--- findings of the dump at its start
+-- the bytes are no script (none for a batch, where so told): the text names the first faulty row, or it tells the fault
+-- or the findings of the dump at its start
 abbrev pub IsNoScript : Bool → List ℕ → Status → List ℕ → Type 0
 IsNoScript batch bytes status.ScriptRefused text =
     (row : ℕ) × (kind : FaultKind) × IsRefused batch bytes (AtRow row kind) × (text ≡ row_line row kind)
@@ -86,8 +87,8 @@ IsNotClean bytes status.AuditFailed text =
     × (text ≡ lines.audit_failed (findings accounts))
 IsNotClean bytes _ text = ⊥
 
--- what a command on one thread answers to bytes: the status and the text. `make` and `bulk` look at no bytes, and `run` and `batch`
--- act on several threads
+-- what a command on one thread answers to bytes: the status and the text. `make` and `bulk` look at no bytes, and `run`
+-- and `batch` act on several threads
 abbrev pub Answers : Command → List ℕ → Status → List ℕ → Type 0
 Answers Replay bytes status.Ok text = Reported false bytes text
 Answers Replay bytes stood text = IsNoScript false bytes stood text

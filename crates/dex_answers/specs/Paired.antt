@@ -17,8 +17,8 @@ HasTaken journals row = is_answered is_took journals row ≡ true
 abbrev pub WasRefused : List PlainMarketJournal → PlainRow → Type 0
 WasRefused journals row = is_answered is_refusal journals row ≡ true
 
--- it was held back: there was nothing to do. That it would not have been refused at its place is a part of its market's legal
--- history
+-- it was held back: there was nothing to do. That it would not have been refused at its place is a part of its market's
+-- legal history
 abbrev pub WasHeldBack : List PlainMarketJournal → PlainRow → Type 0
 WasHeldBack journals row = is_answered is_done journals row ≡ true
 

@@ -24,7 +24,7 @@ abbrev pub TellsChecked : Checked → List ℕ → Type 0
 TellsChecked (checked.Clean accounts) bytes = IsClean bytes (accounts_of accounts) × AreAccepted (accounts_of accounts)
 TellsChecked (checked.Refused told) bytes = IsNotClean bytes told.status (text_of told)
 
--- the bytes are a script with this outcome, whose report tells of so many rows; or the text says why they are none
+-- the bytes are a script with this outcome, whose report tells of this many rows; or the text says why they are none
 abbrev pub TellsPlayed : Played → List ℕ → Type 0
 TellsPlayed (played.AllRows rows outcome) bytes =
     (script : PlainScript) × Reads false bytes script × IsPlayed script (outcome_of outcome) × (rows ≡ rows_told script)

@@ -19,10 +19,10 @@ use dex_state::{MarketJournal, Outcome};
 use dex_types::{Address, MarketAccounts, NoMemory};
 use std::alloc::Global;
 
-/// The summary of the made script of this number with so many drawn rows, which is read back and replayed.
+/// The summary of the made script of this number with this many drawn rows, which is read back and replayed.
 ///
 /// That a made script is one, and that its outcome is of its two markets, is tested and not proved: where it were
-/// otherwise, the answer is want of memory.
+/// otherwise, the answer is lack of memory.
 pub fn bulk_answer(alloc: Global, number: u64, rows: u32) -> Result<StatusText, NoMemory>
     requires { AreMade number rows }
     ensures { IfOk result (λ told. Answers (Bulk number rows) [] told.status (text_of told)) }

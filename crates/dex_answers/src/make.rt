@@ -12,7 +12,7 @@ use dex_report::make_script;
 use dex_types::NoMemory;
 use std::alloc::Global;
 
-/// The made script of this number with so many drawn rows.
+/// The made script of this number with this many drawn rows.
 pub fn make_answer(alloc: Global, number: u64, rows: u32) -> Result<StatusText, NoMemory>
     requires { AreMade number rows }
     ensures { IfOk result (λ told. IsText told status.Ok (made_text number rows)) }

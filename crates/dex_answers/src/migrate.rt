@@ -19,8 +19,8 @@ use dex_refusal_lines::migrate_refused_text;
 use dex_types::NoMemory;
 use std::alloc::Global;
 
-/// The dump of the accounts with sides of so many nodes and event queues for so many events; or what would not fit; or
-/// the findings of the accounts, or the first faulty row of the dump.
+/// The dump of the accounts with sides of this many nodes and event queues for this many events; or what would not fit;
+/// or the findings of the accounts, or the first faulty row of the dump.
 pub fn migrate_answer(
     alloc: Global,
     bytes: &[u8],

@@ -33,7 +33,7 @@ pub(crate) fn play_script(alloc: Global, bytes: &[u8]) -> Result<Played, NoMemor
     play_read(alloc, read)
 }
 
-/// The same of bytes that are given up: they are let go before the first row acts.
+/// Like `play_script`, of bytes that are given up: they are let go before the first row acts.
 pub(crate) fn play_taken(alloc: Global, bytes: Vec<u8>) -> Result<Played, NoMemory>
     ensures { IfOk result (λ played. TellsPlayed played bytes.items) }
 {

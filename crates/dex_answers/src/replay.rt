@@ -25,7 +25,7 @@ pub fn replay_answer(alloc: Global, bytes: &[u8]) -> Result<StatusText, NoMemory
     told_of(alloc, play_script(alloc, bytes)?)
 }
 
-/// The same of bytes that are given up.
+/// Like `replay_answer`, of bytes that are given up.
 pub fn replay_taken(alloc: Global, bytes: Vec<u8>) -> Result<StatusText, NoMemory>
     ensures { IfOk result (λ told. Answers Replay bytes.items told.status (text_of told)) }
 {
@@ -43,7 +43,7 @@ fn told_of(alloc: Global, played: Played) -> Result<StatusText, NoMemory>
     }
 }
 
-/// The report of an outcome, which is given up, that tells of so many rows. All values that it tells fit.
+/// The report of an outcome, which is given up, that tells of this many rows. All values that it tells fit.
 fn report_of(alloc: Global, outcome: Outcome, rows: u32) -> Result<StatusText, NoMemory>
     ensures fits { IfOk result (λ told. FitOutcome (outcome_of outcome)) }
     ensures text { IfOk result (λ told. IsText told status.Ok (report_text (outcome_of outcome) rows)) }

@@ -26,7 +26,7 @@ fn room(alloc: Global) -> Result<Vec<u8>, Fail> {
     Ok(Vec::from_elem(alloc, 165, ROOM)?)
 }
 
-// Sees that a call ended well, with a text that begins so, and left what stands behind it.
+// Sees that a call ended well, with a text that begins so, and left what stands after it.
 fn tells(status: u8, room: &[u8], size: usize, front: &[u8]) -> Result<(), Fail> {
     let Some((text, rest)) = room.split_at_checked(size) else {
         return Err(Fail::new("does not fit"));

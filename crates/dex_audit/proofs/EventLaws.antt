@@ -1,4 +1,4 @@
--- where an audit finds nothing of rule 4, pending events are held, and none comes behind a final out of its order
+-- where an audit finds nothing of rule 4, pending events are held, and none comes after a final out of its order
 use Rattle.std.proofs.Common.{◌≡◌, ℕ, ◌+◌, Bool, true, false, ◌&&◌, cond, eqb, List, [], ◌∷◌, ◌++◌, length, take, refl, sym, ap, ◌∙◌, subst, arith, append_assoc}
 use Rattle.std.proofs.lemmas.Bool.{eq-eqb, and_parts, and_from, eqb-true, false≢true, false_from_ne_true}
 use Rattle.std.proofs.lemmas.List.{length-append}

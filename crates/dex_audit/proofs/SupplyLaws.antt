@@ -39,7 +39,7 @@ gathered-at gathered markets i one market are lt is here =
 
 -- ---- findings told behind one another
 
--- five told behind one another
+-- five told after one another
 pub five : {X : Type 0} (a b c d e f0 f1 f2 f3 f4 f5 : List X) → f1 ≡ f0 ++ a → f2 ≡ f1 ++ b → f3 ≡ f2 ++ c → f4 ≡ f3 ++ d → f5 ≡ f4 ++ e
     → f5 ≡ f0 ++ (a ++ (b ++ (c ++ (d ++ e))))
 five a b c d e f0 f1 f2 f3 f4 f5 is1 is2 is3 is4 is5 =

@@ -1,4 +1,5 @@
--- What an audit finds: each place where a rule over several accounts fails, by the rule, then by the accounts' order, then by place.
+-- What an audit finds: each place where a rule over several accounts fails, by the rule, then by the accounts' order,
+-- then by place.
 use Rattle.std.specs.Prelude.{List, ◌++◌}
 use Rattle.std.specs.List.{flat_map}
 use Rattle.dex_types.specs.Accounts.{PlainAccounts, PlainMarketAccounts}
@@ -25,7 +26,7 @@ fund_findings markets =
     told rule.Totals markets
     ++ (told rule.Deposits markets ++ (told rule.Vaults markets ++ (told rule.Rebates markets ++ told rule.Beyond markets)))
 
--- all findings: behind these rule 12, of the mints, and rule 13
+-- all findings: after these rule 12, of the mints, and rule 13
 unfoldable pub findings : PlainAccounts → List Finding
 findings accounts =
     slot_findings accounts.markets

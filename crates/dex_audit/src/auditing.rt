@@ -72,7 +72,7 @@ fn tell_market_rules(
 }
 
 /// What an audit finds of accounts: each place where a rule over several accounts fails, by the rule, then by the
-/// accounts' order, then by place. Only want of memory can come in the place of the findings.
+/// accounts' order, then by place. Only a lack of memory can come in the place of the findings.
 pub fn audit(alloc: Global, accounts: &Accounts) -> Result<Vec<Finding>, NoMemory>
     requires { AreAccepted (accounts_of accounts.now) }
     ensures { IfOk result (λ found. found.items ≡ audits.findings (accounts_of accounts.now)) }

@@ -90,6 +90,6 @@ joined-more f xs i d before now after lt told one =
     ∙ flat_map_more f before (take i xs) (get_or xs i d)
     ∙ ap (λ (l : List _). before ++ flat_map f l) (sym (take_more xs i d lt))
 
--- two told behind one another
+-- two told after one another
 pub both : {X : Type 0} (before first second now after : List X) → now ≡ before ++ first → after ≡ now ++ second → after ≡ before ++ (first ++ second)
 both before first second now after one two = two ∙ ap (λ (l : List _). l ++ second) one ∙ append_assoc before first second

@@ -47,7 +47,7 @@ pub elsewhere : (owner : Address) (slot : ℕ) (held : Option Holding) (side : S
     → before ≡ or_else before (unheld owner slot held side (order ∷ []))
 elsewhere owner slot held side order before not_here = sym (rw not_here (or_else-none before))
 
--- an order that is held, or behind another, changes nothing
+-- an order that is held, or after another, changes nothing
 pub passed_over : (owner : Address) (slot : ℕ) (held : Option Holding) (side : Side) (order : Order) (before : Option ℕ)
     → (is_order_at owner slot order && not (is_held held (order_holding side order))) ≡ false → before ≡ or_else before (unheld owner slot held side (order ∷ []))
 passed_over owner slot held side order before none = sym (rw none (or_else-none before))

@@ -37,7 +37,8 @@ exceeds kind account place amount =
 abbrev pub held_kept : Token → Address → Market → ℕ
 held_kept token owner m = total (weighed_where (is_own_held m.traders owner) (kept token)) m.events
 
--- what an account's total of a token has to be: what is free, what its resting orders lock, and what its pending events keep
+-- what an account's total of a token has to be: what is free, what its resting orders lock, and what its pending events
+-- keep
 abbrev pub total_sum : Token → Market → Address → Account → ℕ
 total_sum token m owner account = (balance token account).free + own_locked token owner m + held_kept token owner m
 
@@ -53,7 +54,8 @@ totals_in m =
 -- ---- 8, 9 and 10: deposits are free, resting and owed summed; a vault holds that and what the market earned; the referrer
 -- rebates are the accounts' referrer parts and those of pending taker fills
 
--- what a market's deposits of a token have to be: what accounts have free, what resting orders lock, and what pending events owe
+-- what a market's deposits of a token have to be: what accounts have free, what resting orders lock, and what pending
+-- events owe
 abbrev pub deposited : Token → Market → ℕ
 deposited token m = all_free token m.traders + all_locked token m + all_owed token m.events
 

@@ -55,8 +55,8 @@ abbrev pub or_else : Option ℕ → Option ℕ → Option ℕ
 or_else None second = second
 or_else (Some first) second = Some first
 
--- after a side was walked, what is noted of each slot: what was noted before, or else the id of the side's first order for the slot that the slot does
--- not hold
+-- after a side was walked, what is noted of each slot: what was noted before, or else the id of the side's first order
+-- for the slot that the slot does not hold
 abbrev pub AreNoted : Address → Account → Side → List Order → List (Option ℕ) → List (Option ℕ) → Type 0
 AreNoted owner account side orders before after =
     (slot : ℕ) → slot < 128 → slice_index_or after slot None ≡ or_else (slice_index_or before slot None) (unheld_in owner account side slot orders)
@@ -118,7 +118,7 @@ unpaired_in m = flat_map (unpaired m.bids m.asks m.events) (taken_in m.traders)
 abbrev pub is_placed : Traders → List QueuedEvent → QueuedEvent → Bool
 is_placed traders earlier event = is_held (held_at event.owner event.slot traders) (event_holding event) && (finals_of (event_holding event) earlier == 0)
 
--- rule 4 for one event behind these earlier ones: its slot does not hold its order, or one of them is a final out of it
+-- rule 4 for one event after these earlier ones: its slot does not hold its order, or one of them is a final out of it
 abbrev pub astray_behind : Traders → List QueuedEvent → Address → ℕ → QueuedEvent → List Finding
 astray_behind traders earlier queue number event =
     unless

@@ -37,7 +37,7 @@ pub enum Rule {
     Misheld,
     /// 3: a taken slot whose order neither rests nor is ended once, or both.
     Unpaired,
-    /// 4: a pending event that no slot holds, or behind the end of its order.
+    /// 4: a pending event that no slot holds, or after the end of its order.
     Astray,
     /// 5: a taken slot whose order has a sequence number that was not given out.
     Ungiven,

@@ -12,7 +12,7 @@ mapped-more {A} {B} {C} f g xs x y old new made before added =
     ∙ sym (map-append f (map g xs) (g x ∷ []))
     ∙ ap (map f) (sym (map-append g xs (x ∷ [])))
 
--- what is told of an item where it stands
+-- what is recorded of an item where it stands
 pub told-at : {A B : Type 0} (f : B → ℕ) (g : A → B) (xs : List A) (x : A) (i place : ℕ) (told : List ℕ) → told ≡ map f (map g xs) → (i < length xs) × (x ≡ get_or xs i x)
     → place ≡ i → get_or told place 0 ≡ f (g x)
 told-at f g xs x i place told is at same =

@@ -15,7 +15,7 @@ listing-address accounts = refl
 
 -- ---- the place of a market
 
--- behind the first cell, the others
+-- after the first cell, the others
 first-later : (address : Address) (cell : MarketCellState) (others : List MarketCellState) (place : ℕ) → IsFirstAt address (cell ∷ others) (suc place)
     → (is_same address cell.accounts.address ≡ false) × IsFirstAt address others place
 first-later address cell others place first = (

@@ -1,4 +1,4 @@
--- Two rows that share nothing, one behind the other.
+-- Two rows that share nothing, one after the other.
 use Rattle.std.proofs.Common.{◌≡◌, ℕ, ◌<◌, ◌||◌, ◌&&◌, not, Bool, true, false, cond, List, [], ◌∷◌, length, map, is_some, Option, Some, None, refl, sym, ap, ◌∙◌, subst, ⊎_elim}
 use Rattle.std.proofs.lemmas.List.{map-id}
 use Rattle.dex_fold.proofs.Common.{Address, All-cons, All-head, All-nil, All-tail, AllZip, Market, PlainRow, Refusal, Reply, Seen, ShareNothing, Transfers, WalletEntry, WalletState, World, act, acted, cases_Bool, chosen, decoded, false≢true, fold, idle_row, is_refusal, is_same, is_same-refl, is_same-true, is_take, movement_of, names, request_of, row_step, row_wallets, seen_by, step-refused, wallet_acted, wallet_moved, why-far, why_in, why_on}

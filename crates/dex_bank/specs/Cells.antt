@@ -22,7 +22,8 @@ use Rattle.dex_fold.specs.World.{World, market_at, seen_by}
 pub use Rattle.dex_act.specs.Opened.{market_state_of}
 use Rattle.dex_act.specs.Wallets.{AreApart, is_among, wallet_state_of}
 
--- the mints and which of them are SRM and MSRM, the cells of the markets and of the wallets in declared order, and the program
+-- the mints and which of them are SRM and MSRM, the cells of the markets and of the wallets in declared order, and the
+-- program
 pub record CellsState : Type 0 where
   pub mints : List PlainAccount
   pub srm : Option Address

@@ -16,8 +16,8 @@ pub record HasActedOrWaited (row : PlainRow) (waits : Bool) (answer : Reply) (be
   pub refused : (waits || is_refusal answer) ≡ true → accounts_in after.markets ≡ accounts_in before.markets
   pub cells : AreCells after
 
--- a row acted on cells, and this was its reply: the world is that after it, no cell was opened otherwise, cells of other markets are as
--- they were, and where it was refused so are the accounts of all markets
+-- a row acted on cells, and this was its reply: the world is that after it, no cell was opened otherwise, cells of
+-- other markets are as they were, and where it was refused so are the accounts of all markets
 abbrev pub HasStepped : PlainRow → Reply → CellsState → CellsState → Type 0
 HasStepped row answer before after = HasActedOrWaited row false answer before after
 

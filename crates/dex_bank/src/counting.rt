@@ -20,7 +20,7 @@ fn is_told(place: u16, told: &[u16]) -> bool
     told.iter().any(|other| place == *other)
 }
 
-/// One more at a place that is told behind others, if there is such a place, unless it is one of them.
+/// One more at a place that is told after others, if there is such a place, unless it is one of them.
 fn count(counts: &mut [usize], told: u16, others: &[u16])
     requires { HaveSpare 1 counts.old }
     ensures { AreCounted (λ (place : ℕ). not (spec.is_told place others.entry.now) && place == told)

@@ -36,7 +36,7 @@ fn parcel_in(bytes: &[u8]) -> Parcel
     Parcel::of_supply(wallet.mint(), wallet.amount())
 }
 
-/// The cell of a market's accounts, with room for so many rows.
+/// The cell of a market's accounts, with room for this many rows.
 fn market_cell(alloc: Global, accounts: MarketAccounts, room: usize) -> Result<MarketCell, NoMemory>
     requires sound { AreSound (market_accounts_of accounts) }
     requires accepted { IsAccepted (market_accounts_of accounts) }
@@ -69,7 +69,7 @@ fn market_cells(
     Ok(cells)
 }
 
-/// The cell of a wallet, with room for so many rows.
+/// The cell of a wallet, with room for this many rows.
 fn wallet_cell(alloc: Global, account: Named, room: usize) -> Result<WalletCell, NoMemory>
     requires { IsWallet account.bytes.items }
     ensures opened { IfOk result (λ cell. cell ≡ wallet.new_cell account.address account.bytes.items room) }

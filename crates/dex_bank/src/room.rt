@@ -24,7 +24,7 @@ fn room_for<A: Drop, J: Drop>(alloc: Global, count: usize) -> Result<OutcomePart
     Ok(OutcomeParts { accounts, journals })
 }
 
-/// Room for what the cells of so many markets and wallets leave.
+/// Room for what the cells of this many markets and wallets leave.
 #[derive(Drop)]
 pub struct Room {
     pub(crate) of_markets: OutcomeParts<MarketAccounts, MarketJournal>,
@@ -43,7 +43,7 @@ impl Model for Room {
 }
 
 impl Room {
-    /// Room for so many markets and wallets.
+    /// Room for this many markets and wallets.
     pub fn reserve(alloc: Global, markets: usize, wallets: usize) -> Result<Room, NoMemory>
         ensures { IfOk result (λ room. (markets ≤ room.markets) × (wallets ≤ room.wallets)) }
     {

@@ -15,12 +15,12 @@ use std::alloc::{AllocError, Global};
 use std::io;
 use std::time::Clock;
 
-/// The bytes of an account that has room for so many orders, all zero.
+/// The bytes of an account that has room for this many orders, all zero.
 pub fn account(alloc: Global, orders: u32) -> Result<Vec<u8>, AllocError> {
     vec![in alloc; 0; 52 + 144 * orders as usize]
 }
 
-/// Whether the bytes are the asks' account, with no order and room for so many.
+/// Whether the bytes are the asks' account, with no order and room for this many.
 pub fn is_empty_side(bytes: &[u8], orders: u32) -> bool
     ensures slab { OnTrue result (IsSlab bytes.now) }
     ensures empty { OnTrue result (resting Ask bytes.now ≡ []) }

@@ -1,4 +1,4 @@
-//! How long batches of orders take, on a side with so many orders.
+//! How long batches of orders take, on a side with this many orders.
 
 ghost use Rattle.std.specs.Prelude.{◌≡◌, ◌+◌, ◌≤◌, ◌<◌, length, []};
 
@@ -13,7 +13,8 @@ pub const BATCH: u32 = 50;
 /// How many rounds are timed.
 pub const ROUNDS: u32 = 400;
 
-/// The time for one order to go in and for one to come out, in nanoseconds: of the round that took the least time for it.
+/// The time for one order to go in and for one to come out, in nanoseconds: of the round that took the least time for
+/// it.
 #[derive(Clone, Copy, Debug)]
 pub struct Times {
     pub insert: u128,

@@ -45,7 +45,7 @@ place_of-point side id (first ∷ others) (suc place) within parts =
     let further : place_of side id (first ∷ others) ≡ place_of side id others + 1 = cond-true _ _ _ (parts.0 0 first (omega arith) (omega arith)) in
     omega arith
 
--- behind an order that does not stand before the id, and has another, no order has it
+-- after an order that does not stand before the id, and has another, no order has it
 none-behind : (side : Side) (id : ℕ) (first : Order) (others : List Order) → PrecedesAll side first.id others → precedes side first.id id ≡ false
     → eqb first.id id ≡ false → order_with id others ≡ None
 none-behind side id first others all behind apart =
@@ -78,7 +78,7 @@ order_with-place side id (first ∷ others) sorted =
     ∙ ap (λ place. with_id id (slice_get (first ∷ others) place)) (sym here))
     (cases_Bool (precedes side first.id id))
 
--- an element behind others
+-- an element after others
 slice_get-behind : (before after : List Order) (n : ℕ) → slice_get (before ++ after) (length before + n) ≡ slice_get after n
 slice_get-behind [] after n = ap (slice_get after) (omega arith)
 slice_get-behind (first ∷ before) after n =

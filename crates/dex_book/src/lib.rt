@@ -1,4 +1,5 @@
-//! The sides of the book, by the one contract that all above them cite: a side as a sorted list, and one over the bytes of its account.
+//! The sides of the book, by the one contract that all above them cite: a side as a sorted list, and one over the bytes
+//! of its account.
 #![tactic(auto)]
 
 mod list_side;

@@ -29,7 +29,7 @@ impl Model for ListSide {
 }
 
 impl ListSide {
-    /// An empty side with room for so many orders, all reserved here.
+    /// An empty side with room for this many orders, all reserved here.
     pub fn with_room(alloc: Global, side: Side, capacity: u32) -> Result<ListSide, NoMemory>
         ensures made { IfOk result (λ s. s ≡ record { side = side; room = capacity; orders = [] }) }
         ensures holds { IfOk result IsListed }

@@ -23,14 +23,14 @@ module _ (row : Row) (seen : Seen) (reply reply_is : Reply) (moved moved_is : Tr
   entry-is : written ≡ call.entry
   entry-is = rw (replies, moves) refl
 
-  -- its call stands behind the others
+  -- its call stands after the others
   pub calls-grow : (told more : List (Row × CallRecord)) → more ≡ told ++ (row, record { seen = seen; entry = written }) ∷ []
       → map call_of more ≡ map call_of told ++ call ∷ []
   calls-grow told more grown =
       ap (map call_of) grown ∙ map-append call_of told ((row, record { seen = seen; entry = written }) ∷ [])
       ∙ ap (λ (e : Entry). map call_of told ++ call_of (row, record { seen = seen; entry = e }) ∷ []) entry-is
 
-  -- and its entry behind theirs
+  -- and its entry after theirs
   pub entries-grow : (entries more : List Entry) (calls : List Call) → entries ≡ map (λ (call : Call). call.entry) calls
       → more ≡ entries ++ written ∷ [] → more ≡ map (λ (call : Call). call.entry) (calls ++ call ∷ [])
   entries-grow entries more calls are grown =

@@ -10,7 +10,7 @@ use Rattle.dex_cell.specs.declared.call_record.CallRecord.{CallRecord}
 use Rattle.dex_cell.specs.declared.market_cell.MarketCell.TheInside.{Inside}
 use Rattle.dex_cell.specs.CellState.{IsMarketCell, MarketCellState, entries_of}
 
--- the call of a row and of what is told beside it
+-- the call of a row and of what is recorded beside it
 abbrev pub call_of : Row × CallRecord → Call
 call_of told = record { asked = asked_of (row_of told.0); seen = told.1.seen; entry = told.1.entry }
 
@@ -25,7 +25,8 @@ cell_inside inside = record {
   room = inside.room;
 }
 
--- it is one; the journal is the entries of the calls, and has its room reserved; and the two sums are those of pending events
+-- it is one; the journal is the entries of the calls, and has its room reserved; and the two sums are those of pending
+-- events
 pub record IsKept (inside : Inside) : Type 0 where
   pub cell : IsMarketCell (cell_inside inside)
   pub journal : inside.entries.items ≡ entries_of (cell_inside inside)

@@ -22,8 +22,8 @@ use Rattle.dex_movements.specs.Entries.{entry_by}
 use Rattle.dex_step.specs.Acting.{addresses_of}
 use Rattle.dex_wallet.specs.TokenAmount.{TokenAmount, held_in}
 
--- a market's cell: its accounts as they were when the cell was made and as they are now, the parcels that its vaults are, the
--- calls since, and for how many altogether there is room
+-- a market's cell: its accounts as they were when the cell was made and as they are now, the parcels that its vaults
+-- are, the calls since, and for how many altogether there is room
 pub record MarketCellState : Type 0 where
   pub start : PlainMarketAccounts
   pub accounts : PlainMarketAccounts
@@ -38,8 +38,8 @@ pub record AreOfOneMarket (start accounts : PlainMarketAccounts) : Type 0 where
   pub authority : accounts.authority ≡ start.authority
   pub orders : addresses_of accounts.orders ≡ addresses_of start.orders
 
--- what always holds of a cell: its accounts are accepted and those of a sound market, which is the one at the end of the calls;
--- these are a legal history from the market at the start; and the parcels are what the vaults hold
+-- what always holds of a cell: its accounts are accepted and those of a sound market, which is the one at the end of
+-- the calls; these are a legal history from the market at the start; and the parcels are what the vaults hold
 pub record IsMarketCell (cell : MarketCellState) : Type 0 where
   pub sound : AreSound cell.accounts
   pub accepted : IsAccepted cell.accounts
@@ -113,14 +113,14 @@ pub record IsFor (row : Row) (seen : Seen) (cell : MarketCellState) : Type 0 whe
   pub market : row.market ≡ cell.accounts.address
   pub sees : Sees (asked_of (row_of row)) seen
 
--- its call stands behind the others, and the accounts are those of the market after its step
+-- its call stands after the others, and the accounts are those of the market after its step
 pub record HasActed (row : Row) (seen : Seen) (before after : MarketCellState) : Type 0 where
   pub calls : after.calls ≡ before.calls ++ call_on row seen before ∷ []
   pub market : market_at after ≡ (step_on row seen before).market
   pub start : after.start ≡ before.start
   pub room : after.room ≡ before.room
 
--- it was refused: its call stands behind the others, and all else is as it was
+-- it was refused: its call stands after the others, and all else is as it was
 abbrev pub refused_on : Row → Seen → MarketCellState → MarketCellState
 refused_on row seen cell = record cell { calls = cell.calls ++ call_on row seen cell ∷ [] }
 
@@ -129,11 +129,12 @@ pub record CanHold (row : Row) (seen : Seen) (cell : MarketCellState) : Type 0 w
   pub take : is_take (asked_of (row_of row)).request.instruction ≡ true
   pub spared : why (request_of (row_of row)) seen (market_at cell) ≡ None
 
--- it was held back: its call stands behind the others, and all else is as it was
+-- it was held back: its call stands after the others, and all else is as it was
 abbrev pub held_on : Row → Seen → MarketCellState → MarketCellState
 held_on row seen cell = record cell { calls = cell.calls ++ held_made (row_of row) seen ∷ [] }
 
--- a row was done or refused: its call stands behind the others, where it is refused all else is as it was, and this is a cell again
+-- a row was done or refused: its call stands after the others, where it is refused all else is as it was, and this is a
+-- cell again
 pub record HasTaken (row : Row) (seen : Seen) (before after : MarketCellState) : Type 0 where
   pub acted : HasActed row seen before after
   pub refused : is_refusal (step_on row seen before).reply ≡ true → after ≡ refused_on row seen before

@@ -30,7 +30,8 @@ paid_out m t = record {
 abbrev pub moved_share : TokenAmount → ℕ → ℕ → TokenAmount
 moved_share share out into = record share { amount = share.amount - out + into }
 
--- `out` can be taken from the vault's parcel, what is left and `into` fit 64 bits together, and `parcel` is one of `into` (none where that is 0)
+-- `out` can be taken from the vault's parcel, what is left and `into` fit 64 bits together, and `parcel` is one of
+-- `into` (none where that is 0)
 pub record CanMoveShare (share : TokenAmount) (out into : ℕ) (parcel : Option TokenAmount) : Type 0 where
   pub held : out ≤ share.amount
   pub fits : share.amount - out + into < 2 ^ 64

@@ -11,7 +11,7 @@ use dex_movements::{Amounts, put_moves};
 use dex_stamps::Log;
 use dex_types::{Entry, Reply, Row, Seen};
 
-/// Writes the entry of a row with this reply that moves these amounts behind the others, where room for it is reserved.
+/// Writes the entry of a row with this reply that moves these amounts after the others, where room for it is reserved.
 /// Its movements are put where they stay.
 pub(crate) fn write_down(
     calls: &mut Log<Row, CallRecord>,

@@ -67,8 +67,8 @@ impl MarketCell {
     ghost use Rattle.dex_cell.specs.CellState.{answer_on, market_at, step_on};
     ghost use Rattle.dex_cell.specs.Paying.{paid_in, paid_out};
 
-    /// The cell of a market's accounts and of the parcels that its vaults are, with room for so many rows. Where there
-    /// is no memory for them, all are given up.
+    /// The cell of a market's accounts and of the parcels that its vaults are, with room for this many rows. Where
+    /// there is no memory for them, all are given up.
     pub fn new(
         alloc: Global,
         accounts: MarketAccounts,

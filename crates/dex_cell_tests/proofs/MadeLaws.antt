@@ -1,4 +1,5 @@
--- The accounts of a market as it is made, with two open-orders accounts that are reserved: they are accepted, and those of a sound market.
+-- The accounts of a market as it is made, with two open-orders accounts that are reserved: they are accepted, and those
+-- of a sound market.
 use Rattle.std.proofs.Common.{◌≡◌, ℕ, List, [], ◌∷◌, ◌++◌, false, slice_index, replicate, refl, sym, ap, ◌∙◌, subst, arith}
 use Rattle.std.specs.List.{All}
 use Rattle.std.proofs.lemmas.Bool.{cond-false}

@@ -24,7 +24,7 @@ take-behind (b ∷ front) rest count =
     let longer : length (b ∷ front) + count ≡ suc (length front + count) = omega (arith, length-cons b front) in
     ap (λ (n : ℕ). take n (b ∷ (front ++ rest))) longer ∙ ap (λ (t : List ℕ). b ∷ t) (take-behind front rest count)
 
--- a part of a piece behind those before it is a front of the text
+-- a part of a piece after those before it is a front of the text
 front-of-text : (pieces : List Piece) (i : ℕ) (piece : Piece) (sent : ℕ) → i < length pieces → piece ≡ get_or pieces i piece
     → sent < length (piece_text piece)
     → (text_of (take i pieces) ++ take sent (piece_text piece) ≡ take (length (text_of (take i pieces)) + sent) (text_of pieces))

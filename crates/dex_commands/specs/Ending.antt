@@ -80,7 +80,7 @@ ReadTooMuch command i text =
     × (text ≡ line (codes "input too long"))
 
 -- A status stands, with the text that it writes, where the words are this command, or none. Each says what the words
--- and the source were, but want of memory
+-- and the source were, but lack of memory
 abbrev pub Stands : Status → Option Command → Input → List ℕ → Type 0
 Stands status.NoMemory asked i text = text ≡ line (codes "no memory")
 Stands status.WriteFault asked i text = ⊥

@@ -14,10 +14,11 @@ use Rattle.dex_answers.specs.Paired.{ArePaired}
 use Rattle.dex_answers.specs.declared.status.Status.{Status}
 use Rattle.dex_answers.specs.declared.status.Status.TheVariants as status
 
--- this is what is left when the lanes of a script have run side by side: it is lawful, its markets are sound and its mints
--- conserved; of each swap both legs took, or neither; it is also what the script's items leave one after the other in some order
--- that keeps the order of each lane; and where there is no swap, what its rows leave, each by itself, in such an order. Its values
--- fit and its movements stand from the front, so no other such outcome has its report
+-- this is what is left when the lanes of a script have run side by side: it is lawful, its markets are sound and its
+-- mints conserved; of each swap both legs took, or neither; it is also what the script's items leave one after the
+-- other in some order that keeps the order of each lane; and where there is no swap, what its rows leave, each by
+-- itself, in such an order. Its values fit and its movements stand from the front, so no other such outcome has its
+-- report
 pub record HaveRun (script : PlainScript) (outcome : PlainOutcome) : Type 0 where
   pub run : IsRunOf script outcome
   pub paired : ArePaired script outcome

@@ -16,9 +16,9 @@ use Rattle.dex_script_facts.specs.PlainScript.{PlainScript}
 use Rattle.dex_script.specs.Scripts.{Reads}
 use Rattle.dex_commands.specs.Ending.{Input, Output}
 
--- the bytes are those of a script (one for batches, where so told), and the sink took the report of what is left when all its items
--- have acted in their listed order; it is lawful, with sound markets and conserved mints, and of each swap both legs took, or
--- neither. No other such outcome has this report
+-- the bytes are those of a script (one for batches, where so told), and the sink took the report of what is left when
+-- all its items have acted in their listed order; it is lawful, with sound markets and conserved mints, and of each
+-- swap both legs took, or neither. No other such outcome has this report
 pub record ListedOrder (batch : Bool) (bytes : List ℕ) (o : Output) : Type 0 where
   pub script : PlainScript
   pub outcome : PlainOutcome

@@ -15,8 +15,8 @@ use dex_types::NoMemory;
 use dex_words::PlainCommand;
 use std::alloc::Global;
 
-/// What a command on one thread, whose numbers are within their limits, answers to the bytes that it read: the text, and
-/// the status under which it is written. `make` and `bulk` read none. It answers otherwise only for want of memory.
+/// What a command on one thread, whose numbers are within their limits, answers to the bytes that it read: the text,
+/// and the status under which it is written. `make` and `bulk` read none. It answers otherwise only for lack of memory.
 pub fn answer_to(alloc: Global, command: PlainCommand, bytes: &[u8]) -> Result<StatusText, NoMemory>
     requires { IsWithin (of_plain command) }
     ensures { IfOk result (λ told. Answers (of_plain command) bytes.now told.status (text_of told)) }
@@ -32,7 +32,7 @@ pub fn answer_to(alloc: Global, command: PlainCommand, bytes: &[u8]) -> Result<S
     }
 }
 
-/// The same of bytes that are given up: a replay lets them go before its first row acts.
+/// Like `answer_to`, of bytes that are given up: a replay lets them go before its first row acts.
 pub fn answer_taking(
     alloc: Global,
     command: PlainCommand,

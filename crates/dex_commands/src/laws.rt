@@ -15,8 +15,8 @@ pub fn what_suits_a_command_is_answered()
         → Suits command bytes → AnswersAll command bytes stood text → stood ≡ Done }
 {}
 
-/// One text is the report of one outcome: two outcomes of which `run`, `replay` or `batch` wrote one text are equal, whatever
-/// scripts they are of.
+/// One text is the report of one outcome: two outcomes of which `run`, `replay` or `batch` wrote one text are equal,
+/// whatever scripts they are of.
 pub fn one_report_is_of_one_outcome()
     ensures run { (bytes others text : List ℕ)
         (one : Ran bytes text) (other : Ran others text) → one.1 ≡ other.1 }

@@ -41,7 +41,7 @@ pub(crate) fn worth_answer(alloc: Global, bytes: &[u8]) -> Result<StatusText, No
     }
 }
 
-/// The table of so many markets, of a lawful outcome of these rows.
+/// The table of this many markets, of a lawful outcome of these rows.
 fn table_of(
     alloc: Global,
     markets: usize,
@@ -58,7 +58,7 @@ fn table_of(
     table_text(alloc, markets, &table)
 }
 
-/// The text of a table of so many markets.
+/// The text of a table of this many markets.
 fn table_text(alloc: Global, markets: usize, table: &[WorthRow]) -> Result<StatusText, NoMemory>
     ensures { IfOk result (λ told. IsText told status.Ok (worth_text markets (map plain_row table.now))) }
 {

@@ -108,7 +108,7 @@ name-allowed accounts mint None is apart = is
 name-allowed accounts mint (Some other) is apart = and_from _ _ is (not_from_false _ (is_same-sym mint other ∙ apart))
 
 module _ (whole : PlainAccounts) (behind : List Fields) where
-  -- the rows give these accounts, with these rows behind them, whatever the number of the first is
+  -- the rows give these accounts, with these rows after them, whatever the number of the first is
   abbrev Back : PlainReading → List Fields → Type 0
   Back reading rows =
       (number : ℕ) → (count : ℕ) × Answers number reading rows (Ok (record { accounts = whole; count = count; behind = behind }))
@@ -361,7 +361,7 @@ first_first : is_first_row first_row ≡ true
 unfolding is_first_row
 first_first = refl
 
--- the rows of a dump, whatever stands behind them
+-- the rows of a dump, whatever stands after them
 pub rows-back : (accounts : PlainAccounts) → AreAccepted accounts → HoldBytes accounts → (behind : List Fields)
     → (count : ℕ) × AnswersDump (dump_rows accounts ++ behind) (Ok (record { accounts = accounts; count = count; behind = behind }))
 rows-back accounts are held behind =

@@ -1,4 +1,5 @@
--- A dump tells where it ends: of two dumps with something behind them that are one text, both the dumps and what is behind are one.
+-- A dump tells where it ends: of two dumps with something after them that are one text, both the dumps and what is
+-- after are one.
 use Rattle.std.proofs.Common.{◌≡◌, ◌∷◌, ◌++◌, ◌∙◌, ◌==◌, [], ℕ, List, Bool, true, false, not, arith, append_assoc, append-nil, refl, sym, ap}
 use Rattle.std.specs.List.{list_all}
 use Rattle.std.proofs.lemmas.Bool.{and_parts}
@@ -22,7 +23,7 @@ is_inside byte = not (byte == 10)
 no_feed : (c : ℕ) → 10 ≡ c → is_inside c ≡ true → ⊥
 no_feed c feed inside = grind (arith, nat_tests)
 
--- the first line and what is behind it are told by a text
+-- the first line and what is after it are told by a text
 one_line : (x y s t : List ℕ) → list_all is_inside x ≡ true → list_all is_inside y ≡ true → x ++ (10 ∷ s) ≡ y ++ (10 ∷ t) → (x ≡ y) × (s ≡ t)
 one_line [] [] s t hx hy e = (refl, cc)
 one_line [] (c ∷ y) s t hx hy e =
@@ -104,7 +105,7 @@ not_last row is same =
     let told : goes_on (bare last_row) ≡ true = ap goes_on same ∙ is.other in
     absurd cc
 
--- of two texts that are one the first rows are one, and so is what is behind them
+-- of two texts that are one the first rows are one, and so is what is after them
 one_row : (row other : Fields) → IsPlain row → IsPlain other → (rows others : List Fields) (s t : List ℕ)
     → lines_text (row ∷ rows) ++ s ≡ lines_text (other ∷ others) ++ t
     → (bare row ≡ bare other) × (lines_text rows ++ s ≡ lines_text others ++ t)
@@ -123,7 +124,7 @@ line_by_bare row other same =
 abbrev ended : List Fields → List Fields
 ended rows = rows ++ last_row ∷ []
 
--- a text tells the rows before its first last row, and what is behind that
+-- a text tells the rows before its first last row, and what is after that
 one_front : (rows others : List Fields) → AreAll IsBefore rows → AreAll IsBefore others → (s t : List ℕ)
     → lines_text (ended rows) ++ s ≡ lines_text (ended others) ++ t → (lines_text (ended rows) ≡ lines_text (ended others)) × (s ≡ t)
 unfolding lines_text
@@ -137,7 +138,7 @@ one_front (row ∷ rows) (other ∷ others) h k s t e =
       next.1,
     )
 
--- one text is of one exchange, and of one text behind it
+-- one text is of one exchange, and of one text after it
 pub dump_text-behind : (accounts others : PlainAccounts) (rest more : List ℕ) → HoldBytes accounts → HoldBytes others
     → dump_text accounts ++ rest ≡ dump_text others ++ more → (accounts ≡ others) × (rest ≡ more)
 unfolding lines_text

@@ -7,7 +7,7 @@ use Rattle.base64.specs.GeneralPurpose.{encode_of}
 use Rattle.base64.proofs.EngineFacts.{encode_of-append, encode_of-nil}
 use Rattle.dex_dump.specs.DumpText.{base64_text}
 
--- a piece is of so many bytes, three by three, or the last
+-- a piece is of this many bytes, three by three, or the last
 pub piece-first : (size thirds : ℕ) (bytes piece rest : List ℕ) → size ≡ 3 * thirds → bytes ≡ piece ++ rest → length piece ≡ min size (length bytes)
     → base64_text bytes ≡ base64_text piece ++ base64_text rest
 unfolding base64_text

@@ -1,4 +1,5 @@
--- The fields of a dump hold no comma, no quote and no byte outside 32 to 126, and are read back as what they were written from.
+-- The fields of a dump hold no comma, no quote and no byte outside 32 to 126, and are read back as what they were
+-- written from.
 use Rattle.std.proofs.Common.{◌≡◌, ◌<◌, ◌+◌, ◌-◌, ◌*◌, ◌/◌, ◌%◌, ◌∷◌, ◌++◌, ◌∙◌, ◌&&◌, ◌==◌, [], ℕ, zero, suc, List, Bool, not, true, false, Some, refl, inl, inr, sym, ap, length, replicate, slice_index, arith}
 use Rattle.std.specs.List.{list_all, list_any}
 use Rattle.std.proofs.lemmas.Bool.{and_parts, cases_Bool, eqb-true}
@@ -113,7 +114,7 @@ address_plain address is = elim (cases_Bool (is_labelled address.0)) [
       (all-implies is_lower_hexdigit is_plain digit_plain (encode_lower address.0) (digits_lower address.0 is.bytes)))
 ]
 
--- a label and the zeros behind it are the address
+-- a label and the zeros after it are the address
 label_whole : (address : Address) → IsAddress address → is_labelled address.0 ≡ true → label_address (front_of address.0) ≡ address
 label_whole address is label =
     let front = front_of address.0 in

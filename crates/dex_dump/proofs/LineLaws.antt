@@ -1,4 +1,5 @@
--- What is known of a line that a row states: it holds bytes, its addresses have 32 of them, and a market has no open-orders accounts so far.
+-- What is known of a line that a row states: it holds bytes, its addresses have 32 of them, and a market has no
+-- open-orders accounts so far.
 use Rattle.std.proofs.Common.{◌≡◌, ◌<◌, ◌≤◌, ◌+◌, ◌-◌, ◌∷◌, ◌++◌, ◌∙◌, ◌==◌, ◌&&◌, [], ℕ, zero, suc, List, Bool, true, false, cond, Option, Some, None, Result, Ok, Err, arith, refl, sym, subst, inl, inr, length, replicate, eqb, leb, codes}
 use Rattle.std.specs.List.{list_all}
 use Rattle.std.specs.Option.{option_map}
@@ -99,7 +100,7 @@ gives-found : {A B : Type 0} (P : B → Type 0) (found : Option A) (next : A →
 gives-found P None next each y h = absurd (none-some y h)
 gives-found P (Some x) next each y h = each x refl y h
 
--- where a row has so many fields
+-- where a row has this many fields
 gives-fields : {A : Type 0} (P : A → Type 0) (row : Fields) (count : ℕ) (x : Option A) → Gives P x → Gives P (cond (eqb (length row) count) x None)
 gives-fields P row count x h = gives-cond P (eqb (length row) count) x None h (gives-none P)
 

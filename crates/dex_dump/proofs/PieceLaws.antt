@@ -1,4 +1,4 @@
--- What is written behind a text in pieces.
+-- What is written after a text in pieces.
 use Rattle.std.proofs.Common.{◌≡◌, ◌++◌, ◌∙◌, ℕ, List, [], ◌∷◌, ap, append-nil, append_assoc, sym}
 use Rattle.std.proofs.lemmas.Grind.{flat_map-append}
 use Rattle.std.specs.List.{flat_map}
@@ -6,15 +6,15 @@ use Rattle.dex_dump.specs.Pieces.{piece_text, zeros_text}
 use Rattle.dex_dump.specs.declared.pieces.Piece.{Piece}
 use Rattle.dex_dump.specs.declared.pieces.Piece.TheVariants.{Zeros}
 
--- behind the last piece is behind the text
+-- after the last piece is after the text
 pub behind : (done last part all : List ℕ) → all ≡ last ++ part → done ++ all ≡ (done ++ last) ++ part
 behind done last part all is = ap (λ (t : List ℕ). done ++ t) is ∙ sym (append_assoc done last part)
 
--- a part more behind what a text became
+-- a part more after what a text became
 pub more : (text before all part : List ℕ) → all ≡ before ++ part → before ≡ text → all ≡ text ++ part
 more text before all part is was = is ∙ ap (λ (t : List ℕ). t ++ part) was
 
--- a piece of zeros behind pieces, where nothing stands behind them yet
+-- a piece of zeros after pieces, where nothing stands after them yet
 pub zeros-behind : (done all : List Piece) (last text : List ℕ) → all ≡ done ++ (Zeros ∷ []) → last ≡ [] → flat_map piece_text done ++ last ≡ text
     → flat_map piece_text all ++ last ≡ text ++ zeros_text
 zeros-behind done all last text is none was =

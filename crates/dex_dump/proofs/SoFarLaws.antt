@@ -161,7 +161,7 @@ apart-places (x ∷ xs) h = (
   apart-places xs (λ i j d before within. h (suc i) (suc j) d (omega arith) (omega arith)),
 )
 
--- the addresses of a market's own account, in whose list two mints stand behind the first
+-- the addresses of a market's own account, in whose list two mints stand after the first
 terms-places : (t : MarketTerms) → AreTerms t → (i j : ℕ) (d : Address) → i < j → j < 7
     → is_same (get_or (t.own_address ∷ parts_of t) j d) (get_or (t.own_address ∷ parts_of t) i d) ≡ false
 terms-places t are i zero d before within = absurd (omega arith)
@@ -442,7 +442,7 @@ ends-read number reading row rows dump so (AtEnd states is) =
 ends-read number reading row rows dump so (AtRow states is) = absurd cc
 ends-read number reading row rows dump so (AtAccount line states account fault fails is) = absurd cc
 
--- what rows give behind accounts that are accepted
+-- what rows give after accounts that are accepted
 rows-read : (number : ℕ) (reading : PlainReading) (rows : List Fields) (dump : PlainDump) → IsSoFar reading → Answers number reading rows (Ok dump)
     → AreRead dump.accounts
 rows-read number reading [] dump so h = absurd cc
@@ -471,7 +471,7 @@ start-so-far = record {
   taken = λ address. refl;
 }
 
--- what a dump is read as, whatever stands behind it
+-- what a dump is read as, whatever stands after it
 pub dump-read : (rows : List Fields) (dump : PlainDump) → AnswersDump rows (Ok dump) → AreRead dump.accounts
 dump-read [] dump h = absurd cc
 dump-read (row ∷ rows) dump (inl first) = rows-read 2 start rows dump start-so-far first.1
@@ -490,7 +490,7 @@ answer-read rows (Ok dump) accounts h is = subst AreRead (sym (ended accounts du
 pub text-read : (text : List ℕ) (accounts : PlainAccounts) → AnswersText text (Ok accounts) → AreRead accounts
 text-read text accounts h = answer-read (rows_of text) h.0 accounts h.1 h.2
 
--- what the rows behind the first are read as
+-- what the rows after the first are read as
 pub told-accepted : (result : Result DumpRead DumpError) (rows left : List Fields) → TellsAccounts result rows left
     → IfOk result (λ (read : DumpRead). AreAccepted (accounts_of read.accounts))
 told-accepted (Ok read) rows left told = (rows-read 2 start rows (plain_dump read left) start-so-far told).accepted

@@ -36,7 +36,7 @@ pub lines_more : {A B : Type 0} (row : B → Fields) (plain : A → B) (text bef
 lines_more row plain text before xs i x h here e =
     rw (e, map_more plain xs i x, ← here, map-append row, lines_text-append, lines_text-one) (append_assoc text _ _)
 
--- the same where an element has several rows, which stand behind those of others
+-- the same where an element has several rows, which stand after those of others
 pub rows-pushed : {A B : Type 0} (rows : B → List Fields) (plain : A → B) (text before : List ℕ) (xs : List A) (x : A)
     → before ≡ text ++ lines_text (flat_map rows (map plain xs))
     → before ++ lines_text (rows (plain x)) ≡ text ++ lines_text (flat_map rows (map plain (xs ++ x ∷ [])))
@@ -51,7 +51,7 @@ rows_more rows plain text before xs i x h here e =
     subst (λ (most : _). before ++ lines_text (rows (plain x)) ≡ text ++ lines_text (flat_map rows (map plain most)))
     (ap (λ (y : _). take i xs ++ y ∷ []) here ∙ sym (take_more xs i x h)) (rows-pushed rows plain text before (take i xs) x e)
 
--- what is written one behind the other
+-- what is written one after the other
 pub in-turn : (t a b c d e f : List ℕ) → (((((t ++ a) ++ b) ++ c) ++ d) ++ e) ++ f ≡ t ++ (a ++ (b ++ (c ++ (d ++ (e ++ f)))))
 in-turn t a b c d e f = append_assoc _ e f ∙ append_assoc _ d (e ++ f) ∙ append_assoc _ c _ ∙ append_assoc _ b _ ∙ append_assoc t a _
 

@@ -10,7 +10,7 @@ use Rattle.dex_dump_rows.specs.Lines.{Fields, PlainLine, is_first_row, line_of}
 use Rattle.dex_dump_rows.specs.Lines.PlainLine.{End}
 use Rattle.dex_dump.specs.Reading.{PlainReading, after_line, is_allowed, start}
 
--- what a dump's rows say: the accounts, how many rows they are, and the rows behind them
+-- what a dump's rows say: the accounts, how many rows they are, and the rows after them
 pub record PlainDump : Type 0 where
   pub accounts : PlainAccounts
   pub count : ℕ
@@ -20,7 +20,7 @@ pub record PlainDump : Type 0 where
 abbrev pub PlainAnswer : Type 0
 PlainAnswer = Result PlainDump DumpFault
 
--- the number of the row behind one; numbers from the largest u32 on are told as that
+-- the number of the row after one; numbers from the largest u32 on are reported as that
 abbrev pub next_number : ℕ → ℕ
 next_number number = min (number + 1) (2 ^ 32 - 1)
 
@@ -32,12 +32,12 @@ grammar_fault row = record { row = row; account = None; fault = record { kind = 
 abbrev pub fault_in : ℕ → Address → AccountFault → DumpFault
 fault_in row account fault = record { row = row; account = Some account; fault = fault }
 
--- what a row states, if a dump may have it behind what was read
+-- what a row states, if a dump may have it after what was read
 abbrev pub if_allowed : PlainReading → Option PlainLine → Option PlainLine
 if_allowed reading None = None
 if_allowed reading (Some line) = if is_allowed reading line then Some line else None
 
--- what this row states, if a dump may have it behind what was read
+-- what this row states, if a dump may have it after what was read
 abbrev pub stated : PlainReading → Fields → Option PlainLine
 stated reading row = if_allowed reading (line_of row)
 
@@ -58,25 +58,25 @@ pub data Ends (number : ℕ) (reading : PlainReading) (row : Fields) (behind : L
       → FirstFails (checks reading line) account fault → answer ≡ Err (fault_in number account fault)
       → Ends number reading row behind answer
 
--- what the rows from this number on answer, behind what was read
+-- what the rows from this number on answer, after what was read
 abbrev pub Answers : ℕ → PlainReading → List Fields → PlainAnswer → Type 0
 Answers number reading [] answer = answer ≡ Err (grammar_fault number)
 Answers number reading (row ∷ rows) answer =
     Ends number reading row rows answer
     ⊎ ((next : PlainReading) × Adds reading row next × Answers (next_number number) next rows answer)
 
--- what the rows of a dump answer, and what stands behind it
+-- what the rows of a dump answer, and what stands after it
 abbrev pub AnswersDump : List Fields → PlainAnswer → Type 0
 AnswersDump [] answer = answer ≡ Err (grammar_fault 1)
 AnswersDump (row ∷ rows) answer =
     ((is_first_row row ≡ true) × Answers 2 start rows answer) ⊎ ((is_first_row row ≡ false) × (answer ≡ Err (grammar_fault 1)))
 
--- the accounts, unless a row stands behind them
+-- the accounts, unless a row stands after them
 abbrev pub if_over : PlainDump → List Fields → Result PlainAccounts DumpFault
 if_over dump [] = Ok dump.accounts
 if_over dump (row ∷ rows) = Err (grammar_fault (next_number dump.count))
 
--- nothing stands behind a dump
+-- nothing stands after a dump
 abbrev pub with_end : PlainAnswer → Result PlainAccounts DumpFault
 with_end (Err fault) = Err fault
 with_end (Ok dump) = if_over dump dump.behind
@@ -89,7 +89,7 @@ AnswersText text answer = (dump : PlainAnswer) × AnswersDump (rows_of text) dum
 abbrev pub IsReadAs : List ℕ → PlainAccounts → Type 0
 IsReadAs text accounts = (answer : Result PlainAccounts DumpFault) → AnswersText text answer ↔ (answer ≡ Ok accounts)
 
--- rows of which the first are read as these accounts, and as nothing else, and the others stand behind them
+-- rows of which the first are read as these accounts, and as nothing else, and the others stand after them
 abbrev pub AreReadAs : List Fields → PlainAccounts → List Fields → Type 0
 AreReadAs rows accounts behind =
     (count : ℕ) × ((answer : PlainAnswer) → AnswersDump rows answer ↔ (answer ≡ Ok (record { accounts = accounts; count = count; behind = behind })))

@@ -41,7 +41,8 @@ lower None other = other
 lower (Some fault) None = Some fault
 lower (Some fault) (Some other) = if comes_before other fault then Some other else Some fault
 
--- the rules of an account by itself, and with them those that look at other accounts, which are read where it has its length
+-- the rules of an account by itself, and with them those that look at other accounts, which are read where it has its
+-- length
 abbrev pub with_others : List ℕ → ℕ → Option AccountFault → Option AccountFault → Option AccountFault
 with_others bytes size itself others = if length bytes == size then lower itself others else itself
 
@@ -75,7 +76,8 @@ parts_rule taken bytes =
     option_or (option_or (option_or (option_or (option_or (taken_rule taken bytes COIN_VAULT) (taken_rule taken bytes PC_VAULT))
     (taken_rule taken bytes REQ_Q)) (taken_rule taken bytes EVENT_Q)) (taken_rule taken bytes BIDS)) (taken_rule taken bytes ASKS)
 
--- what the market account has wrong with others: its own address, its mints, and what its vaults, queues and sides are called
+-- what the market account has wrong with others: its own address, its mints, and what its vaults, queues and sides are
+-- called
 unfoldable pub market_others : PlainReading → Address → List ℕ → Option AccountFault
 market_others reading address bytes =
     option_or (option_or (option_or (address_rule bytes OWN_ADDRESS address) (declared_rule reading.accounts bytes COIN_MINT))
@@ -135,7 +137,7 @@ side_rule side bytes = option_or (side_size_rule bytes) (option_or (text_rule by
 
 -- ---- the checks of a line
 
--- rules of which the first that is broken is told, or the rules of slabs, of which any that is broken is told
+-- rules of which the first that is broken is reported, or the rules of slabs, of which any that is broken is reported
 pub data Check : Type 0 where
   Rules : Option AccountFault → Check
   Slab : List ℕ → Check
@@ -173,7 +175,7 @@ abbrev pub part_checks : MarketTerms → PlainMarketAccounts → List AccountChe
 part_checks terms market =
     vault_checks terms market ++ (queue_checks terms market ++ (side_checks terms.bids Bid market.bids ++ side_checks terms.asks Ask market.asks))
 
--- the checks of what a row declares, in their order, behind what was read
+-- the checks of what a row declares, in their order, after what was read
 unfoldable pub checks : PlainReading → PlainLine → List AccountCheck
 checks reading (Mint mint) = by_rules mint.address (mint_fault mint.bytes) ∷ []
 checks reading (Wallet wallet) = by_rules wallet.address (wallet_rule reading.accounts wallet.bytes) ∷ []

@@ -66,7 +66,7 @@ account_rows accounts =
 abbrev pub dump_rows : PlainAccounts → List Fields
 dump_rows accounts = first_row ∷ (account_rows accounts ++ last_row ∷ [])
 
--- what stands behind a row's first field: a comma before each other field, and a line feed at the end
+-- what stands after a row's first field: a comma before each other field, and a line feed at the end
 unfoldable pub behind_first : Fields → List ℕ
 behind_first [] = 10 ∷ []
 behind_first (field ∷ fields) = 44 ∷ (field ++ behind_first fields)

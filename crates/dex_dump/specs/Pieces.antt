@@ -14,6 +14,6 @@ abbrev pub piece_text : Piece → List ℕ
 piece_text (Bytes bytes) = bytes.items
 piece_text Zeros = zeros_text
 
--- the pieces, one behind the other
+-- the pieces, one after the other
 abbrev pub text_in : Pieces → List ℕ
 text_in text = flat_map piece_text text.done.items ++ text.last.items

@@ -8,7 +8,8 @@ use Rattle.dex_state.specs.Addresses.{is_mint, market_addresses}
 use Rattle.dex_dump_rows.specs.Lines.{PlainLine}
 use Rattle.dex_dump_rows.specs.Lines.PlainLine.{Mint, Srm, Msrm, Wallet, Market, Orders, End}
 
--- the accounts so far, and every address that is taken: those that rows declare, and those of each market's vaults, queues and sides
+-- the accounts so far, and every address that is taken: those that rows declare, and those of each market's vaults,
+-- queues and sides
 pub record PlainReading : Type 0 where
   pub accounts : PlainAccounts
   pub taken : List Address
@@ -39,8 +40,8 @@ has_room address [] = false
 has_room address (market ∷ markets) =
     if is_same address market.address then nat_lt (length market.orders) 64 else has_room address markets
 
--- a row declares no address twice, names what earlier rows declare, and passes no limit: 16 mints, 256 wallets, 16 markets and
--- 64 open-orders accounts of a market
+-- a row declares no address twice, names what earlier rows declare, and passes no limit: 16 mints, 256 wallets, 16
+-- markets and 64 open-orders accounts of a market
 abbrev pub is_allowed : PlainReading → PlainLine → Bool
 is_allowed reading (Mint mint) = is_new reading mint.address (length reading.accounts.mints) 16
 is_allowed reading (Srm mint) = is_name reading.accounts mint reading.accounts.srm reading.accounts.msrm
@@ -79,7 +80,7 @@ taken_by (Market market) = market_addresses market
 taken_by (Orders market account) = account.address ∷ []
 taken_by _ = []
 
--- the reading behind a line
+-- the reading after a line
 abbrev pub after_line : PlainReading → PlainLine → PlainReading
 after_line reading line =
     record { accounts = with_line reading.accounts line; taken = reading.taken ++ taken_by line }

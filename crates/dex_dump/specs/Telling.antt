@@ -19,18 +19,18 @@ use Rattle.dex_dump.specs.Reading.{PlainReading, after_line, start}
 abbrev pub plain_reading : Reading → PlainReading
 plain_reading reading = record { accounts = accounts_of reading.accounts; taken = reading.taken.items }
 
--- all checks hold, or the first that fails is told
+-- all checks hold, or the first that fails is reported
 abbrev pub TellsChecks : Result (Unit {0}) Failed → List AccountCheck → Type 0
 TellsChecks (Ok _) checks = AllHold checks
 TellsChecks (Err failed) checks = FirstFails checks failed.account failed.fault
 
--- the checks of a line hold and it is added, or the first that fails is told. Want of memory tells nothing
+-- the checks of a line hold and it is added, or the first that fails is reported. A lack of memory tells nothing
 abbrev pub TakesLine : Result (Unit {0}) Stop → PlainReading → PlainReading → PlainLine → Type 0
 TakesLine (Ok _) old new line = AllHold (checks old line) × (new ≡ after_line old line)
 TakesLine (Err (stop.Failed failed)) old new line = FirstFails (checks old line) failed.account failed.fault
 TakesLine (Err stop.NoMemory) old new line = Unit {0}
 
--- a row is added, or it is the last, or it is the first faulty one. Want of memory tells nothing
+-- a row is added, or it is the last, or it is the first faulty one. A lack of memory tells nothing
 abbrev pub TellsRow : Result Bool DumpError → ℕ → PlainReading → PlainReading → Fields → Type 0
 TellsRow (Ok true) number old new row = (stated old row ≡ Some End) × (new ≡ old)
 TellsRow (Ok false) number old new row = Adds old row new
@@ -41,19 +41,19 @@ TellsRow (Err dump.NoMemory) number old new row = Unit {0}
 abbrev pub plain_dump : DumpRead → List Fields → PlainDump
 plain_dump read left = record { accounts = accounts_of read.accounts; count = read.count; behind = left }
 
--- the answer to the rows behind the first is the definition's; want of memory tells nothing
+-- the answer to the rows after the first is the definition's; a lack of memory tells nothing
 abbrev pub TellsAccounts : Result DumpRead DumpError → List Fields → List Fields → Type 0
 TellsAccounts (Ok read) rows left = Answers 2 start rows (Ok (plain_dump read left))
 TellsAccounts (Err (dump.Refused fault)) rows left = Answers 2 start rows (Err fault)
 TellsAccounts (Err dump.NoMemory) rows left = Unit {0}
 
--- the answer to the rows of a dump is the definition's; want of memory tells nothing
+-- the answer to the rows of a dump is the definition's; a lack of memory tells nothing
 abbrev pub TellsDump : Result DumpRead DumpError → List Fields → List Fields → Type 0
 TellsDump (Ok read) rows left = AnswersDump rows (Ok (plain_dump read left))
 TellsDump (Err (dump.Refused fault)) rows left = AnswersDump rows (Err fault)
 TellsDump (Err dump.NoMemory) rows left = Unit {0}
 
--- the answer to a text is the definition's; want of memory tells nothing
+-- the answer to a text is the definition's; a lack of memory tells nothing
 abbrev pub TellsText : Result Accounts DumpError → List ℕ → Type 0
 TellsText (Ok accounts) text = AnswersText text (Ok (accounts_of accounts))
 TellsText (Err (dump.Refused fault)) text = AnswersText text (Err fault)

@@ -38,7 +38,7 @@ pub struct Failed {
     pub fault: AccountFault,
 }
 
-/// The rules of an account, of which the first that is broken is told.
+/// The rules of an account, of which the first that is broken is reported.
 pub fn by_rules(account: Address, fault: Option<AccountFault>) -> Result<(), Failed>
     ensures { TellsChecks result (by_rules account fault ∷ []) }
 {
@@ -246,7 +246,7 @@ fn vault_others(mint: Address, bytes: &[u8]) -> Option<AccountFault>
     Some(token_fault(d.place, d.found, d.wanted))
 }
 
-/// Kind 10: a byte of a token account. A place above the largest u32 is told as that.
+/// Kind 10: a byte of a token account. A place above the largest u32 is reported as that.
 fn token_fault(place: usize, found: u8, wanted: u8) -> AccountFault
     requires { place < 2 ^ 32 }
     ensures { result ≡ token_faults.token_fault place found wanted }
@@ -282,7 +282,7 @@ fn orders_others(market: Address, bytes: &[u8]) -> Option<AccountFault>
     }
 }
 
-/// Whether all bytes are zero. It looks at each, also behind one that is not: so many can be looked at together.
+/// Whether all bytes are zero. It looks at each, also after one that is not: so many can be looked at together.
 pub(crate) fn is_blank(bytes: &[u8]) -> bool
     ensures { result ≡ orders_faults.are_zeros bytes.now }
 {

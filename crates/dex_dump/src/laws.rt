@@ -9,7 +9,7 @@ ghost use Rattle.dex_dump.specs.Answers.{AnswersDump, AnswersText, AreReadAs, Is
 ghost use Rattle.dex_dump.specs.DumpText.{dump_rows, dump_text};
 
 /// One text is the dump of one exchange: accounts of bytes at addresses of 32 bytes that are written as one text are
-/// the same accounts, and where something stands behind two dumps, that is the same too.
+/// the same accounts, and where something stands after two dumps, that is the same too.
 pub fn one_text_is_of_one_exchange()
     ensures alone { (accounts others : PlainAccounts) → HoldBytes accounts → HoldBytes others
         → dump_text accounts ≡ dump_text others → accounts ≡ others }
@@ -18,7 +18,7 @@ pub fn one_text_is_of_one_exchange()
         → dump_text accounts ++ rest ≡ dump_text others ++ more → (accounts ≡ others) × (rest ≡ more) }
 {}
 
-/// What is read is accepted, and holds bytes: the accounts of a text that is a dump, and those of a dump behind which
+/// What is read is accepted, and holds bytes: the accounts of a text that is a dump, and those of a dump after which
 /// something stands.
 pub fn what_is_read_is_accepted()
     ensures alone { (text : List ℕ) (accounts : PlainAccounts) → AnswersText text (Ok accounts)
@@ -27,7 +27,7 @@ pub fn what_is_read_is_accepted()
         → AreAccepted dump.accounts × HoldBytes dump.accounts }
 {}
 
-/// What is written of accepted accounts is read back as them, and as nothing else, also where rows stand behind it.
+/// What is written of accepted accounts is read back as them, and as nothing else, also where rows stand after it.
 pub fn what_is_written_is_read_back()
     ensures alone { (accounts : PlainAccounts) → AreAccepted accounts → HoldBytes accounts
         → IsReadAs (dump_text accounts) accounts }

@@ -19,7 +19,7 @@ pub enum Piece {
     Zeros,
 }
 
-/// A text in pieces that follow each other. What is written next goes behind the last.
+/// A text in pieces that follow each other. What is written next goes after the last.
 #[derive(Drop)]
 pub struct Pieces {
     pub(crate) alloc: Global,
@@ -28,7 +28,7 @@ pub struct Pieces {
 }
 
 impl Pieces {
-    /// An empty text, with room for so many bytes.
+    /// An empty text, with room for this many bytes.
     pub fn with_capacity(alloc: Global, room: usize) -> Result<Pieces, AllocError>
         ensures { IfOk result (λ text. text_in text ≡ []) }
     {
@@ -52,7 +52,7 @@ impl Pieces {
         Ok(())
     }
 
-    /// A piece of zeros behind the last.
+    /// A piece of zeros after the last.
     pub(crate) fn push_zeros(&mut self) -> Result<(), AllocError>
         ensures { OnOk result (text_in self.new ≡ text_in self.old ++ zeros_text) }
     {

@@ -37,8 +37,8 @@ pub fn read_dump(alloc: Global, bytes: &[u8]) -> Result<Accounts, DumpError>
     Ok(dump.accounts)
 }
 
-/// The accounts of a dump that the next rows of a text are, up to the row `enddump`, or its first faulty row. What stands
-/// behind it is not looked at.
+/// The accounts of a dump that the next rows of a text are, up to the row `enddump`, or its first faulty row. What
+/// stands behind it is not looked at.
 pub fn read_rows(alloc: Global, rows: &mut Rows<'_>) -> Result<DumpRead, DumpError>
     ensures answer { TellsDump result rows.old rows.new }
     ensures accepted { IfOk result (λ read. AreAccepted (accounts_of read.accounts)) }
@@ -51,7 +51,7 @@ pub fn read_rows(alloc: Global, rows: &mut Rows<'_>) -> Result<DumpRead, DumpErr
     read_accounts(alloc, rows)
 }
 
-// The accounts of the rows behind the first.
+// The accounts of the rows after the first.
 fn read_accounts(alloc: Global, rows: &mut Rows<'_>) -> Result<DumpRead, DumpError>
     ensures { TellsAccounts result rows.old rows.new }
 {
@@ -100,7 +100,7 @@ fn read_row(
     }
 }
 
-// The number of the row behind one. No dump has so many rows that it is not told.
+// The number of the row after one. No dump has so many rows that this is reached.
 fn next_number(number: u32) -> u32
     ensures { result ≡ spec.next_number number }
 {

@@ -94,8 +94,8 @@ impl Reading {
         }
     }
 
-    /// Whether a row may state this behind what was read: it declares no address twice, names what earlier rows
-    /// declare, and passes no limit.
+    /// Whether a row may state this after what was read: it declares no address twice, names what earlier rows declare,
+    /// and passes no limit.
     pub fn is_allowed(&self, line: &Line) -> bool
         ensures { result ≡ spec.is_allowed (plain_reading self.now) (plain_line line.now) }
     {

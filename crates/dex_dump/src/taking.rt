@@ -1,5 +1,5 @@
-//! Writing a dump of accounts that are given up: a market is let go when its rows are written, so that the bytes of all markets and
-//! their texts are not there together. A text in pieces goes on where they stood.
+//! Writing a dump of accounts that are given up: a market is let go when its rows are written, so that the bytes of all
+//! markets and their texts are not there together. A text in pieces goes on where they stood.
 
 ghost use Rattle.std.specs.Prelude.{◌≡◌, ◌≤◌, ◌∷◌, ◌++◌, IfOk, OnOk, length, map};
 ghost use Rattle.std.specs.List.{All, flat_map};
@@ -20,7 +20,8 @@ use crate::writing::{
 use dex_types::{Accounts, MarketAccounts, NoMemory};
 use std::alloc::{AllocError, Global};
 
-/// An account of so many bytes or more is written block by block. A text goes on where it stood, if its last piece has come to as many.
+/// An account of this many bytes or more is written block by block. A text goes on where it stood, if its last piece
+/// has come to as many.
 const LARGE: usize = 1_048_576;
 
 /// The dump of all accounts, as `write_dump` has it.
@@ -36,7 +37,7 @@ pub fn into_dump(alloc: Global, accounts: Accounts) -> Result<Vec<u8>, NoMemory>
     }
 }
 
-/// Writes the dump of all accounts behind a text, as `append_dump` does.
+/// Writes the dump of all accounts after a text, as `append_dump` does.
 pub fn append_taken(text: &mut Vec<u8>, accounts: Accounts) -> Result<(), AllocError>
     ensures text { OnOk result (text.new.items ≡ text.old.items ++ dump_text (accounts_of accounts)) }
     ensures held { OnOk result (HoldBytes (accounts_of accounts)) }
@@ -80,8 +81,8 @@ fn take_each_market(text: &mut Pieces, markets: Vec<MarketAccounts>) -> Result<(
     Ok(())
 }
 
-/// The rows of a market, as `write_market_rows` has them. A large account is let go, or, where its text is large too, given up for the
-/// text behind it: memory that is in use already need not be taken anew.
+/// The rows of a market, as `write_market_rows` has them. A large account is let go, or, where its text is large too,
+/// given up for the text behind it: memory that is in use already need not be taken again.
 pub fn take_market_rows(text: &mut Pieces, market: MarketAccounts) -> Result<(), AllocError>
     ensures text { OnOk result (text_in text.new
         ≡ text_in text.old ++ lines_text (market_rows (market_accounts_of market))) }

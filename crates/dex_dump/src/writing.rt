@@ -19,9 +19,9 @@ use std::alloc::{AllocError, Global};
 
 /// The dump of all accounts: a row for each, in declared order, between the rows `dump` and `enddump`.
 ///
-/// A mint, a wallet or an open-orders account is one field of base64, with the standard alphabet and padding; the row of
-/// a market has one for each of its seven accounts, and its open-orders accounts have rows behind it. The rows `srm` and
-/// `msrm` stand behind the mints, where such a mint is named. Accepted accounts are read back from it.
+/// A mint, a wallet or an open-orders account is one field of base64, with the standard alphabet and padding; the row
+/// of a market has one for each of its seven accounts, and its open-orders accounts have rows behind it. The rows `srm`
+/// and `msrm` stand behind the mints, where such a mint is named. Accepted accounts are read back from it.
 pub fn write_dump(alloc: Global, accounts: &Accounts) -> Result<Vec<u8>, NoMemory>
     ensures text { IfOk result (λ text. text.items ≡ dump_text (accounts_of accounts.now)) }
     ensures read_back { IfOk result (λ text.
@@ -34,8 +34,8 @@ pub fn write_dump(alloc: Global, accounts: &Accounts) -> Result<Vec<u8>, NoMemor
     }
 }
 
-/// Room in bytes for nearly every dump of accounts, so that its text need not grow: four characters for three bytes, and the words
-/// around them. No clause says how much that is.
+/// Room in bytes for nearly every dump of accounts, so that its text need not grow: four characters for three bytes,
+/// and the words around them. No clause says how much that is.
 pub fn room_of_dump(accounts: &Accounts) -> usize {
     let few = accounts.mints.len().saturating_add(accounts.wallets.len());
     let mut room = few.saturating_mul(320).saturating_add(1024);
@@ -45,7 +45,7 @@ pub fn room_of_dump(accounts: &Accounts) -> usize {
     room
 }
 
-/// The same for the rows of a market.
+/// Like `room_of_dump`, for the rows of a market.
 pub fn room_of_market(market: &MarketAccounts) -> usize {
     let mut bytes: usize = 1024;
     'sides: for buffer in [&market.requests, &market.events, &market.bids, &market.asks] {
@@ -59,7 +59,7 @@ pub fn room_of_market(market: &MarketAccounts) -> usize {
     bytes.saturating_add(bytes / 3)
 }
 
-/// Writes the dump of all accounts behind a text. Where memory is wanting, a part of it may have been written. What was
+/// Writes the dump of all accounts after a text. Where memory is wanting, a part of it may have been written. What was
 /// written are bytes, at addresses of 32 of them, as all buffers and addresses hold.
 pub fn append_dump(text: &mut Vec<u8>, accounts: &Accounts) -> Result<(), AllocError>
     ensures text { OnOk result (text.new.items ≡ text.old.items ++ dump_text (accounts_of accounts.now)) }
@@ -257,8 +257,8 @@ pub(crate) fn write_base64(text: &mut Vec<u8>, bytes: &[u8]) -> Result<(), Alloc
     Ok(())
 }
 
-/// Bytes in base64: what they give stands in this array first. A whole piece of zeros, as most of a market's accounts are at
-/// first, gives `A` alone.
+/// Bytes in base64: what they give stands in this array first. A whole piece of zeros, as most of a market's accounts
+/// are at first, gives `A` alone.
 #[tactic(auto, unfolding(crate::specs::DumpText::base64_text))]
 fn write_piece(text: &mut Vec<u8>, symbols: &mut [u8; 1024], piece: &[u8]) -> Result<(), AllocError>
     requires { length piece.now ≤ 768 }

@@ -26,7 +26,7 @@ abbrev pub ◌>>=◌ : {A B : Type 0} → Option A → (A → Option B) → Opti
 (Some x) >>= next = next x
 None >>= next = None
 
--- goes on where the row has so many fields
+-- goes on where the row has this many fields
 abbrev pub with_fields : {A : Type 0} → Fields → ℕ → Option A → Option A
 with_fields row count next = if length row == count then next else None
 

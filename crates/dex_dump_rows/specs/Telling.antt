@@ -18,7 +18,7 @@ plain_line (row.Market market) = Market (market_accounts_of market)
 plain_line (row.Orders market account) = Orders market (orders_account_of account)
 plain_line row.End = End
 
--- The answer is what is meant, as a view shows it, or that the row has no such form. Want of memory tells nothing.
+-- The answer is what is meant, as a view shows it, or that the row has no such form. A lack of memory tells nothing.
 abbrev pub TellsAs : {A B : Type 0} → (A → B) → Result A LineError → Option B → Type 0
 TellsAs view (Ok x) meant = meant ≡ Some (view x)
 TellsAs view (Err Grammar) meant = meant ≡ None

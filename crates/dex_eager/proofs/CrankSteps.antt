@@ -102,7 +102,7 @@ pay_all-free token a (event ∷ events) traders opened =
     (λ e open_. pay_owner-open event traders here e.owner open_) events (All-tail (λ (e : QueuedEvent). IsOpen e.owner traders) event events opened) in
     omega (arith, pay_all-free token a events (pay_owner event traders) still, pay_owner-free token a event traders here)
 
--- a crank of so many events changes nothing of the eager market
+-- a crank of this many events changes nothing of the eager market
 pub consumed-still : (m : Market) (ledger : Ledger) (named : List Address) (count : ℕ) → IsSound m → KeepsMarket m (consumed count m)
     → IsPaidAs m ledger named (consumed count m) (unchanged (eager_at m ledger))
 consumed-still m ledger named count sound keeps =

@@ -62,7 +62,8 @@ eager_takings : traded.market.takings ≡ 4
 unfolding taken demand_after price_of sequence_of id_of taker_rate maker_rate
 eager_takings = refl
 
--- a longer history, in whose end all kinds of events wait: bids with a discount are filled, asks too, an own order is taken, one is cancelled
+-- a longer history, in whose end all kinds of events wait: bids with a discount are filled, asks too, an own order is
+-- taken, one is cancelled
 abbrev discounted : Seen
 discounted = record (sees None (ann_usd 50000)) { discount = wallet (codes "ann_msrm") (label (codes "msrm")) ann 1; msrm = Some (label (codes "msrm")) }
 

@@ -43,7 +43,7 @@ use Rattle.dex_eager.proofs.StepMoves.{Moves, worths-moved, takings-moved, eager
 use Rattle.dex_eager.proofs.TakeSteps.{worth_after_fills, paid-makers, orders_on-slots, not-large}
 use Rattle.dex_eager.proofs.WorthLists.{worths_by, worths-agree, plus-again, net-agree, changed, with_change-by, own_gained, own_leaving}
 
--- the events of a new order behind those of its meeting
+-- the events of a new order after those of its meeting
 abbrev own_events : Side → Lots → NewOrder → Ordering → List QueuedEvent
 own_events side sizes n o = taker_events side sizes n o.met o.order ++ last_events side sizes o.order o.posting.booted
 

@@ -36,8 +36,8 @@ eager-same e other sizes bid_capacity ask_capacity bids asks sequence worths tak
     ∙ ap (λ w. made other.sizes other.bid_capacity other.ask_capacity other.bids other.asks other.next_sequence w e.takings) worths
     ∙ ap (made other.sizes other.bid_capacity other.ask_capacity other.bids other.asks other.next_sequence other.worths) takings
 
--- of each account and token, what a step moves: what it has the market hold, what it deposits and pays out, and what fills bring and
--- take; and of the market what it takes
+-- of each account and token, what a step moves: what it has the market hold, what it deposits and pays out, and what
+-- fills bring and take; and of the market what it takes
 pub record Moves (m : Market) (named : List Address) (s : Step) (gains pays : Token → Address → ℕ) (taken : ℕ) : Type 0 where
   pub keeps : KeepsMarket m s
   pub held : (token : Token) (a : Address)
@@ -87,7 +87,7 @@ paid-still m ledger named s moves bids asks sequence fills = record {
   fills = fills;
 }
 
--- the events that stand behind those that stood are those that were appended
+-- the events that stand after those that stood are those that were appended
 pub appended-is : (events more : List QueuedEvent) → drop (length events) (events ++ more) ≡ more
 appended-is events more = drop-append_seam events more
 

@@ -2,7 +2,8 @@
 use Rattle.std.proofs.Common.{ℕ, ℤ, pos, ◌+◌, ◌≡◌, ◌+ℤ◌, ◌-ℤ◌, arith}
 use Rattle.std.proofs.lemmas.Int.{ints}
 
--- an account's worth changes by what it gained less what it paid, where what is held for it and what was settled out to it did
+-- an account's worth changes by what it gained less what it paid, where what is held for it and what was settled out to
+-- it did
 pub worth-changes : (held deposited settled after deposit payout gains pays : ℕ) → after + payout + pays ≡ held + deposit + gains
     → (pos after -ℤ pos (deposited + deposit)) +ℤ pos (settled + payout)
     ≡ ((pos held -ℤ pos deposited) +ℤ pos settled) +ℤ (pos gains -ℤ pos pays)

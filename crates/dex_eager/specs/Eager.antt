@@ -31,8 +31,8 @@ use Rattle.dex_eager.specs.Worth.{Worth, Ledger, net, plus, worth_of, takings_of
 abbrev pub Worths : Type 0
 Worths = List (Address × Worth)
 
--- a market that pays at once: its lot sizes, the two sides in book order with how many orders each can hold, the next sequence number,
--- the worth of each account, and what the market has taken of quote
+-- a market that pays at once: its lot sizes, the two sides in book order with how many orders each can hold, the next
+-- sequence number, the worth of each account, and what the market has taken of quote
 pub record Eager : Type 0 where
   pub sizes : Lots
   pub bid_capacity : ℕ
@@ -83,8 +83,8 @@ abbrev pub with_change : Address → Worth → Worths → Worths
 with_change owner change worths =
     map (λ (entry : Address × Worth). (entry.0, if is_same entry.0 owner then plus entry.1 change else entry.1)) worths
 
--- the accounts after these fills, one after the other: a resting ask gave base and got quote and the rebate, a bid gave quote less the
--- rebate and got base
+-- the accounts after these fills, one after the other: a resting ask gave base and got quote and the rebate, a bid gave
+-- quote less the rebate and got base
 abbrev pub with_fills : List QueuedEvent → Worths → Worths
 with_fills [] worths = worths
 with_fills (fill ∷ fills) worths =
@@ -120,7 +120,8 @@ order_meeting side n e = meet side (terms_of e.sizes n) (demand_of side e.sizes 
 abbrev pub order_posting : Side → NewOrder → Meeting → Eager → Posting
 order_posting side n met e = post side (room_on side e) (resting side e.next_sequence 0 n (rested side e.sizes n met)) (orders_on side e)
 
--- the market after a new order: what it met, what rests, the next sequence number, and the worth that its fills brought and took
+-- the market after a new order: what it met, what rests, the next sequence number, and the worth that its fills brought
+-- and took
 abbrev pub after_new_order : Side → NewOrder → Meeting → Eager → Eager
 after_new_order side n met e =
     let m : Eager = after_meeting side met (fee_of n met) e in

@@ -56,7 +56,8 @@ pub record Fill : Type 0 where
 abbrev pub fills_by : Call → List QueuedEvent → List Fill
 fills_by call events = map (λ event. record { row = (acted_of call).number; event = event }) events
 
--- the events that stand in a market behind those that stood in an earlier one; a row appends events, or takes some from the front
+-- the events that stand in a market after those that stood in an earlier one; a row appends events, or takes some from
+-- the front
 abbrev pub appended : Market → Market → List QueuedEvent
 appended m after = drop (length m.events) after.events
 
@@ -93,7 +94,8 @@ trade_of call = record { asked = acted_of call; tier = tier_seen call.seen; prog
 abbrev pub trades : List Call → List Trade
 trades calls = map trade_of (counted calls)
 
--- what a trade does goes by: its row's request (instruction, signer, accounts and time, but no lane, number or wallet), the tier and the program
+-- what a trade does goes by: its row's request (instruction, signer, accounts and time, but no lane, number or wallet),
+-- the tier and the program
 pub record Deal : Type 0 where
   pub request : Request
   pub tier : Tier
@@ -107,7 +109,8 @@ deal_of call = record { request = (acted_of call).request; tier = tier_seen call
 abbrev pub deals : List Call → List Deal
 deals calls = map deal_of (counted calls)
 
--- the step of a row (`named`: the accounts that it names) leaves the eager market that the eager step leaves, and appends the fills of that
+-- the step of a row (`named`: the accounts that it names) leaves the eager market that the eager step leaves, and
+-- appends the fills of that
 pub record IsPaidAs (m : Market) (ledger : Ledger) (named : List Address) (s : Step) (paid : EagerStep) : Type 0 where
   pub market : eager_at s.market (with_step named s ledger) ≡ paid.market
   pub fills : maker_fills (appended m s.market) ≡ paid.fills

@@ -1,4 +1,5 @@
--- What a trader's account is worth at a place of a market's history, and what the market has taken for itself and for referrers.
+-- What a trader's account is worth at a place of a market's history, and what the market has taken for itself and for
+-- referrers.
 use Rattle.std.specs.Prelude.{ℕ, ℤ, pos, ◌+◌, ◌+ℤ◌, ◌-ℤ◌, List, [], ◌∷◌, Option, Some, None, Bool, false, if◌then◌else◌}
 use Rattle.dex_types.specs.declared.addresses.Address.{Address}
 use Rattle.dex_types.specs.declared.replies.Reply.{Reply}
@@ -27,8 +28,9 @@ plus worth more = record { coin = worth.coin +ℤ more.coin; pc = worth.pc +ℤ 
 abbrev pub net : (Token → ℕ) → (Token → ℕ) → Worth
 net gains pays = record { coin = pos (gains Coin) -ℤ pos (pays Coin); pc = pos (gains Pc) -ℤ pos (pays Pc) }
 
--- what moved between wallets and the market so far, in native amounts: of each token what an account's new orders took from wallets, and
--- what settling it paid out to it; and the quote that sweeping paid out, and that went to referrers' wallets
+-- what moved between wallets and the market so far, in native amounts: of each token what an account's new orders took
+-- from wallets, and what settling it paid out to it; and the quote that sweeping paid out, and that went to referrers'
+-- wallets
 pub record Ledger : Type 0 where
   pub deposited : Token → Address → ℕ
   pub settled : Token → Address → ℕ
@@ -44,7 +46,8 @@ abbrev pub is_first : Address → List Address → Bool
 is_first owner [] = false
 is_first owner (first ∷ others) = is_same owner first
 
--- what a row with this answer took from a wallet for its account: the deposit of a new order. What a take pays is for no account
+-- what a row with this answer took from a wallet for its account: the deposit of a new order. What a take pays is for
+-- no account
 abbrev pub deposit_in : Token → Reply → Transfers → ℕ
 deposit_in token (Ordered slot id lots pc fee rested) t = by_token token t.coin_in t.pc_in
 deposit_in token reply t = 0
@@ -86,7 +89,8 @@ free_in token (Some trader) = free_of token trader
 abbrev pub own_owed : Token → Address → List QueuedEvent → ℕ
 own_owed token owner events = total (weighed_where (is_event_of owner) (owed token)) events
 
--- what the market holds of a token for an account: what is free, what its resting orders lock, and what pending events owe it
+-- what the market holds of a token for an account: what is free, what its resting orders lock, and what pending events
+-- owe it
 abbrev pub held_for : Token → Address → Market → ℕ
 held_for token owner m = free_in token (trader_at owner m.traders) + own_locked token owner m + own_owed token owner m.events
 

@@ -14,8 +14,8 @@ ghost use Rattle.dex_eager.specs.Slots.{without_slots};
 ghost use Rattle.dex_eager.specs.Worth.{Ledger, free_in, worth_in, worth_of, takings_of};
 
 /// However late cranks come, at each place of a history from a sound market the sides are, but for slots, those of the
-/// market that pays at once, and so are the next sequence number, the fills of resting orders, what the market has taken,
-/// and the worth of each account.
+/// market that pays at once, and so are the next sequence number, the fills of resting orders, what the market has
+/// taken, and the worth of each account.
 pub fn a_history_trades_as_one_that_pays_at_once()
     ensures places { (m : Market) (calls : List Call) (count : ℕ) → IsSound m → IsLegal m calls →
         let front = take count calls in eager_end m front ≡ eager_at (market_after m front) (moves_of m front) }

@@ -49,7 +49,7 @@ slice-behind (x ∷ xs) (suc place) le = slice-behind xs place (omega arith)
 abbrev pub no_resting : Resting
 no_resting = record { side = Bid; order = no_order }
 
--- a list without what stands behind it is the list
+-- a list without what stands after it is the list
 pub whole : {X : Type 0} (xs : List X) (place : ℕ) → length xs ≤ place → take place xs ++ drop (place + 1) xs ≡ xs
 whole xs place le = ap (λ rest. take place xs ++ rest) (drop_all (place + 1) xs (omega arith)) ∙ append-nil (take place xs) ∙ take_all place xs le
 

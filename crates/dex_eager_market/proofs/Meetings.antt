@@ -73,7 +73,7 @@ met_pc-le t order lots =
 takes-lots : (side : Side) (t : TakerTerms) (w : Demand) (order : Order) (lots : ℕ) → lots ≡ taken side t w order → 0 < lots → Takes side t w order lots
 takes-lots side t w order lots is some = subst (Takes side t w order) (sym is) (Takes-taken side t w order (omega (arith, is, some)))
 
--- what one order that is met moves fits, and what is wanted behind it does too
+-- what one order that is met moves fits, and what is wanted after it does too
 pub record FitsOrder (side : Side) (t : TakerTerms) (w : Demand) (order : Order) (lots : ℕ) : Type 0 where
   pub base : met_lots t order lots * t.sizes.coin < 2 ^ 64
   pub pc : met_pc t order lots < 2 ^ 64

@@ -26,8 +26,8 @@ abbrev pub quote_too_large : Side → ℕ → Bool
 quote_too_large Bid pc = false
 quote_too_large Ask pc = nat_le (2 ^ 64) pc
 
--- what a taker of so much base and quote gets and pays: a bid gets base and pays quote and the fee, an ask pays base and gets quote less
--- the fee
+-- what a taker of so much base and quote gets and pays: a bid gets base and pays quote and the fee, an ask pays base
+-- and gets quote less the fee
 abbrev pub taker_change : Side → ℕ → ℕ → ℕ → Change
 taker_change Bid base pc fee = record {
   gained = record { coin = base; pc = 0 };

@@ -52,7 +52,7 @@ pub fn post(side: Side, room: u32, order: Order, orders: &mut Vec<Order>)
     orders.insert(place, order).unwrap();
 }
 
-/// The place of the first order of an id, or behind all where none has it.
+/// The place of the first order of an id, or after all where none has it.
 fn place_with(orders: &[Order], id: u128) -> usize
     ensures found { cancel.order_with id orders.now ≡ slice_get orders.now result }
     ensures without { cancel.without_order id orders.now ≡ take result orders.now ++ drop (result + 1) orders.now }

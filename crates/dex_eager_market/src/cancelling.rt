@@ -23,7 +23,7 @@ fn take_off(state: &mut State, gone: Resting)
     }
 }
 
-/// The same of an order that may be there.
+/// Like `take_off`, of an order that may be there.
 fn take_found(state: &mut State, found: Option<Resting>)
     ensures off { eager_of state.new
         ≡ eager.without_all (cancel.at_most_one (resting_there found)) (eager_of state.old) }
@@ -98,7 +98,7 @@ pub fn cancel_client(state: &mut State, owner: Address, client: u64)
     take_found(state, found);
 }
 
-/// Cancels the account's first orders, at most so many.
+/// Cancels the account's first orders, at most this many.
 pub fn cancel_first(state: &mut State, owner: Address, limit: u16)
     requires { CanList state.old }
     ensures does { eager_of state.new ≡ (eager.eager_cancel (cancel.First limit) (eager_of state.old) owner).market }

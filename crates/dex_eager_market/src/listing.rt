@@ -141,7 +141,7 @@ fn is_same_order(first: Resting, other: Resting) -> bool
     is_same_side(first.side, other.side) && first.order.id == other.order.id
 }
 
-/// The place of an order in the list, or behind all where it is not there.
+/// The place of an order in the list, or after all where it is not there.
 fn place_in(list: &[Resting], gone: Resting) -> usize
     ensures { cancel.without_taken (Some (resting_of gone)) (map resting_of list.now)
         ≡ map resting_of (take result list.now ++ drop (result + 1) list.now) }

@@ -26,7 +26,7 @@ use dex_worth::amounts::{Amounts, NONE};
 use dex_worth::holdings::held_of;
 use std::alloc::Global;
 
-/// Puts an item behind the others.
+/// Puts an item after the others.
 fn push<T: Copy>(list: &mut Vec<T>, item: T) -> Result<(), NoMemory>
     ensures items { OnOk result (list.new.items ≡ list.old.items ++ item ∷ []) }
     ensures capacity { OnOk result (vec_capacity list.old ≤ vec_capacity list.new) }
@@ -37,7 +37,7 @@ fn push<T: Copy>(list: &mut Vec<T>, item: T) -> Result<(), NoMemory>
     }
 }
 
-/// A side with these orders, all in slot 0, and room for so many, all reserved here.
+/// A side with these orders, all in slot 0, and room for this many, all reserved here.
 fn book_of(alloc: Global, room: u32, orders: &[Order]) -> Result<Book, NoMemory>
     ensures room { IfOk result (λ book. book.room ≡ room) }
     ensures reserved { IfOk result (λ book. room ≤ vec_capacity book.orders) }
@@ -133,7 +133,7 @@ fn room_of(bytes: &[u8], side: Side) -> u32
     SlabRef { bytes, side }.capacity()
 }
 
-/// A list with room for so many resting orders of each side, all reserved here.
+/// A list with room for this many resting orders of each side, all reserved here.
 fn list_with(alloc: Global, bids: u32, asks: u32) -> Result<Vec<Resting>, NoMemory>
     ensures { IfOk result (λ list. bids + asks ≤ vec_capacity list) }
 {

@@ -76,7 +76,7 @@ fn worth_in(accounts: &[Account], owner: Address) -> Option<Worth>
 
 impl EagerMarket {
     /// A market that begins to pay at once, of the accounts of a sound market. Both sides are reserved here; it answers
-    /// otherwise for want of memory alone.
+    /// otherwise for lack of memory alone.
     pub fn new(alloc: Global, accounts: &MarketAccounts) -> Result<EagerMarket, NoMemory>
         requires accepted { IsAccepted (market_accounts_of accounts.now) }
         requires sound { AreSound (market_accounts_of accounts.now) }

@@ -11,8 +11,9 @@ use dex_worth::{Worth, WorthRow, worth_table};
 use std::alloc::Global;
 use std::test::Fail;
 
-/// Two traders and a person without an account: asks and bids that fill and rest, a post-only order, an order that takes its
-/// own trader's away, takes on both sides, a crank that comes late, a refused row, a settlement, and cancels of each kind.
+/// Two traders and a person without an account: asks and bids that fill and rest, a post-only order, an order that
+/// takes its own trader's away, takes on both sides, a crank that comes late, a refused row, a settlement, and cancels
+/// of each kind.
 const SCRIPT: &[u8] = b"mint,coin,6
 mint,usd,6
 wallet,ann_coin,coin,ann,10000

@@ -49,7 +49,7 @@ same_bytes bytes others hb ho same_length same_number =
     ∙ ap (bytes_of_number (length others)) same_number
     ∙ bytes_of_number-number_of_bytes others ho
 
--- the bytes behind others weigh more, by the width of those before
+-- the bytes after others weigh more, by the width of those before
 pub number_of_bytes-append : (low high : List ℕ) → number_of_bytes (low ++ high) ≡ number_of_bytes low + 256 ^ length low * number_of_bytes high
 unfolding number_of_bytes
 number_of_bytes-append [] high = omega arith

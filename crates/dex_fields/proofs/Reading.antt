@@ -67,7 +67,7 @@ bytes_in-append_right front back field =
     ap (take field.len) (sym (drop-drop field.at (length front) (front ++ back)))
     ∙ ap (λ (l : List ℕ). take field.len (drop field.at l)) (drop_at front back (length front) refl)
 
--- a field and what stands behind it
+-- a field and what stands after it
 pub bytes_in-rest : (bytes : List ℕ) (field : Field) → bytes_in bytes field ++ drop field.len (drop field.at bytes) ≡ drop field.at bytes
 unfolding bytes_in
 bytes_in-rest bytes field = take-append-drop field.len (drop field.at bytes)

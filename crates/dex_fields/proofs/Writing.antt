@@ -23,7 +23,7 @@ unfolding set_from
 set_from-is_sets bytes place [] = refl
 set_from-is_sets bytes place (b ∷ piece) = set_from-is_sets (set bytes place b) (suc place) piece
 
--- where the piece fits: what stands before, the piece, what stands behind
+-- where the piece fits: what stands before, the piece, what stands after
 pub set_from-parts : (bytes : List ℕ) (place : ℕ) (piece : List ℕ) → place + length piece ≤ length bytes
     → set_from bytes place piece ≡ take place bytes ++ (piece ++ drop (place + length piece) bytes)
 set_from-parts bytes place piece h =
@@ -61,7 +61,7 @@ pub length-with_bytes : (bytes : List ℕ) (field : Field) (piece : List ℕ) �
 unfolding with_bytes
 length-with_bytes bytes field piece = length-set_from bytes field.at (take field.len piece)
 
--- where a piece fits its field: what stands before, the piece, what stands behind
+-- where a piece fits its field: what stands before, the piece, what stands after
 pub with_bytes-parts : (bytes : List ℕ) (field : Field) (piece : List ℕ) → IsWithin field bytes → length piece ≡ field.len
     → with_bytes bytes field piece ≡ take field.at bytes ++ (piece ++ drop (end_of field) bytes)
 unfolding with_bytes

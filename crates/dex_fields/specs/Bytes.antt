@@ -2,7 +2,7 @@
 use Rattle.std.specs.Prelude.{◌≡◌, ℕ, zero, suc, ◌+◌, ◌*◌, ◌/◌, ◌%◌, ◌<◌, ◌≤◌, ◌⊎◌, List, [], ◌∷◌, length, take, drop, slice_index, slice_set}
 use Rattle.dex_fields.specs.declared.field.Field.{Field}
 
--- the place just behind the field
+-- the place just after the field
 abbrev pub end_of : Field → ℕ
 end_of field = field.at + field.len
 

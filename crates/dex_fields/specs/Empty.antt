@@ -5,11 +5,11 @@ use Rattle.dex_fields.specs.declared.field.Field.{Field}
 use Rattle.dex_fields.specs.declared.frame.TheConstants.{END_TEXT, FRONT, FRONT_TEXT}
 use Rattle.dex_fields.specs.Bytes.{with_bytes, with_number}
 
--- the last seven of so many bytes
+-- the last seven of this many bytes
 abbrev pub last_field : ℕ → Field
 last_field size = record { at = size - 7; len = 7 }
 
--- so many zeros, with `serum` at the front, `padding` at the end, and the flags behind the front
+-- this many zeros, with `serum` at the front, `padding` at the end, and the flags behind the front
 unfoldable pub empty_account : ℕ → ℕ → List ℕ
 empty_account size flags =
     with_number

@@ -14,7 +14,8 @@ pub record Tile (fields : List Field) (size : ℕ) : Type 0 where
   pub apart : AllPairs (λ earlier later. end_of earlier ≤ later.at) fields
   pub covers : (place : ℕ) → place < size → Any (HasPlace place) fields
 
--- the test of a table: the first field begins at `start`, each other one where the field before it ends, and the last ends at the size
+-- the test of a table: the first field begins at `start`, each other one where the field before it ends, and the last
+-- ends at the size
 abbrev pub tiles_from : ℕ → List Field → ℕ → Bool
 tiles_from start [] size = start == size
 tiles_from start (field ∷ fields) size = (field.at == start) && tiles_from (start + field.len) fields size

@@ -9,11 +9,11 @@ use crate::Field;
 use crate::frame::{END_TEXT, FRONT, FRONT_TEXT};
 use crate::put::{put_piece, put_u64};
 
-/// The field of the flags, which every account has behind its first text.
+/// The field of the flags, which every account has after its first text.
 pub const FLAGS: Field = Field { at: 5, len: 8 };
 
-/// Makes the bytes an account with nothing in it: `serum` at the front, these flags behind it, `padding` at the end, and
-/// zeros between them, whatever stood there.
+/// Makes the bytes an account with nothing in it: `serum` at the front, these flags behind it, `padding` at the end,
+/// and zeros between them, whatever stood there.
 pub fn write_empty_account(bytes: &mut [u8], flags: u64)
     requires { 20 ≤ length bytes.old }
     ensures bytes { bytes.new ≡ empty_account (length bytes.old) flags }

@@ -1,4 +1,4 @@
-//! The header of an event queue. Behind it stand the ring of events and `padding`.
+//! The header of an event queue. After it stand the ring of events and `padding`.
 
 ghost use Rattle.std.specs.Prelude.{◌≡◌, ◌∷◌, [], map};
 ghost use Rattle.dex_fields.specs.Tiling.{Tile, span_of};
@@ -27,7 +27,8 @@ pub const LAYOUT: Layout<5> = Layout {
     fields: each_field!(event_queue),
 };
 
-/// The fields tile an event queue's header: each byte is in exactly one of them. Each stands at its offset, with its length in bytes.
+/// The fields tile an event queue's header: each byte is in exactly one of them. Each stands at its offset, with its
+/// length in bytes.
 pub fn tiles()
     ensures tiled { Tile LAYOUT.fields LAYOUT.size }
     ensures places { map span_of (SERUM ∷ ACCOUNT_FLAGS ∷ HEAD ∷ COUNT ∷ SEQ_NUM ∷ []) ≡ (0, 5) ∷ (5, 8) ∷

@@ -9,7 +9,7 @@ use crate::{Field, Layout, each_field};
 /// Which kind of node it is.
 pub const TAG: Field = Field { at: 0, len: 4 };
 
-/// The free node behind it.
+/// The free node after it.
 pub const NEXT: Field = Field { at: 4, len: 4 };
 
 /// Written as zero.
@@ -21,7 +21,8 @@ pub const LAYOUT: Layout<3> = Layout {
     fields: each_field!(free_node),
 };
 
-/// The fields tile a free node: each byte is in exactly one of them. Each stands at its offset, with its length in bytes.
+/// The fields tile a free node: each byte is in exactly one of them. Each stands at its offset, with its length in
+/// bytes.
 pub fn tiles()
     ensures tiled { Tile LAYOUT.fields LAYOUT.size }
     ensures places { map span_of (TAG ∷ NEXT ∷ PADDING ∷ []) ≡ (0, 4) ∷ (4, 4) ∷ (8, 64) ∷ [] }

@@ -30,7 +30,8 @@ pub const LAYOUT: Layout<6> = Layout {
     fields: each_field!(inner_node),
 };
 
-/// The fields tile an inner node: each byte is in exactly one of them. Each stands at its offset, with its length in bytes.
+/// The fields tile an inner node: each byte is in exactly one of them. Each stands at its offset, with its length in
+/// bytes.
 pub fn tiles()
     ensures tiled { Tile LAYOUT.fields LAYOUT.size }
     ensures places { map span_of (TAG ∷ PREFIX_LEN ∷ KEY ∷ FIRST_CHILD ∷ SECOND_CHILD ∷ PADDING ∷ []) ≡ (0, 4) ∷

@@ -78,7 +78,8 @@ pub const LAYOUT: Layout<22> = Layout {
     fields: each_field!(market),
 };
 
-/// The fields tile a market account: each byte is in exactly one of them. Each stands at its offset, with its length in bytes.
+/// The fields tile a market account: each byte is in exactly one of them. Each stands at its offset, with its length in
+/// bytes.
 pub fn tiles()
     ensures tiled { Tile LAYOUT.fields LAYOUT.size }
     ensures places { map span_of (SERUM ∷ ACCOUNT_FLAGS ∷ OWN_ADDRESS ∷ VAULT_SIGNER_NONCE ∷ COIN_MINT ∷ PC_MINT ∷

@@ -57,7 +57,8 @@ pub const LAYOUT: Layout<14> = Layout {
     fields: each_field!(open_orders),
 };
 
-/// The fields tile an open-orders account: each byte is in exactly one of them. Each stands at its offset, with its length in bytes.
+/// The fields tile an open-orders account: each byte is in exactly one of them. Each stands at its offset, with its
+/// length in bytes.
 pub fn tiles()
     ensures tiled { Tile LAYOUT.fields LAYOUT.size }
     ensures places { map span_of (SERUM ∷ ACCOUNT_FLAGS ∷ MARKET ∷ OWNER ∷ NATIVE_COIN_FREE ∷ NATIVE_COIN_TOTAL ∷

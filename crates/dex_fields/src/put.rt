@@ -59,8 +59,8 @@ pub fn put_u128(bytes: &mut [u8], field: Field, value: u128)
     put_piece(bytes, field, &halves(value));
 }
 
-/// The bytes of a number, its lowest first: those of its lower half, and those of its upper half. Each half is one word of the
-/// processor, so no byte is moved alone.
+/// The bytes of a number, its lowest first: those of its lower half, and those of its upper half. Each half is one word
+/// of the processor, so no byte is moved alone.
 fn halves(value: u128) -> [u8; 16]
     ensures { result ≡ bytes_of_number 16 value }
 {

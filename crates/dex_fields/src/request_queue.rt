@@ -1,4 +1,4 @@
-//! The header of a request queue. Behind it stand a ring that is never used and `padding`.
+//! The header of a request queue. After it stand a ring that is never used and `padding`.
 
 ghost use Rattle.std.specs.Prelude.{◌≡◌, ◌∷◌, [], map};
 ghost use Rattle.dex_fields.specs.Tiling.{Tile, span_of};
@@ -27,7 +27,8 @@ pub const LAYOUT: Layout<5> = Layout {
     fields: each_field!(request_queue),
 };
 
-/// The fields tile a request queue's header: each byte is in exactly one of them. Each stands at its offset, with its length in bytes.
+/// The fields tile a request queue's header: each byte is in exactly one of them. Each stands at its offset, with its
+/// length in bytes.
 pub fn tiles()
     ensures tiled { Tile LAYOUT.fields LAYOUT.size }
     ensures places { map span_of (SERUM ∷ ACCOUNT_FLAGS ∷ HEAD ∷ COUNT ∷ NEXT_SEQ_NUM ∷ []) ≡ (0, 5) ∷ (5, 8) ∷

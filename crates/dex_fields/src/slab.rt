@@ -1,4 +1,4 @@
-//! The header of bids or asks. Behind it stand the nodes and `padding`.
+//! The header of bids or asks. After it stand the nodes and `padding`.
 
 ghost use Rattle.std.specs.Prelude.{◌≡◌, ◌∷◌, [], map};
 ghost use Rattle.dex_fields.specs.Tiling.{Tile, span_of};
@@ -33,7 +33,8 @@ pub const LAYOUT: Layout<7> = Layout {
     fields: each_field!(slab),
 };
 
-/// The fields tile a slab's header: each byte is in exactly one of them. Each stands at its offset, with its length in bytes.
+/// The fields tile a slab's header: each byte is in exactly one of them. Each stands at its offset, with its length in
+/// bytes.
 pub fn tiles()
     ensures tiled { Tile LAYOUT.fields LAYOUT.size }
     ensures places { map span_of (SERUM ∷ ACCOUNT_FLAGS ∷ BUMP_INDEX ∷ FREE_LIST_LEN ∷ FREE_LIST_HEAD ∷ ROOT_NODE ∷

@@ -36,7 +36,8 @@ pub const LAYOUT: Layout<8> = Layout {
     fields: each_field!(token_account),
 };
 
-/// The fields tile a token account: each byte is in exactly one of them. Each stands at its offset, with its length in bytes.
+/// The fields tile a token account: each byte is in exactly one of them. Each stands at its offset, with its length in
+/// bytes.
 pub fn tiles()
     ensures tiled { Tile LAYOUT.fields LAYOUT.size }
     ensures places { map span_of (MINT ∷ OWNER ∷ AMOUNT ∷ DELEGATE ∷ STATE ∷ IS_NATIVE ∷ DELEGATED_AMOUNT ∷

@@ -153,7 +153,7 @@ module _ {A : Type 0} (key : A → ℕ) where
       ap (joined key x) (grouped-one y ys rest)
       ∙ cond-true (eqb (key x) (key y)) (record { first = x; others = y ∷ ys } ∷ []) (alone x ∷ record { first = y; others = ys } ∷ []) (eq-eqb (key x) (key y) (sym here))
 
-  -- behind some groups, groups of other numbers
+  -- after some groups, groups of other numbers
   joined-behind : (x : A) (groups more : List (Group A)) → All (λ (group : Group A). eqb (key x) (key group.first) ≡ false) more
       → joined key x (groups ++ more) ≡ joined key x groups ++ more
   joined-behind x [] [] apart = refl

@@ -16,13 +16,13 @@ use Rattle.dex_fold.specs.World.{MarketState, WalletState, World, market_at, see
 
 -- ---- what a row does to one market and to one wallet
 
--- its market after its step, with the entry behind the others
+-- its market after its step, with the entry after the others
 abbrev pub market_acted : PlainRow → Seen → MarketState → MarketState
 market_acted row seen state =
     let s = row_step row seen state.market in
     record { market = s.market; entries = state.entries ++ entry_by row seen s.reply s.transfers ∷ [] }
 
--- a wallet after a movement, with the entry behind the others
+-- a wallet after a movement, with the entry after the others
 abbrev pub wallet_moved : PlainRow → Movement → WalletState → WalletState
 wallet_moved row move state = record {
   seen = record state.seen { balance = moved_balance move.kind move.amount state.seen.balance };
@@ -61,8 +61,8 @@ acted row (Some m) world =
       wallets = map (wallet_acted row seen (row_step row seen m).transfers) world.wallets;
     }
 
--- a row acts: it sees the wallets as they are, its market makes its step, and each wallet that it names is moved. A row of no
--- market does nothing
+-- a row acts: it sees the wallets as they are, its market makes its step, and each wallet that it names is moved. A row
+-- of no market does nothing
 abbrev pub act : PlainRow → World → World
 act row world = acted row (market_at row.market world.markets) world
 

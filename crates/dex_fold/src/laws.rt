@@ -8,7 +8,7 @@ ghost use Rattle.dex_fold.specs.Items.{Item, ShareNothing, act_item, is_any_refu
 ghost use Rattle.dex_fold.specs.World.{World, markets_in, seen_by, wallets_in};
 ghost use Rattle.std.specs.List.{flat_map};
 
-/// Rows that act behind others act on the world that these leave.
+/// Rows that act after others act on the world that these leave.
 pub fn rows_act_one_after_the_other()
     ensures parts { (rows later : List PlainRow) (world : World)
         → fold (rows ++ later) world ≡ fold later (fold rows world) }
@@ -31,8 +31,8 @@ pub fn rows_that_share_nothing_leave_each_other()
         → seen_by other (act row world) ≡ seen_by other world }
 {}
 
-/// An item of which a row would be refused moves nothing: each market is as it was, and so is what a row sees of each wallet, its
-/// amount among it. Journals alone have entries more.
+/// An item of which a row would be refused moves nothing: each market is as it was, and so is what a row sees of each
+/// wallet, its amount among it. Journals alone have entries more.
 pub fn an_item_of_which_one_is_refused_moves_nothing()
     ensures markets { (item : Item) (world : World) → is_any_refused world (members item) ≡ true
         → markets_in (act_item item world) ≡ markets_in world }

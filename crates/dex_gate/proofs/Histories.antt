@@ -58,7 +58,7 @@ module _ {E : Type 0} where
       lane_is_n = lane_is n o.0 (eqb (lane o.0) n) refl (subst (λ l. of_lane lane n l ≡ l) o.1 h.2);
     }
 
-    -- one entry of the lane behind a list is what a turn may add
+    -- one entry of the lane after a list is what a turn may add
     pub AddsOne-append : (before : List E) (e : E) → AddsOne lane (lane e) before (before ++ e ∷ [])
     AddsOne-append before e = let rest : added before (before ++ e ∷ []) ≡ e ∷ [] = front_rest (before ++ e ∷ []) before (e ∷ []) refl in (
       extends_by before (e ∷ []) (before ++ e ∷ []) refl,

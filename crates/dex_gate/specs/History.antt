@@ -2,7 +2,7 @@
 use Rattle.std.specs.Prelude.{◌≡◌, ℕ, ◌+◌, ◌==◌, List, ◌++◌, length, drop, filter}
 
 module _ {E : Type 0} where
-  -- what the later list has behind the entries of the earlier one
+  -- what the later list has after the entries of the earlier one
   abbrev pub added : List E → List E → List E
   added before after = drop (length before) after
 

@@ -4,8 +4,8 @@ use Rattle.dex_gate.specs.declared.stage.Stage.{Stage}
 use Rattle.dex_gate.specs.declared.stage.Stage.TheVariants.{Idle}
 use Rattle.dex_gate.specs.GateView.{GateView}
 
--- its gate (each pass has one), its number, the numbers from next on that it may hand out (those below until), the history that it has seen,
--- the entries that it made, and whether it holds a ticket or has a turn out
+-- its gate (each pass has one), its number, the numbers from next on that it may hand out (those below until), the
+-- history that it has seen, the entries that it made, and whether it holds a ticket or has a turn out
 pub record PassView (E O : Type 0) : Type 0 where
   pub gate : Option (GateView E O)
   pub number : ℕ

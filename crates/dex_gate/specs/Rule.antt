@@ -78,8 +78,8 @@ module _ {E O : Type 0} where
     pub has : get_elem? view.cards card_place ≡ some card
     pub whole : card.seen ≡ history
 
-  -- what was seen is a beginning of the history; of the entries past the opening list, those of the card's number are its own,
-  -- and no entry has a number that is not handed out
+  -- what was seen is a beginning of the history; of the entries past the opening list, those of the card's number are
+  -- its own, and no entry has a number that is not handed out
   pub record IsTrueCard (lane : E → ℕ) (start : O) (opening history : List E) (c : Card E O) : Type 0 where
     pub same_origin : c.origin ≡ start
     pub same_opening : c.opening ≡ opening
@@ -107,9 +107,10 @@ module _ {V E O : Type 0} (entries : V → List E) (origin : V → O) (opened : 
   IsTrueValue history x = (entries x ≡ history) × (origin x ≡ origin opened)
 
 module _ {V E O : Type 0} (entries : V → List E) (lane : E → ℕ) (origin : V → O) (opened : V) (passes : ℕ) where
-  -- There is one history, which the opening list begins, and which some card has seen whole. As many turns were passed on as it has entries, and the tickets that
-  -- are out are the numbers from there to the next ticket, each once. The numbers of passes are those below the count, each once.
-  -- The value is at home, with the whole history, unless a turn is out
+  -- There is one history, which the opening list begins, and which some card has seen whole. As many turns were passed
+  -- on as it has entries, and the tickets that are out are the numbers from there to the next ticket, each once. The
+  -- numbers of passes are those below the count, each once. The value is at home, with the whole history, unless a turn
+  -- is out
   pub record Kept (s : State (Option V) (View E O)) : Type 0 where
     pub history : List E
     pub few : passes ≤ PASSES

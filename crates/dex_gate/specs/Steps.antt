@@ -48,7 +48,8 @@ module _ {E O : Type 0} where
   Draws st m n m' = m' ≡ (record m.0 { ticket = n; stage = Waiting }, m.1)
 
 module _ {V E O : Type 0} (entries : V → List E) (lane : E → ℕ) (origin : V → O) where
-  -- the value in the slot is the one that the card speaks of: its list goes on from what was seen, and the entries of the card's number are its own
+  -- the value in the slot is the one that the card speaks of: its list goes on from what was seen, and the entries of
+  -- the card's number are its own
   pub record Shows (c : Card E O) (x : V) : Type 0 where
     pub same_origin : origin x ≡ c.origin
     pub begins : Extends c.opening (entries x)

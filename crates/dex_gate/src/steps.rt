@@ -14,7 +14,7 @@ use std::hint;
 const LOOKS: u32 = 30_000;
 
 /// Whether the turn of the ticket has come, or comes while it is looked for. Who is next looks for a while; who is
-/// further behind looks once. Where it says yes, nobody else can take the turn. Nobody gives its processor way instead:
+/// further back looks once. Where it says yes, nobody else can take the turn. Nobody gives its processor way instead:
 /// where others have work for it, the system may let it wait for milliseconds, and all who wait for its turn with it.
 pub(crate) fn comes<V: Journaled>(top: &Top<V>, ticket: u64) -> bool
     requires { IsBoard top.now.table_id }

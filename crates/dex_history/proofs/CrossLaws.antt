@@ -1,4 +1,5 @@
--- no bid comes to cross an ask: sides only lose orders and lots, but for an order that crosses nothing where it comes to rest
+-- no bid comes to cross an ask: sides only lose orders and lots, but for an order that crosses nothing where it comes
+-- to rest
 use Rattle.std.proofs.Common.{ℕ, ◌-◌, ◌<◌, ◌≡◌, ◌^◌, ◌⊎◌, inl, inr, ⊎_elim, true, false, eqb, List, [], ◌∷◌, Option, Some, None, Result, Ok, Err, is_some, take, refl, sym, ap, subst}
 use Rattle.std.specs.List.{All}
 use Rattle.std.proofs.lemmas.Bool.{leb-false, cond_both}

@@ -174,7 +174,8 @@ not_of_one_more legal = absurd (let e = legal.0.sees.pc in cc)
 not_of_two_balances : Sees (record (ask_call.asked) { discount = Some (label (codes "ann_coin")) }) (record (ask_sees 1000) { discount = ann_coin 999 }) → ⊥
 not_of_two_balances s = apart 999 1000 (lit< tt) (sym (ap (λ (wallet : WalletSeen). wallet.balance) (s.coin_discount refl)))
 
--- movements that are no wallet's: of another balance, of nothing, of more than there is, of too much, and a probe of something
+-- movements that are no wallet's: of another balance, of nothing, of more than there is, of too much, and a probe of
+-- something
 abbrev one_move : MoveKind → ℕ → ℕ → List WalletEntry
 one_move kind amount before = record { market = label (codes "m"); lane = 0; row = 1; kind = kind; amount = amount; before = before } ∷ []
 

@@ -59,7 +59,7 @@ with_role-here wallet role addresses is rising =
     ∙ with_address-times wallet.address wallet.address addresses rising
     ∙ cond-true (is_same wallet.address wallet.address) 1 (times wallet.address addresses) (is_same-refl wallet.address)
 
--- the wallets behind a role
+-- the wallets after a role
 abbrev behind_discount : Seen → List Address
 behind_discount seen = with_role (address_seen seen.referrer) []
 

@@ -17,8 +17,8 @@ abbrev pub FitsVault : Token → Market → Option WalletSeen → Type 0
 FitsVault token m None = Unit {0}
 FitsVault token m (Some wallet) = is_same (mint_of token m) wallet.mint ≡ true → wallet.balance + vault token m < 2 ^ 64
 
--- so it is for each wallet that a row sees and that can be paid to. It is so wherever the wallets and vaults of each mint add
--- up to a supply below 2^64
+-- so it is for each wallet that a row sees and that can be paid to. It is so wherever the wallets and vaults of each
+-- mint add up to a supply below 2^64
 pub record FitVaults (seen : Seen) (m : Market) : Type 0 where
   pub coin : (token : Token) → FitsVault token m seen.coin
   pub pc : (token : Token) → FitsVault token m seen.pc

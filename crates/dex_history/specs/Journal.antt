@@ -45,8 +45,8 @@ wallet_entry_of market entry move = record {
 abbrev pub request_of : PlainRow → Request
 request_of row = record { instruction = decoded row.bytes; signer = row.signer; named = row.named; now = row.now }
 
--- what a row asked for, as a journal tells it: its lane and number, its market, its request and the wallets of its roles. The bytes
--- of its data are no part of it, since different data may break one rule
+-- what a row asked for, as a journal tells it: its lane and number, its market, its request and the wallets of its
+-- roles. The bytes of its data are no part of it, since different data may break one rule
 pub record Asked : Type 0 where
   pub lane : ℕ
   pub number : ℕ
@@ -160,9 +160,9 @@ entry_by call s = record { lane = call.asked.lane; row = call.asked.number; repl
 abbrev pub entry_on : Call → Market → Entry
 entry_on call m = entry_by call (step_of call m)
 
--- a call stands in a market's history at this place: its row is one of the market, what it asks for states a price where it is an
--- order or a take, it saw the wallets that its row names, it was held back only where it would not be refused, and it has the entry
--- that it makes here
+-- a call stands in a market's history at this place: its row is one of the market, what it asks for states a price
+-- where it is an order or a take, it saw the wallets that its row names, it was held back only where it would not be
+-- refused, and it has the entry that it makes here
 pub record Stands (call : Call) (m : Market) : Type 0 where
   pub market : call.asked.market ≡ m.listing.address
   pub price : HasPrice call.asked.request.instruction

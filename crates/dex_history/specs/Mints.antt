@@ -58,8 +58,8 @@ into_vault token t = by_token token t.coin_in t.pc_in
 abbrev pub out_of_vault : Token → Transfers → ℕ
 out_of_vault token t = by_token token t.coin_out (t.pc_out + t.referrer_out)
 
--- of each token of the market, what the movements take from wallets of its mint enters its vault, and what they bring to them
--- leaves it; and no wallet of another mint is moved
+-- of each token of the market, what the movements take from wallets of its mint enters its vault, and what they bring
+-- to them leaves it; and no wallet of another mint is moved
 pub record MeetVaults (seen : Seen) (m : Market) (t : Transfers) (moves : List Movement) : Type 0 where
   pub debits : (token : Token) → all_debited seen (mint_of token m) moves ≡ into_vault token t
   pub credits : (token : Token) → all_credited seen (mint_of token m) moves ≡ out_of_vault token t

@@ -11,8 +11,8 @@ use Rattle.dex_types.specs.WalletJournal.{CanMove, moved_balance}
 abbrev pub left_by : Movement → ℕ
 left_by move = moved_balance move.kind move.amount move.before
 
--- a wallet's movement is what the transfers move: they take from it or bring to it, never both; it leaves what was there, less
--- what they take, and with what they bring; and it is possible at the balance that was seen
+-- a wallet's movement is what the transfers move: they take from it or bring to it, never both; it leaves what was
+-- there, less what they take, and with what they bring; and it is possible at the balance that was seen
 pub record Moves (seen : Seen) (t : Transfers) (address : Address) : Type 0 where
   pub one_way : (taken_from seen t address ≡ 0) ⊎ (brought_to seen t address ≡ 0)
   pub leaves : left_by (movement_of seen t address) ≡ balance_seen seen address + brought_to seen t address - taken_from seen t address

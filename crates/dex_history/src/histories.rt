@@ -11,9 +11,9 @@ ghost use Rattle.dex_types.specs.Wallets.{movements};
 ghost use Rattle.dex_types.specs.WalletJournal.{IsWalletLegal, CanMove, balance_after, moved_balance};
 ghost use Rattle.dex_history.specs.Journal.{Asked, Call, IsLegal, Sees, Stands, asked_wallets, entry_by, front, market_after, step_of};
 
-/// A history is legal exactly where its front is, and what follows is from the market that the front leaves. So one more
-/// call keeps it legal exactly where it stands there: its row is one of the market, it saw the wallets that its row names,
-/// and it has the entry that it makes now.
+/// A history is legal exactly where its front is, and what follows is from the market that the front leaves. So one
+/// more call keeps it legal exactly where it stands there: its row is one of the market, it saw the wallets that its
+/// row names, and it has the entry that it makes now.
 pub fn a_history_grows_at_its_end()
     ensures parts { (calls later : List Call) (m : Market)
         → IsLegal m (calls ++ later) ↔ (IsLegal m calls × IsLegal (market_after m calls) later) }

@@ -17,8 +17,8 @@ pub fn what_decodes_states_a_price()
     ensures { (bytes : List ℕ) → HasPrice (decoded bytes) }
 {}
 
-/// Every row leaves a sound market sound, whatever its bytes are, whoever signs it, whatever accounts and wallets it names
-/// and whatever balances it sees.
+/// Every row leaves a sound market sound, whatever its bytes are, whoever signs it, whatever accounts and wallets it
+/// names and whatever balances it sees.
 pub fn every_row_keeps_a_market_sound()
     ensures { (row : PlainRow) (seen : Seen) (m : Market) → IsSound m → IsSound (row_step row seen m).market }
 {}
@@ -29,7 +29,7 @@ pub fn what_is_asked_keeps_a_market_sound()
         → IsSound (asked_step asked seen m).market }
 {}
 
-/// From a sound market each place of each legal history is sound: the market after its first so many calls, and after all.
+/// From a sound market each place of each legal history is sound: the market after its first n calls, and after all.
 pub fn each_place_of_a_history_is_sound()
     ensures places { (m : Market) (calls : List Call) (count : ℕ) → IsSound m → IsLegal m calls
         → IsSound (market_after m (take count calls)) }

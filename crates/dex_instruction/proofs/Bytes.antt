@@ -17,7 +17,7 @@ pub number_at-front : (width x : ℕ) (rest : List ℕ) → x < 256 ^ width → 
 unfolding number number_at
 number_at-front width x rest fits = little_number-reads_back width x rest fits
 
--- what stands behind a number is read there
+-- what stands after a number is read there
 pub number_at-behind : (width x other place : ℕ) (rest : List ℕ) → number_at other (width + place) (number width x ++ rest) ≡ number_at other place rest
 unfolding number_at
 number_at-behind width x other place rest =

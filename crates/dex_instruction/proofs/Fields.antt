@@ -16,7 +16,7 @@ spelled-append [] back = refl
 spelled-append (field ∷ front) back =
     ap (λ (text : List ℕ). number field.0 field.1 ++ text) (spelled-append front back) ∙ sym (append_assoc (number field.0 field.1) (spelled front) (spelled back))
 
--- the field with a number from 0; behind the last one a field of no bytes
+-- the field with a number from 0; after the last one a field of no bytes
 abbrev pub nth : List Field → ℕ → Field
 nth [] i = (0, 0)
 nth (field ∷ fields) zero = field

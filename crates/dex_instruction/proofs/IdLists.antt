@@ -67,7 +67,7 @@ zeros_are : (xs : List ℕ) → ((i : ℕ) → get_or xs i 0 ≡ zero) → xs �
 zeros_are [] h = refl
 zeros_are (x ∷ xs) h = rw (h 0, ← zeros_are xs (λ i. h (suc i))) refl
 
--- the ids that count, and zeros behind them
+-- the ids that count, and zeros after them
 ids_padded : (a : ClientIds) → length a.ids ≡ 8 → take a.count a.ids ++ replicate (8 - a.count) 0 ≡ a.ids
 ids_padded a eight =
     let behind : (i : ℕ) → get_or (drop a.count a.ids) i 0 ≡ zero = λ i. rw get_or-drop (a.zeros_behind (a.count + i) (omega arith)) in

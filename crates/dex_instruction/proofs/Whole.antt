@@ -66,7 +66,7 @@ pub record IsSpelled (tag : ℕ) (bytes : List ℕ) : Type 0 where
   pub same : spelling (tagged tag bytes) ≡ bytes
   pub fits : Fits (tagged tag bytes)
 
--- fields of these widths behind the tag, up to the end
+-- fields of these widths after the tag, up to the end
 spelled-tagged : (tag : ℕ) (sizes : List ℕ) (bytes : List ℕ) → AreBytes bytes → IsWhole tag bytes → 5 + total sizes ≡ length bytes
     → spelled ((1, 0) ∷ (4, tag) ∷ fields_at sizes 5 bytes) ≡ bytes
 spelled-tagged tag sizes bytes h whole size =
@@ -189,7 +189,7 @@ at_13 bytes h whole =
 
 -- ---- an order, with a latest time or without
 
--- the fields of an order in the bytes, with codes and behind them a latest time as given
+-- the fields of an order in the bytes, with codes and after them a latest time as given
 order_fields : List ℕ → ℕ → ℕ → ℕ → List Field → List Field
 order_fields bytes side self_trade order_type latest =
     (4, side) ∷ (8, number_at 8 9 bytes) ∷ (8, number_at 8 17 bytes) ∷ (8, number_at 8 25 bytes) ∷ (4, self_trade) ∷ (4, order_type)

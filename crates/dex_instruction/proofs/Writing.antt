@@ -1,4 +1,4 @@
--- Texts that are written one behind the other are one text.
+-- Texts that are written one after the other are one text.
 use Rattle.std.proofs.Common.{◌≡◌, ℕ, ◌+◌, ◌≤◌, List, [], ◌∷◌, ◌++◌, length, take, drop, sym, ap, ◌∙◌, arith, append_assoc, add-zero}
 use Rattle.std.proofs.lemmas.List.{length-append, append-nil, length-take-le, length-drop, drop-drop, drop_at, take_at, take-append-drop}
 use Rattle.byteorder.specs.Endian.{little_bytes}
@@ -24,7 +24,7 @@ back_kept place text bytes within =
     ap (drop (place + length text)) (sym (append_assoc (take place bytes) text (drop (place + length text) bytes)))
     ∙ drop_at (take place bytes ++ text) (drop (place + length text) bytes) (place + length text) (omega (arith, length-append (take place bytes) text, length-take-le place bytes within))
 
--- a text behind a text
+-- a text after a text
 pub written-written : (place behind : ℕ) (text more bytes : List ℕ) → place ≤ length bytes → behind ≡ place + length text
     → written behind more (written place text bytes) ≡ written place (text ++ more) bytes
 unfolding written
@@ -51,13 +51,13 @@ written-written place behind text more bytes within e =
           ∙ ap (λ (b : List ℕ). take place bytes ++ b) (sym (append_assoc text more tail))
           ∙ ap (λ (n : ℕ). take place bytes ++ ((text ++ more) ++ drop n bytes)) ends
 
--- a number behind others
+-- a number after others
 pub written-number : (place behind width x : ℕ) (fields : List Field) (bytes : List ℕ) → place ≤ length bytes → behind ≡ place + width
     → written behind (spelled fields) (written place (number width x) bytes) ≡ written place (spelled ((width, x) ∷ fields)) bytes
 written-number place behind width x fields bytes within e =
     written-written place behind (number width x) (spelled fields) bytes within (omega (arith, length-number width x))
 
--- fields behind others
+-- fields after others
 pub written-fields : (place behind : ℕ) (front back : List Field) (bytes : List ℕ) → place ≤ length bytes → behind ≡ place + widths front
     → written behind (spelled back) (written place (spelled front) bytes) ≡ written place (spelled (front ++ back)) bytes
 written-fields place behind front back bytes within e =
@@ -73,7 +73,7 @@ unfolding written
 length-written place text bytes within =
     omega (arith, length-append (take place bytes) (text ++ drop (place + length text) bytes), length-append text (drop (place + length text) bytes), length-take-le place bytes (omega arith), length-drop (place + length text) bytes)
 
--- fields behind a number whose bytes were written
+-- fields after a number whose bytes were written
 pub behind_number : (place behind width x : ℕ) (fields : List Field) (bytes before between after : List ℕ) → place ≤ length before → behind ≡ place + width
     → bytes ≡ little_bytes width x → between ≡ written place bytes before → after ≡ written behind (spelled fields) between → after ≡ written place (spelled ((width, x) ∷ fields)) before
 unfolding number
@@ -85,7 +85,7 @@ pub last_number : (place width x : ℕ) (bytes before after : List ℕ) → byte
 unfolding number
 last_number place width x bytes before after is e = e ∙ ap (λ (text : List ℕ). written place text before) is ∙ written-last place width x before
 
--- fields behind fields that were written
+-- fields after fields that were written
 pub behind_fields : (place behind : ℕ) (front back : List Field) (before between after : List ℕ) → place ≤ length before → behind ≡ place + widths front
     → between ≡ written place (spelled front) before → after ≡ written behind (spelled back) between → after ≡ written place (spelled (front ++ back)) before
 behind_fields place behind front back before between after within e first second =
@@ -96,7 +96,7 @@ pub take-written : (n : ℕ) (text bytes : List ℕ) → n ≡ length text → t
 unfolding written
 take-written n text bytes e = take_at text (drop (0 + length text) bytes) n (sym e)
 
--- what stands behind it
+-- what stands after it
 pub drop-written : (n : ℕ) (text bytes : List ℕ) → n ≡ length text → drop n (written 0 text bytes) ≡ drop n bytes
 unfolding written
 drop-written n text bytes e =

@@ -1,4 +1,5 @@
--- Sides, self-trade rules, order types and latest times as numbers. A number above the last code is read as that code: no such data decodes.
+-- Sides, self-trade rules, order types and latest times as numbers. A number above the last code is read as that code:
+-- no such data decodes.
 use Rattle.std.specs.Prelude.{ℕ, ℤ, ◌==◌, if◌then◌else◌}
 use Rattle.std.specs.Int.{w64, cast_signed, cast_unsigned}
 use Rattle.dex_types.specs.declared.terms.OrderType.{OrderType}

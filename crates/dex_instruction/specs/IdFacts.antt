@@ -26,7 +26,7 @@ replicate-zeros (suc n) (suc i) = replicate-zeros n i
 zeros : (front : List ℕ) (n i : ℕ) → length front ≤ i → get_or (front ++ replicate n 0) i 0 ≡ zero
 zeros front n i h = get_or-append_right front (replicate {A = ℕ} n 0) i 0 h ∙ replicate-zeros n (i - length front)
 
--- behind the numbers stand zeros
+-- after the numbers stand zeros
 pub is_zero_behind : (count place : ℕ) (bytes : List ℕ) (i : ℕ) → count ≤ i
     → slice_index (numbers_at count place bytes ++ replicate (8 - count) 0) i ≡ 0
 is_zero_behind count place bytes i h =

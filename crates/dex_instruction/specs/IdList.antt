@@ -4,11 +4,11 @@ use Rattle.dex_types.specs.declared.client_ids.ClientIds.{ClientIds}
 use Rattle.dex_instruction.specs.Numbers.{numbers_at}
 use Rattle.dex_instruction.specs.IdFacts.{is_some, is_at_most_eight, is_zero_behind}
 
--- how many client ids the data has behind its tag; from one to eight
+-- how many client ids the data has after its tag; from one to eight
 abbrev pub id_count : List ℕ → ℕ
 id_count bytes = max 1 (min 8 ((length bytes - 5) / 8))
 
--- those ids, and zeros behind them
+-- those ids, and zeros after them
 abbrev pub padded_ids : List ℕ → List ℕ
 padded_ids bytes = numbers_at (id_count bytes) 5 bytes ++ replicate (8 - id_count bytes) 0
 

@@ -1,4 +1,4 @@
--- What instruction data decodes to: the first broken rule, or the instruction whose fields stand behind the tag.
+-- What instruction data decodes to: the first broken rule, or the instruction whose fields stand after the tag.
 use Rattle.std.specs.Prelude.{ℕ, ◌==◌, if◌then◌else◌, ℤ, Option, Some, None, Result, Ok, Err, List, length}
 use Rattle.dex_types.specs.declared.instructions.BadData.{BadData}
 use Rattle.dex_types.specs.declared.instructions.Ix.{Ix}
@@ -13,7 +13,7 @@ abbrev pub market_in : List ℕ → Ix
 market_in bytes =
     InitializeMarket (number_at 8 5 bytes) (number_at 8 13 bytes) (number_at 2 21 bytes) (number_at 8 23 bytes) (number_at 8 31 bytes)
 
--- the latest time stands behind the other fields of an order
+-- the latest time stands after the other fields of an order
 abbrev pub latest_in : List ℕ → Option ℤ
 latest_in bytes = if length bytes == 59 then Some (time_of (number_at 8 51 bytes)) else None
 

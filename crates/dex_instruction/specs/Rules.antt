@@ -4,7 +4,7 @@ use Rattle.dex_types.specs.declared.instructions.BadData.{BadData}
 use Rattle.dex_types.specs.declared.instructions.BadData.TheVariants.{Short, Version, UnknownTag, RetiredTag, Length, ZeroField, BadEnum}
 use Rattle.dex_instruction.specs.Numbers.{number_at}
 
--- the tag, which stands behind the version
+-- the tag, which stands after the version
 abbrev pub tag_in : List ℕ → ℕ
 tag_in bytes = number_at 4 1 bytes
 
@@ -24,7 +24,7 @@ is_unknown tag = nat_lt 18 tag
 abbrev pub is_retired : ℕ → Bool
 is_retired tag = (tag == 1) || (tag == 4) || (tag == 6) || (tag == 9) || (tag == 17)
 
--- the body of the tag's instruction can have so many bytes
+-- the body of the tag's instruction can have this many bytes
 abbrev pub is_body_length : ℕ → ℕ → Bool
 is_body_length tag size =
     if tag == 0 then size == 34
@@ -44,7 +44,8 @@ has_other_length tag bytes = not (is_body_length tag (length bytes - 5))
 abbrev pub is_zero_at : ℕ → List ℕ → Bool
 is_zero_at place bytes = number_at 8 place bytes == 0
 
--- one of the fields that must not be 0 is 0: coin lot, pc lot and dust of a market; price, coin lots and native pc of an order or a take
+-- one of the fields that must not be 0 is 0: coin lot, pc lot and dust of a market; price, coin lots and native pc of
+-- an order or a take
 abbrev pub has_zero_field : ℕ → List ℕ → Bool
 has_zero_field tag bytes =
     if tag == 0 then is_zero_at 5 bytes || is_zero_at 13 bytes || is_zero_at 31 bytes

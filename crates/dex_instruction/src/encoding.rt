@@ -35,7 +35,7 @@ fn tag_of(ix: &Ix) -> u32
     }
 }
 
-/// Writes the fields of a market, and answers the place behind them.
+/// Writes the fields of a market, and answers the place after them.
 fn put_market(
     out: &mut [u8; 128],
     coin_lot: u64,
@@ -67,7 +67,7 @@ fn put_terms(out: &mut [u8; 128], side: Side, price: u64, lots: u64, pc: u64) ->
     put(out, at, pc.to_le_bytes())
 }
 
-/// Writes the latest time, where there is one, behind the other fields of an order.
+/// Writes the latest time, where there is one, after the other fields of an order.
 fn put_latest(out: &mut [u8; 128], latest: Option<i64>) -> usize
     ensures end { result ≡ 51 + widths (latest_fields latest) }
     ensures bytes { out.new ≡ written 51 (spelled (latest_fields latest)) out.old }
@@ -79,7 +79,7 @@ fn put_latest(out: &mut [u8; 128], latest: Option<i64>) -> usize
     }
 }
 
-/// Writes what stands behind the terms of an order.
+/// Writes what stands after the terms of an order.
 fn put_order(
     out: &mut [u8; 128],
     self_trade: SelfTrade,
@@ -100,7 +100,7 @@ fn put_order(
     put_latest(out, latest)
 }
 
-/// Writes what stands behind the terms of a take.
+/// Writes what stands after the terms of a take.
 fn put_take(out: &mut [u8; 128], least_lots: u64, least_pc: u64, limit: u16) -> usize
     ensures end { result ≡ 51 }
     ensures bytes { out.new ≡ written 33 (spelled ((8, least_lots) ∷ (8, least_pc) ∷ (2, limit) ∷ [])) out.old }
@@ -133,7 +133,7 @@ fn put_ids(out: &mut [u8; 128], ids: &ClientIds) -> usize
     at
 }
 
-/// Writes the fields of the body, and answers the place behind them.
+/// Writes the fields of the body, and answers the place after them.
 fn put_fields(ix: &Ix, out: &mut [u8; 128]) -> usize
     ensures end { result ≡ 5 + widths (fields_of ix.now) }
     ensures bytes { out.new ≡ written 5 (spelled (fields_of ix.now)) out.old }
@@ -210,13 +210,14 @@ fn put_fields(ix: &Ix, out: &mut [u8; 128]) -> usize
     }
 }
 
-/// Writes the one spelling of the instruction at the front, and answers how many bytes it has, at most 69.
-/// The bytes behind it stay. Takes no memory.
+/// Writes the one spelling of the instruction at the front, and answers how many bytes it has, at most 69. The bytes
+/// after it stay. Takes no memory.
 pub fn encode(ix: &Ix, out: &mut [u8; 128]) -> usize
     ensures front { take result out.new ≡ spelling ix.now }
     ensures behind { drop result out.new ≡ drop result out.old }
     ensures few { result ≤ 69 }
-    // What was written decodes to the instruction again; where a field is 0 that must not be, that rule is the one that is broken.
+    // What was written decodes to the instruction again; where a field is 0 that must not be, that rule is the one that
+    // is broken.
     ensures decodes { decoded (take result out.new) ≡ (if has_zero ix.now then Err ZeroField else Ok ix.now) }
 {
     put(out, 0, [0]);

@@ -11,7 +11,8 @@ pub fn one_spelling()
     ensures { (a b : Ix) → Fits a → Fits b → spelling a ≡ spelling b → a ≡ b }
 {}
 
-/// What an instruction is spelled as decodes to it again; where a field is 0 that must not be, that rule is the one that is broken.
+/// What an instruction is spelled as decodes to it again; where a field is 0 that must not be, that rule is the one
+/// that is broken.
 pub fn decodes_again()
     ensures { (ix : Ix) → Fits ix → decoded (spelling ix) ≡ (if has_zero ix then Err ZeroField else Ok ix) }
 {}

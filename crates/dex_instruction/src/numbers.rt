@@ -46,7 +46,7 @@ pub(crate) fn u128_at(bytes: &[u8], at: usize) -> u128
     LittleEndian::read_u128(bytes.split_at(at).1)
 }
 
-/// Writes the bytes from the place on, and answers the place behind them.
+/// Writes the bytes from the place on, and answers the place after them.
 pub(crate) fn put<const N: usize>(out: &mut [u8; 128], at: usize, bytes: [u8; N]) -> usize
     requires { at + N ≤ 128 }
     ensures end { result ≡ at + N }

@@ -13,7 +13,7 @@ fn is_retired(tag: u32) -> bool
     matches!(tag, 1 | 4 | 6 | 9 | 17)
 }
 
-/// The body of the tag's instruction can have so many bytes.
+/// The body of the tag's instruction can have this many bytes.
 fn is_body_length(tag: u32, size: usize) -> bool
     ensures { result ≡ is_body_length tag size }
 {

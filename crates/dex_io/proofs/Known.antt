@@ -1,4 +1,4 @@
--- Bytes that are put before or behind known bytes, one piece after another.
+-- Bytes that are put before or after known bytes, one piece after another.
 use Rattle.std.proofs.Common.{◌≡◌, ◌+◌, ◌≤◌, ◌<◌, ℕ, List, ◌++◌, length, take, drop, Option, Some, None, IfSome, refl, sym, ap, subst, ◌∙◌, arith, append_assoc, length-append}
 use Rattle.std.proofs.lemmas.List.{drop_at}
 use Rattle.std.proofs.Math.Seq.{take-add}
@@ -10,7 +10,7 @@ pub prepend_known-prepend_known : (xs ys : List ℕ) (known : Option (List ℕ))
 prepend_known-prepend_known xs ys None = refl
 prepend_known-prepend_known xs ys (Some zs) = ap Some (sym (append_assoc xs ys zs))
 
--- two pieces behind the known bytes are one piece
+-- two pieces after the known bytes are one piece
 pub append_known-append_known : (known : Option (List ℕ)) (xs ys : List ℕ) → append_known (append_known known xs) ys ≡ append_known known (xs ++ ys)
 append_known-append_known None xs ys = refl
 append_known-append_known (Some zs) xs ys = ap Some (append_assoc zs xs ys)

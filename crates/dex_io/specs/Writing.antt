@@ -3,7 +3,8 @@ use Rattle.std.specs.Prelude.{◌≡◌, ◌<◌, ◌-◌, ◌↔◌, ◌++◌, 
 use Rattle.dex_io.specs.States.{SinkState}
 use Rattle.dex_io.specs.Faults.{next_count}
 
--- A write takes what fits the room. It fails exactly where no room is left for a piece that is not empty, and counts that.
+-- A write takes what fits the room. It fails exactly where no room is left for a piece that is not empty, and counts
+-- that.
 pub record Writes {E : Type 0} (old : SinkState) (piece : List ℕ) (result : Result ℕ E) (new : SinkState) : Type 0 where
   pub refused : IsErr result ↔ ((0 < length piece) × (old.room ≡ 0))
   pub count : IfOk result (λ n. n ≡ min (length piece) old.room)

@@ -1,11 +1,12 @@
 //! Where a row of a lane may be held up.
 
 /// Called for a row of a lane when it has the turn of everything that it acts on, before it is decided. A pace promises
-/// nothing and is handed no account. It may change which lane is first, and with that the replies. No clause says when it
-/// is called or how often. Tests hold a row here, to see others go on beside it.
+/// nothing and is handed no account. It may change which lane is first, and with that the replies. No clause says when
+/// it is called or how often. Tests hold a row here, to see others go on beside it.
 ///
-/// Under lanes it may wait for a row that is next in its lane and shares no market and no wallet with this row, nor with any
-/// item that waits for this row, itself or behind others. Any other may wait for this row, and then neither goes on.
+/// Under lanes it may wait for a row that is next in its lane and shares no market and no wallet with this row, nor
+/// with any item that waits for this row, itself or after others. Any other may wait for this row, and then neither
+/// goes on.
 pub trait Pace {
     /// The row of this number is inside on this lane.
     fn inside(&self, lane: u32, row: u32);

@@ -24,7 +24,7 @@ pairs-behind {X} R xs (y ∷ ys) own others cross =
     (λ i j d below within. others (suc i) (suc j) d (omega (arith, below)) (omega (arith, within)))
     (All-append (λ (x : X). All (R x) ys) xs (y ∷ []) rest (All-cons (λ (x : X). All (R x) ys) y [] first (All-nil (λ (x : X). All (R x) ys)))))
 
--- the calls of an item behind those of a lane
+-- the calls of an item after those of a lane
 pub record IsItemMore (script : PlainScript) (lane : ℕ) (calls : List (Stamped Call)) (rows : List PlainRow) (first : Stamped Call) (others : List (Stamped Call)) : Type 0 where
   pub later : List PlainRow
   pub next : rows_of_lane lane script.rows ≡ take (length calls) (rows_of_lane lane script.rows) ++ (rows ++ later)

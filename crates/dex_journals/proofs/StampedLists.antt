@@ -1,4 +1,4 @@
--- Items with stamps, and one more behind them.
+-- Items with stamps, and one more after them.
 use Rattle.std.proofs.Common.{◌≡◌, ℕ, ◌+◌, ◌≤◌, ◌<◌, Bool, true, false, cond, List, [], ◌∷◌, ◌++◌, length, All, get_or, refl, sym, ap, ◌∙◌, subst, arith}
 use Rattle.std.specs.Prelude.{◌==◌}
 use Rattle.std.specs.List.{filter}
@@ -26,7 +26,7 @@ module _ {A : Type 0} where
   length-stamped items stamps long =
       sym (length-map (stamped items stamps) (λ (made : Stamped A). made.item)) ∙ ap length (items_of-stamped items stamps long)
 
-  -- one more behind
+  -- one more after
   pub stamped-more : (items : List A) (stamps : List ℕ) (item : A) (stamp : ℕ) → length stamps ≡ length items
       → stamped (items ++ item ∷ []) (stamps ++ stamp ∷ [])
       ≡ stamped items stamps ++ record { item = item; stamp = stamp } ∷ []
@@ -48,7 +48,7 @@ module _ {A : Type 0} where
       (All-head (λ (one : ℕ). one ≤ last) stamp stamps below)
       (below-stamped items stamps last (All-tail (λ (one : ℕ). one ≤ last) stamp stamps below))
 
-  -- a stamp above the last of them goes behind
+  -- a stamp above the last of them goes after
   pub rising-more : (items : List A) (stamps : List ℕ) (last : ℕ) (item : A) (stamp : ℕ)
       → length stamps ≡ length items → AreRising (stamped items stamps)
       → All (λ (one : ℕ). one ≤ last) stamps → last < stamp

@@ -43,8 +43,8 @@ calls_by lane calls = length (filter (λ (call : Call). call.asked.lane == lane)
 abbrev pub market_more : BankMarketState → MarketCellState → ℕ → BankMarketState
 market_more market cell stamp = record market { cell = cell; stamps = market.stamps ++ stamp ∷ []; last = stamp }
 
--- what always holds of it: the calls have rising stamps; each lane has made at most as many as it has rows on the market; and
--- there is room for all rows on the market
+-- what always holds of it: the calls have rising stamps; each lane has made at most as many as it has rows on the
+-- market; and there is room for all rows on the market
 pub record IsBankMarket (market : BankMarketState) : Type 0 where
   pub cell : IsMarketCell market.cell
   pub counted : length market.stamps ≡ length market.cell.calls
@@ -54,8 +54,8 @@ pub record IsBankMarket (market : BankMarketState) : Type 0 where
   pub lanes : (lane : ℕ)
       → calls_by lane market.cell.calls ≤ length (rows_of_market lane market.cell.start.address market.script.rows)
 
--- a row may act on the market and on the wallets in hand under a stamp: it is one on the market, and sees these wallets; its lane has
--- a row left, and the stamp is above all others
+-- a row may act on the market and on the wallets in hand under a stamp: it is one on the market, and sees these
+-- wallets; its lane has a row left, and the stamp is above all others
 pub record MayAct (row : Row) (seen : Seen) (stamp : ℕ) (market : BankMarketState) (wallets : List CellState) : Type 0 where
   pub on : IsFor row seen market.cell
   pub sees : SeesCells seen wallets
@@ -94,8 +94,8 @@ entries_by lane entries = length (filter (λ (entry : WalletEntry). entry.lane =
 abbrev pub wallet_more : BankWalletState → CellState → ℕ → BankWalletState
 wallet_more wallet cell stamp = record wallet { cell = cell; stamps = wallet.stamps ++ stamp ∷ []; last = stamp }
 
--- what always holds of it: the entries have rising stamps; each lane has made at most as many as it has rows that name the
--- wallet; and there is room for all rows that name it
+-- what always holds of it: the entries have rising stamps; each lane has made at most as many as it has rows that name
+-- the wallet; and there is room for all rows that name it
 pub record IsBankWallet (wallet : BankWalletState) : Type 0 where
   pub cell : IsWalletCell wallet.cell
   pub counted : length wallet.stamps ≡ length wallet.cell.entries

@@ -32,8 +32,9 @@ IsAsOthers calls call = is_held call.item ≡ (list_any (λ (other : Stamped Cal
 abbrev pub AreAllOrNone : Group (Stamped Call) → Type 0
 AreAllOrNone calls = All (IsAsOthers (members calls)) (members calls)
 
--- the calls that a lane of the script made so far: they ask for its first rows, one for each, in their order; each sees what a
--- row of the script may see and moves the wallets of its row; their stamps rise from item to item; and each item did all or none
+-- the calls that a lane of the script made so far: they ask for its first rows, one for each, in their order; each sees
+-- what a row of the script may see and moves the wallets of its row; their stamps rise from item to item; and each item
+-- did all or none
 pub record IsLane (script : PlainScript) (lane : ℕ) (calls : List (Stamped Call)) : Type 0 where
   pub asks : map (λ (call : Stamped Call). call.item.asked) calls
       ≡ map asked_of (take (length calls) (rows_of_lane lane script.rows))

@@ -1,7 +1,7 @@
 //! What a job is.
 
-/// Work that is done once, on what the job holds. A job that waits for others holds the runtime by a reference, and its type has a
-/// parameter for it, as in `impl<'a, R: Wait> Job for Lane<'a, R>`.
+/// Work that is done once, on what the job holds. A job that waits for others holds the runtime by a reference, and its
+/// type has a parameter for it, as in `impl<'a, R: Wait> Job for Lane<'a, R>`.
 pub trait Job {
     /// What `run` needs.
     ghost ready: { Self → Type 0 };

@@ -1,7 +1,7 @@
 //! Jobs side by side: each job runs once, on a thread of its own where one can be made.
 //!
-//! A job is a value that holds all it works on, the runtime too where it may wait. Jobs may wait for each other, since each has
-//! its own thread.
+//! A job is a value that holds all it works on, the runtime too where it may wait. Jobs may wait for each other, since
+//! each has its own thread.
 #![tactic(auto)]
 
 mod job;

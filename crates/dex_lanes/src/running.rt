@@ -18,9 +18,9 @@ pub fn processors<R: Threads>(rt: &R) -> usize {
     }
 }
 
-/// Runs each job once, and returns when all have ended. The caller starts a thread for each and waits: then the kernel spreads them over
-/// the processors soonest. A job for which no thread can be made runs on the caller's, behind those that follow it. Takes no
-/// memory beyond the threads'.
+/// Runs each job once, and returns when all have ended. The caller starts a thread for each and waits: then the kernel
+/// spreads them over the processors soonest. A job for which no thread can be made runs on the caller's, after those
+/// that follow it. Takes no memory beyond the threads'.
 #[cycle(line)]
 pub fn run_jobs<R: Threads + Sync, J: Job + Send>(rt: &R, jobs: &mut [J])
     requires ready { All J.ready jobs.old }

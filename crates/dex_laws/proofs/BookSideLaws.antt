@@ -1,4 +1,5 @@
--- laws of a book side's calls: an order looked up by its id, the one that follows it, and the side without it or with other lots of it
+-- laws of a book side's calls: an order looked up by its id, the one that follows it, and the side without it or with
+-- other lots of it
 use Rattle.std.proofs.Common.{append-nil, ℕ, suc, ◌+◌, ◌-◌, ◌≤◌, ◌<◌, ◌≡◌, ◌≢◌, ⊎_elim, true, false, eqb, List, [], ◌∷◌, ◌++◌, Some, None, length, take, refl, sym, ap, ◌∙◌, subst, arith, length-append}
 use Rattle.std.specs.List.{All, slice_get}
 use Rattle.std.specs.Option.{IsSome, is_some}
@@ -24,7 +25,7 @@ pub record IsBetween (id : ℕ) (orders before : List Order) (order : Order) (af
   pub id_is : order.id ≡ id
   pub apart : IsApart id before
 
--- what holds where the id's order comes first, and behind an order of another id, holds of all
+-- what holds where the id's order comes first, and after an order of another id, holds of all
 pub by_id-induction : (id : ℕ) (P : List Order → Type 0) → P []
     → ((first : Order) (others : List Order) → eqb first.id id ≡ true → P (first ∷ others))
     → ((first : Order) (others : List Order) → eqb first.id id ≡ false → P others → P (first ∷ others))
@@ -60,7 +61,7 @@ apart-order_with id =
     (λ first others apart held none.
     All-cons (λ (o : Order). o.id ≢ id) first others (eqb-false first.id id apart) (held (sym (cond-false _ _ _ apart) ∙ none)))
 
--- behind orders of other ids the calls are those of what follows
+-- after orders of other ids the calls are those of what follows
 pub order_with-behind : (id : ℕ) (before after : List Order) → IsApart id before → order_with id (before ++ after) ≡ order_with id after
 order_with-behind id [] after apart = refl
 order_with-behind id (first ∷ before) after apart =
@@ -91,13 +92,13 @@ pub order_with-between : (id : ℕ) (orders before : List Order) (order : Order)
 order_with-between id orders before order after at =
     ap (order_with id) at.is ∙ order_with-behind id before (order ∷ after) at.apart ∙ cond-true _ _ _ (eq-eqb order.id id at.id_is)
 
--- the order that follows it is the first behind it
+-- the order that follows it is the first after it
 pub order_after-between : (id : ℕ) (orders before : List Order) (order : Order) (after : List Order) → IsBetween id orders before order after
     → order_after id orders ≡ best_of after
 order_after-between id orders before order after at =
     ap (order_after id) at.is ∙ order_after-behind id before (order ∷ after) at.apart ∙ cond-true _ _ _ (eq-eqb order.id id at.id_is)
 
--- the side without it is what stands before and behind
+-- the side without it is what stands before and after
 pub without_order-between : (id : ℕ) (orders before : List Order) (order : Order) (after : List Order) → IsBetween id orders before order after
     → without_order id orders ≡ before ++ after
 without_order-between id orders before order after at =

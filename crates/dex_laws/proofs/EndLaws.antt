@@ -100,7 +100,8 @@ meet-again side t w orders = meet-ended side t (meet side t w orders).demand (me
 abbrev pub without : Order → ℕ → List Order → List Order
 without order lots others = cond (ltb lots order.lots) (less order lots ∷ others) others
 
--- meeting is the recursion in which an order loses what is taken of it, and the taker goes on with what is left of the side
+-- meeting is the recursion in which an order loses what is taken of it, and the taker goes on with what is left of the
+-- side
 pub meet-recursion : (side : Side) (t : TakerTerms) (w : Demand) (order : Order) (others : List Order) → 0 < taken side t w order
     → meet side t w (order ∷ others)
     ≡ met_first side t order (taken side t w order)

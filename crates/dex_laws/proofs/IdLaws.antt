@@ -85,7 +85,7 @@ pub precedes-irreflexive : (side : Side) (id : ℕ) → precedes side id id ≡ 
 precedes-irreflexive Bid id = le-ltb id id (omega arith)
 precedes-irreflexive Ask id = le-ltb id id (omega arith)
 
--- who stands before one stands before all behind it
+-- who stands before one stands before all after it
 pub precedes-transitive : (side : Side) (first next last : ℕ) → precedes side first next ≡ true → precedes side next last ≡ true → precedes side first last ≡ true
 precedes-transitive Bid first next last before behind = lt-ltb last first (omega (arith, ltb-true next first before, ltb-true last next behind))
 precedes-transitive Ask first next last before behind = lt-ltb first last (omega (arith, ltb-true first next before, ltb-true next last behind))

@@ -22,7 +22,7 @@ meet-left side t = meet-induction side t (λ w orders met. IsLeftOf met.left ord
   whole = λ w order others lots rest takes whole held. inr (inr held);
 })
 
--- what holds of a side, of the orders behind its first, and of those with a part of the first, holds of what is left
+-- what holds of a side, of the orders after its first, and of those with a part of the first, holds of what is left
 pub IsLeftOf-induction : (P : List Order → Type 0)
     → ((order : Order) (others : List Order) → P (order ∷ others) → P others)
     → ((order : Order) (others : List Order) (lots : ℕ) → 0 < lots → lots < order.lots → P (order ∷ others) → P (less order lots ∷ others))

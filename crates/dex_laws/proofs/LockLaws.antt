@@ -52,8 +52,8 @@ pub locked-posted : (sizes : Lots) (side : Side) (order : Order) (orders : List 
     → locked side sizes (posted side order orders) ≡ order_lock side sizes order + locked side sizes orders
 locked-posted sizes side = total-posted (order_lock side sizes) side
 
--- a posting with its last event: what stands and what the event tells is what stood and the order, by any weights that an
--- out of an order with no lots, and one of an order that leaves with all its lots, tell
+-- a posting with its last event: what stands and what the event tells is what stood and the order, by any weights that
+-- an out of an order with no lots, and one of an order that leaves with all its lots, tell
 pub post-told : (side : Side) (sizes : Lots) (weight : Order → ℕ) (told : QueuedEvent → ℕ)
     → ((order : Order) → told (releasing_out side sizes order order.lots) ≡ weight order)
     → (room : ℕ) (order : Order) (orders : List Order) → 0 < room → (order.lots ≡ 0 → told (plain_out side order) ≡ weight order)

@@ -31,7 +31,8 @@ pub meet-whole : (side : Side) (t : TakerTerms) (w : Demand) (order : Order) (ot
 meet-whole side t w order others some whole =
     cond-false _ _ _ (ne_eqb (taken side t w order) 0 (λ none. omega arith)) ∙ cond-false _ _ _ (le-ltb _ _ whole)
 
--- the cases of a meeting: it is over; it ends with a part of an order; an order is met as a whole, and the others are met
+-- the cases of a meeting: it is over; it ends with a part of an order; an order is met as a whole, and the others are
+-- met
 pub record MeetCases (side : Side) (t : TakerTerms) (P : Demand → List Order → Meeting → Type 0) : Type 0 where
   pub ended : (w : Demand) (orders : List Order) → TakesNone side t w orders → P w orders (met_none side t w orders)
   pub part : (w : Demand) (order : Order) (others : List Order) (lots : ℕ) → Takes side t w order lots → lots < order.lots

@@ -41,8 +41,8 @@ met_events-whole side t order other =
     let all : eqb order.lots order.lots ≡ true = eq-eqb order.lots order.lots refl in
     rw (other, all) refl
 
--- a weight of orders and a weight of events, by which an order loses what its events tell: in part or as a whole, to its
--- own trader or to another
+-- a weight of orders and a weight of events, by which an order loses what its events tell: in part or as a whole, to
+-- its own trader or to another
 pub record Tells (side : Side) (t : TakerTerms) (Q : Order → Type 0) (weight : Order → ℕ) (told : QueuedEvent → ℕ) : Type 0 where
   pub own_part : (order : Order) (lots : ℕ) → Q order → 0 < lots → lots < order.lots
       → weight order ≡ weight (less order lots) + told (releasing_out (opposite side) t.sizes order lots)

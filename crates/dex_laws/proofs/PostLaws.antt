@@ -13,7 +13,7 @@ use Rattle.dex_laws.specs.Posted.{place_of, weight_of}
 use Rattle.dex_types.specs.Totals.{total}
 use Rattle.dex_laws.proofs.IdLaws.{precedes-total, precedes-transitive}
 
--- an order is posted behind those that stand before it
+-- an order is posted after those that stand before it
 pub posted-behind : (side : Side) (order first : Order) (others : List Order) → precedes side first.id order.id ≡ true
     → posted side order (first ∷ others) ≡ first ∷ posted side order others
 posted-behind side order first others before = cond-true _ _ _ before
@@ -23,7 +23,7 @@ pub posted-here : (side : Side) (order first : Order) (others : List Order) → 
     → posted side order (first ∷ others) ≡ order ∷ first ∷ others
 posted-here side order first others behind = cond-false _ _ _ behind
 
--- what holds of the order put first, and of it put behind a first that stands before it, holds of it in its place
+-- what holds of the order put first, and of it put after a first that stands before it, holds of it in its place
 pub posted-induction : (side : Side) (order : Order) (P : List Order → List Order → Type 0) → P [] (order ∷ [])
     → ((first : Order) (others : List Order) → precedes side first.id order.id ≡ false → P (first ∷ others) (order ∷ first ∷ others))
     → ((first : Order) (others : List Order) (rest : List Order) → precedes side first.id order.id ≡ true → P others rest → P (first ∷ others) (first ∷ rest))

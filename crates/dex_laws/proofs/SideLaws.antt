@@ -42,7 +42,7 @@ All-before side (first ∷ before) order after sorted =
     All-cons (λ (o : Order). precedes side o.id order.id ≡ true) first before (PrecedesAll-back side first.id before (order ∷ after) sorted.0).0
     (All-before side before order after sorted.1)
 
--- and that one stands before each behind it
+-- and that one stands before each after it
 pub PrecedesAll-after : (side : Side) (before : List Order) (order : Order) (after : List Order) → InBookOrder side (before ++ order ∷ after) → PrecedesAll side order.id after
 PrecedesAll-after side before order after sorted = (InBookOrder-back side before (order ∷ after) sorted).0
 

@@ -53,7 +53,8 @@ pub put_trader-there : (address : Address) (trader : Trader) (entry : Address ×
     → put_trader address trader (entry ∷ others) ≡ entry ∷ put_trader address trader others
 put_trader-there address trader entry others apart = cond-false _ _ _ apart
 
--- what holds of no traders, of lists in which the address stands first, and of lists behind another address, holds of all
+-- what holds of no traders, of lists in which the address stands first, and of lists after another address, holds of
+-- all
 pub traders-induction : (address : Address) (P : Traders → Type 0) → P []
     → ((entry : Address × Trader) (others : Traders) → is_same address entry.0 ≡ true → P (entry ∷ others))
     → ((entry : Address × Trader) (others : Traders) → is_same address entry.0 ≡ false → P others → P (entry ∷ others))

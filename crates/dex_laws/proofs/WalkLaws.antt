@@ -27,7 +27,7 @@ pub walk-start : (orders : List Order) → (orders_from (best_of orders) orders 
 walk-start [] = (refl, tt)
 walk-start (first ∷ others) = (cond-true _ _ _ (eq-eqb first.id first.id refl), cond-true _ _ _ (eq-eqb first.id first.id refl))
 
--- the first order behind another one on a side in book order is reached, with all behind that before it
+-- the first order after another one on a side in book order is reached, with all after that before it
 reached-behind : (side : Side) (before : List Order) (order : Order) (after : List Order) → InBookOrder side (before ++ order ∷ after)
     → (orders_from (best_of after) (before ++ order ∷ after) ≡ after) × IsReached (best_of after) (before ++ order ∷ after)
 reached-behind side before order [] sorted = (refl, tt)
@@ -38,7 +38,7 @@ reached-behind side before order (next ∷ after) sorted =
     let there : IsBetween next.id (before ++ order ∷ next ∷ after) (before ++ order ∷ []) next after = record { is = sym regroup; id_is = refl; apart = at.apart } in
     (from_id-between next.id _ (before ++ order ∷ []) next after there, order_with-between next.id _ (before ++ order ∷ []) next after there)
 
--- a walk goes on: behind an order that is reached is what the order that follows has before it
+-- a walk goes on: after an order that is reached is what the order that follows has before it
 pub walk-step : (side : Side) (orders : List Order) (order : Order) → InBookOrder side orders → order_with order.id orders ≡ Some order
     → (orders_from (Some order) orders ≡ order ∷ orders_from (order_after order.id orders) orders) × IsReached (order_after order.id orders) orders
 walk-step side orders order sorted found =

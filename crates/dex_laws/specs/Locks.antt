@@ -12,8 +12,8 @@ use Rattle.dex_types.specs.Owed.{order_lock}
 abbrev pub locked : Side → Lots → List Order → ℕ
 locked side sizes orders = total (order_lock side sizes) orders
 
--- the native amount that an event of this kind took off the locks of the side: what a fill paid, a bid's rebate with it,
--- or what an out released
+-- the native amount that an event of this kind took off the locks of the side: what a fill paid, a bid's rebate with
+-- it, or what an out released
 abbrev pub unlocked_as : Side → EventKind → QueuedEvent → ℕ
 unlocked_as Bid (MakerFill Bid) event = event.paid + event.fee_or_rebate
 unlocked_as Bid (ReleasingOut Bid) event = event.released

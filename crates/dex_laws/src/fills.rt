@@ -11,7 +11,8 @@ pub fn fills_are_at_the_makers_price()
     ensures { EachMeeting (λ side t w orders met. All (IsPricedByMaker t.program t.sizes) met.events) }
 {}
 
-/// A bid pays at most its limit price for all that it gets, and an ask gets at least its limit price for all that it gives.
+/// A bid pays at most its limit price for all that it gets, and an ask gets at least its limit price for all that it
+/// gives.
 pub fn a_taker_trades_within_its_limit()
     ensures { EachMeeting (λ side t w orders met. IsWithinLimit side t.sizes t.limit_price met.lots met.pc) }
 {}

@@ -7,7 +7,7 @@ ghost use Rattle.dex_types.specs.Posting.{InBookOrder, posted};
 ghost use Rattle.dex_laws.specs.Posted.{place_of, weight_of, EachPosting};
 ghost use Rattle.dex_types.specs.Totals.{total};
 
-/// An order is put in its place, behind those that stand before it; where its id is new the side stays in book order.
+/// An order is put in its place, after those that stand before it; where its id is new the side stays in book order.
 pub fn a_posted_order_stands_in_its_place()
     ensures in_order { (side : Side) (order : Order) (orders : List Order) →
         All (λ (o : Order). o.id ≢ order.id) orders →

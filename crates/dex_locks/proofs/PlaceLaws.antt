@@ -7,7 +7,7 @@ use Rattle.dex_locks.specs.declared.insert.Carry.{Carry}
 use Rattle.dex_locks.specs.declared.insert.Carry.TheVariants.{Nothing, New, Moved}
 use Rattle.dex_locks.specs.Places.{AreFree, StandInFront, carry_of, front, put}
 
--- so many places with addresses from the front
+-- this many places with addresses from the front
 abbrev pub padded : ℕ → List Address → List (Option Address)
 padded zero addresses = []
 padded (suc n) [] = None ∷ padded n []

@@ -18,7 +18,7 @@ AreFree [] = Unit {0}
 AreFree (None ∷ places) = AreFree places
 AreFree ((Some address) ∷ places) = ⊥
 
--- behind the first free place each is free
+-- after the first free place each is free
 abbrev pub StandInFront : List (Option Address) → Type 0
 StandInFront [] = Unit {0}
 StandInFront (None ∷ places) = AreFree places

@@ -71,7 +71,7 @@ fn put_new(place: &mut Option<Address>, address: Address) -> Carry
     }
 }
 
-/// The same where an address stands in the place.
+/// Like `put_new`, where an address stands in the place.
 fn put_before(place: &mut Option<Address>, first: Address, address: Address) -> Carry
     requires { place.old ≡ Some first }
     ensures { (others : List (Option Address)) → put (Carry.New address) (Some first ∷ others)

@@ -9,8 +9,8 @@ ghost use Rattle.dex_locks.specs.Places.{StandInFront, front};
 use crate::insert::{is_lower, put_role};
 use dex_types::{Address, Row};
 
-/// What a row takes, in the order in which it takes it: its market, and then the wallets from the front, as far as there
-/// are any.
+/// What a row takes, in the order in which it takes it: its market, and then the wallets from the front, as far as
+/// there are any.
 #[derive(Clone, Copy, Debug, PartialEq, Eq)]
 pub struct LockPlan {
     pub market: Address,

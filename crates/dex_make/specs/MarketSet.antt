@@ -22,8 +22,8 @@ initial_terms (InitializeMarket coin_lot pc_lot fee_rate_bps nonce dust) =
     record { coin_lot = coin_lot; pc_lot = pc_lot; fee_rate_bps = fee_rate_bps; nonce = nonce; dust = dust }
 initial_terms _ = record { coin_lot = 0; pc_lot = 0; fee_rate_bps = 0; nonce = 0; dust = 0 }
 
--- a market can be made of this: the instruction makes one, the capacities are within their limits, and the last byte of the
--- address is left for the addresses of its parts
+-- a market can be made of this: the instruction makes one, the capacities are within their limits, and the last byte of
+-- the address is left for the addresses of its parts
 pub record IsMarketSet (set : MarketSet) : Type 0 where
   pub instruction : IsInitialize set.ix
   pub some_bids : 1 ≤ set.bid_nodes

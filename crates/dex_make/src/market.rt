@@ -29,8 +29,8 @@ use dex_slab::side_flags;
 use dex_types::{AccountFlags, Address, Ix, MarketAccounts, NoMemory, Side};
 use std::alloc::Global;
 
-/// What a market is made of: its address, the person who signs for it, the mints of base (coin) and quote (pc), how many
-/// nodes each side and how many events the queue is to have, and the instruction that says the rest.
+/// What a market is made of: its address, the person who signs for it, the mints of base (coin) and quote (pc), how
+/// many nodes each side and how many events the queue is to have, and the instruction that says the rest.
 #[derive(Clone, Copy, Debug, PartialEq, Eq)]
 pub struct MarketSet {
     pub address: Address,
@@ -55,7 +55,8 @@ pub struct MarketRoom {
 }
 
 impl MarketRoom {
-    /// Room for the accounts that are made of this, each large one with room for the text of the largest. It takes memory, and touches none.
+    /// Room for the accounts that are made of this, each large one with room for the text of the largest. It takes
+    /// memory, and touches none.
     pub fn new(alloc: Global, set: &MarketSet) -> Result<MarketRoom, NoMemory>
         requires { IsMarketSet set.now }
     {
@@ -85,7 +86,7 @@ pub fn make_market(alloc: Global, set: &MarketSet) -> Result<MarketAccounts, NoM
     make_market_in(alloc, set, MarketRoom::new(alloc, set)?)
 }
 
-/// The same, the large accounts in room that is there, whatever stands in it.
+/// Like `make_market`, the large accounts in room that is there, whatever stands in it.
 pub fn make_market_in(
     alloc: Global,
     set: &MarketSet,
@@ -154,7 +155,7 @@ fn write_requests(bytes: &mut [u8])
     write_empty_account(bytes, AccountFlags::REQUEST_QUEUE_ACCOUNT.0);
 }
 
-/// An event queue as it is made, with room for so many events.
+/// An event queue as it is made, with room for this many events.
 fn event_queue(alloc: Global, room: Vec<u8>, events: u32) -> Result<Vec<u8>, NoMemory>
     requires some { 1 ≤ events }
     requires few { events ≤ 65535 }
@@ -168,7 +169,7 @@ fn event_queue(alloc: Global, room: Vec<u8>, events: u32) -> Result<Vec<u8>, NoM
     Ok(bytes)
 }
 
-/// A side's account as it is made, with so many nodes.
+/// A side's account as it is made, with this many nodes.
 fn side_account(alloc: Global, room: Vec<u8>, side: Side, nodes: u32) -> Result<Vec<u8>, NoMemory>
     requires some { 1 ≤ nodes }
     requires few { nodes ≤ 65536 }
@@ -182,8 +183,8 @@ fn side_account(alloc: Global, room: Vec<u8>, side: Side, nodes: u32) -> Result<
     Ok(bytes)
 }
 
-/// An account of so many bytes with nothing in it, which has these flags. It stands where these bytes stood, if there is room for it; else
-/// elsewhere.
+/// An account of this many bytes with nothing in it, which has these flags. It stands where these bytes stood, if there
+/// is room for it; else elsewhere.
 fn empty_account(alloc: Global, room: Vec<u8>, size: usize, flags: u64) -> Result<Vec<u8>, NoMemory>
     requires { 20 ≤ size }
     ensures { IfOk result (λ bytes. bytes.items ≡ empty_account size flags) }
@@ -193,7 +194,8 @@ fn empty_account(alloc: Global, room: Vec<u8>, size: usize, flags: u64) -> Resul
     Ok(bytes)
 }
 
-/// Makes so many zeros an account with nothing in it, as `write_empty_account` makes any bytes one. Large accounts are written once so.
+/// Makes this many zeros an account with nothing in it, as `write_empty_account` makes any bytes one. Large accounts
+/// are written once so.
 fn write_on_zeros(bytes: &mut [u8], size: usize, flags: u64)
     requires zeros { bytes.old ≡ replicate size 0 }
     requires size { length bytes.old ≡ size }

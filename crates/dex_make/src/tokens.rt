@@ -11,8 +11,8 @@ use dex_fields::{mint, put_addr, put_u8, put_u64, token_account};
 use dex_types::{Address, NoMemory};
 use std::alloc::Global;
 
-/// A mint of this supply, in native units, that shows amounts with so many decimals. All other bytes are zero, but for the
-/// one that says that it is initialized.
+/// A mint of this supply, in native units, that shows amounts with this many decimals. All other bytes are zero, but
+/// for the one that says that it is initialized.
 pub fn make_mint(alloc: Global, supply: u64, decimals: u8) -> Result<Vec<u8>, NoMemory>
     ensures bytes { IfOk result (λ bytes. bytes.items ≡ mint_bytes supply decimals) }
     ensures words { IfOk result (λ bytes. mint_words bytes.items ≡ record { supply = supply; decimals = decimals }) }
@@ -23,7 +23,8 @@ pub fn make_mint(alloc: Global, supply: u64, decimals: u8) -> Result<Vec<u8>, No
     Ok(bytes)
 }
 
-/// A token account of this mint and owner, with this amount in native units. Its state is 1, and all other bytes are zero.
+/// A token account of this mint and owner, with this amount in native units. Its state is 1, and all other bytes are
+/// zero.
 pub fn make_wallet(
     alloc: Global,
     mint: Address,

@@ -16,8 +16,8 @@ pub fn zeros(alloc: Global, size: usize) -> Result<Vec<u8>, NoMemory>
     Ok(bytes)
 }
 
-/// Room for so many bytes, where they are many: so much that a text of up to `most` bytes in base64 can stand there later. It takes memory,
-/// and touches none.
+/// Room for this many bytes, where they are many: so much that a text of up to `most` bytes in base64 can stand there
+/// later. It takes memory, and touches none.
 pub(crate) fn room_for(alloc: Global, size: usize, most: usize) -> Result<Vec<u8>, NoMemory>
     ensures { IfOk result (λ room. room.items ≡ []) }
 {

@@ -1,4 +1,5 @@
--- The first rule that an account breaks by itself, with the place and the values found and wanted there. The rules stand in the order of their kinds, those of one kind in the order of their places.
+-- The first rule that an account breaks by itself, with the place and the values found and wanted there. The rules
+-- stand in the order of their kinds, those of one kind in the order of their places.
 use Rattle.std.specs.Prelude.{ℕ, Bool, ◌||◌, List, [], ◌∷◌, ◌++◌, length, take, drop, slice_index, slice_index_or, Option, Some, None, if◌then◌else◌, ◌==◌, nat_lt}
 use Rattle.std.specs.Option.{option_map, option_or}
 use Rattle.std.specs.List.{list_any}
@@ -13,7 +14,7 @@ use Rattle.dex_types.specs.AccountFaults.{flags_fault, size_fault, text_fault, w
 use Rattle.dex_types.specs.Addresses.{is_same}
 use Rattle.dex_market.specs.MarketAccount.{address_in}
 
--- kind 5: an address that stands elsewhere too, told by its first byte
+-- kind 5: an address that stands elsewhere too, reported by its first byte
 abbrev pub address_fault : List ℕ → Field → AccountFault
 address_fault bytes field = word_fault field.at (slice_index bytes field.at) 0
 

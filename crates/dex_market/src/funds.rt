@@ -1,4 +1,5 @@
-//! What a market's words tell together: its lot sizes, the amounts of its vaults, and the funds that steps write at once.
+//! What a market's words tell together: its lot sizes, the amounts of its vaults, and the funds that steps write at
+//! once.
 
 ghost use Rattle.std.specs.Prelude.{◌≡◌, ◌<◌, ◌^◌};
 ghost use Rattle.dex_market.specs.MarketAccount as account;
@@ -8,8 +9,8 @@ ghost use Rattle.dex_types.specs.Side as book;
 use crate::{MarketRef, MarketView};
 use dex_types::Lots;
 
-/// The funds of a market, in native amounts: the deposits of both tokens, and of the quote what the market earned and what
-/// referrers are still to get.
+/// The funds of a market, in native amounts: the deposits of both tokens, and of the quote what the market earned and
+/// what referrers are still to get.
 #[derive(Clone, Copy)]
 pub struct MarketFunds {
     pub coin_deposits: u64,

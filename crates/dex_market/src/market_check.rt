@@ -149,7 +149,7 @@ fn address_in(bytes: &[u8], field: Field) -> Address
     Address(get_addr(bytes, field))
 }
 
-/// The fault of an address that stands elsewhere too, told by its first byte.
+/// The fault of an address that stands elsewhere too, reported by its first byte.
 fn address_fault(bytes: &[u8], field: Field) -> AccountFault
     requires within { field.at < length bytes.now }
     requires low { field.at < 388 }

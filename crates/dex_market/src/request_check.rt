@@ -17,9 +17,9 @@ const LEAST: usize = 44;
 /// Whether the bytes are a request queue, by the rules that need this account alone; else the first rule that is
 /// broken, by its kind and then by its place.
 ///
-/// In the order of their kinds the rules are: there are at least 44 bytes; `serum` stands at the front and `padding`
-/// at the end; the flags are 9; head and count are 0. What its ring holds is not read. A place in the text that is
-/// above the largest u32 is told as that.
+/// In the order of their kinds the rules are: there are at least 44 bytes; `serum` stands at the front and `padding` at
+/// the end; the flags are 9; head and count are 0. What its ring holds is not read. A place in the text that is above
+/// the largest u32 is reported as that.
 pub fn check_requests(bytes: &[u8]) -> Result<(), AccountFault>
     ensures ok { IsOk result ↔ IsRequestQueue bytes.now }
     ensures fault { result_err result ≡ requests_fault bytes.now }

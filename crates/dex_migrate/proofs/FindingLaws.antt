@@ -54,7 +54,7 @@ module _ (nodes events : ℕ) (old new : PlainMarketAccounts) (migrated : IsMigr
   same-amounts : (mint : _) → amount_of mint new.coin_vault + amount_of mint new.pc_vault ≡ amount_of mint old.coin_vault + amount_of mint old.pc_vault
   same-amounts mint = ap (λ (a : PlainMarketAccounts). amount_of mint a.coin_vault + amount_of mint a.pc_vault) migrated.others
 
--- two lists behind one another
+-- two lists after one another
 joined : {first same : List Finding} {second other : List Finding} → first ≡ same → second ≡ other → first ++ second ≡ same ++ other
 joined {first} {same} {second} {other} one two = ap (λ (l : List Finding). l ++ second) one ∙ ap (λ (l : List Finding). same ++ l) two
 

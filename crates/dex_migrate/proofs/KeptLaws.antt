@@ -1,4 +1,5 @@
--- What migrating keeps: accounts that were accepted are accepted again, and each market stands for the same market with other capacities.
+-- What migrating keeps: accounts that were accepted are accepted again, and each market stands for the same market with
+-- other capacities.
 use Rattle.std.proofs.Common.{◌≡◌, ◌≤◌, ◌+◌, ◌∷◌, ◌++◌, ◌∙◌, [], ℕ, suc, List, All, arith, refl, sym, ap, subst, length, map}
 use Rattle.std.specs.List.{AllZip, flat_map}
 use Rattle.std.proofs.lemmas.List.Elements.{All-cons, All-head, All-nil, All-tail}

@@ -15,26 +15,26 @@ use Rattle.dex_types.specs.declared.terms.Side.TheVariants.{Bid, Ask}
 use Rattle.dex_types.specs.Accounts.{PlainAccounts, PlainMarketAccounts}
 use Rattle.dex_types.specs.Market.{Market}
 
--- the bytes are an account of the side that is made with so many nodes, and holds the orders of another one
+-- the bytes are an account of the side that is made with this many nodes, and holds the orders of another one
 pub record IsSideOf (side : Side) (nodes : ℕ) (old new : List ℕ) : Type 0 where
   pub account : IsSideAccount side new
   pub size : length new ≡ slab.made_size nodes
   pub orders : resting side new ≡ resting side old
   pub room : room_in new ≡ room_of nodes
 
--- an event queue as it is made for so many events, to which the events of another one were appended, with the other's count of
--- all events: so its head is 0, and all bytes behind the events in use are zero
+-- an event queue as it is made for this many events, to which the events of another one were appended, with the other's
+-- count of all events: so its head is 0, and all bytes after the events in use are zero
 abbrev pub queue_with : ℕ → List ℕ → List ℕ
 queue_with events old = with_number (pushed_all (events_of old) (queue.blank_queue (queue.made_size events))) SEQ_NUM (ring_of old).seq_num
 
--- the bytes are an event queue that is made for so many events, and holds those of another one
+-- the bytes are an event queue that is made for this many events, and holds those of another one
 pub record IsQueueOf (events : ℕ) (old new : List ℕ) : Type 0 where
   pub account : IsEventQueue new
   pub bytes : new ≡ queue_with events old
   pub ring : ring_of new ≡ record (ring_of old) { capacity = events }
 
--- the accounts of a market with sides of so many nodes and a queue for so many events in the place of its own; all else is as
--- it was
+-- the accounts of a market with sides of this many nodes and a queue for this many events in the place of its own; all
+-- else is as it was
 pub record IsMigrated (nodes events : ℕ) (old new : PlainMarketAccounts) : Type 0 where
   pub bids : IsSideOf Bid nodes old.bids new.bids
   pub asks : IsSideOf Ask nodes old.asks new.asks
@@ -46,7 +46,7 @@ pub record AreMigrated (nodes events : ℕ) (old new : PlainAccounts) : Type 0 w
   pub markets : AllZip (IsMigrated nodes events) old.markets new.markets
   pub others : record new { markets = old.markets } ≡ old
 
--- the market with sides that have room for what so many nodes hold, and a queue with room for so many events
+-- the market with sides that have room for what so many nodes hold, and a queue with room for this many events
 abbrev pub with_capacities : ℕ → ℕ → Market → Market
 with_capacities nodes events m =
     record m { listing = record m.listing { bid_capacity = room_of nodes; ask_capacity = room_of nodes; event_capacity = events } }

@@ -1,4 +1,4 @@
-//! Accounts of another size: every side of the book with so many nodes, and every event queue with room for so many
+//! Accounts of another size: every side of the book with this many nodes, and every event queue with room for this many
 //! events.
 #![tactic(auto)]
 

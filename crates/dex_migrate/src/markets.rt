@@ -36,7 +36,7 @@ fn migrate_market(
     Ok(())
 }
 
-/// The same of the market at this place; all others stay.
+/// Like `migrate_market`, of the market at this place; all others stay.
 fn migrate_at(
     alloc: Global,
     markets: &mut [MarketAccounts],
@@ -55,7 +55,7 @@ fn migrate_at(
     migrate_market(alloc, &mut markets[place], nodes, events)
 }
 
-/// The same of each market.
+/// Like `migrate_at`, of each market.
 pub fn migrate_markets(
     alloc: Global,
     markets: &mut [MarketAccounts],

@@ -46,7 +46,7 @@ fn fill_queue(bytes: &mut [u8], old: &[u8], events: u32)
     copy_bytes(old, bytes);
 }
 
-/// The same on a queue that is empty.
+/// Like `fill_queue`, on a queue that is empty.
 fn copy_bytes(old: &[u8], bytes: &mut [u8])
     requires old { IsEventQueue old.now }
     requires to { IsEventQueue bytes.old }
@@ -62,7 +62,7 @@ fn copy_bytes(old: &[u8], bytes: &mut [u8])
     queue.set_seq_num(get_u64(old, SEQ_NUM));
 }
 
-/// An event queue with room for so many events and those of this one, which fit.
+/// An event queue with room for this many events and those of this one, which fit.
 pub fn migrate_queue(alloc: Global, old: &[u8], events: u32) -> Result<Vec<u8>, NoMemory>
     requires old { IsEventQueue old.now }
     requires some { 1 ≤ events }

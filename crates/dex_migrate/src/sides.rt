@@ -34,7 +34,7 @@ fn copy_orders(from: &SlabRef<'_>, to: &mut SlabView<'_>)
     }
 }
 
-/// The same, from bytes to bytes.
+/// Like `copy_orders`, from bytes to bytes.
 pub fn copy_bytes(from: &[u8], to: &mut [u8], side: Side)
     requires from { IsSlab from.now }
     requires to { IsSlab to.old }
@@ -49,7 +49,7 @@ pub fn copy_bytes(from: &[u8], to: &mut [u8], side: Side)
     copy_orders(&from, &mut SlabView { bytes: to, side });
 }
 
-/// An account of a side with so many nodes and the orders of this one, which fit.
+/// An account of a side with this many nodes and the orders of this one, which fit.
 pub fn migrate_side(alloc: Global, side: Side, old: &[u8], nodes: u32) -> Result<Vec<u8>, NoMemory>
     requires old { IsSideAccount side old.now }
     requires some { 1 ≤ nodes }

@@ -12,7 +12,7 @@ use dex_ring::RingRef;
 use dex_slab::SlabRef;
 use dex_types::{Address, MarketAccounts, Side, SideRead};
 
-/// How many orders a side with so many nodes has room for.
+/// How many orders a side with this many nodes has room for.
 fn room_for(nodes: u32) -> u32
     requires { nodes ≤ 65536 }
     ensures { result ≡ room_of nodes }
@@ -20,7 +20,7 @@ fn room_for(nodes: u32) -> u32
     nodes.div_ceil(2)
 }
 
-/// So many are more than so many fit.
+/// Whether this many are more than fit.
 fn more_than(market: Address, what: MigrateWhat, needed: u32, given: u32) -> Option<MigrateFault>
     ensures { result ≡ small.more_than market what needed given }
 {

@@ -2,8 +2,8 @@
 
 ghost use Rattle.std.specs.Prelude.{◌≡◌};
 
-/// What a row moves between the wallets of its roles and the vaults of its market, in native amounts: what the `coin` and the
-/// `pc` wallet pay in, and what the `coin`, the `pc` and the `referrer` wallet are paid out.
+/// What a row moves between the wallets of its roles and the vaults of its market, in native amounts: what the `coin`
+/// and the `pc` wallet pay in, and what the `coin`, the `pc` and the `referrer` wallet are paid out.
 #[derive(Clone, Copy, Debug, PartialEq, Eq)]
 pub struct Amounts {
     pub coin_in: u64,

@@ -22,9 +22,9 @@ fn moved_at(seen: &Seen, amounts: &Amounts, place: Option<Address>) -> Option<Mo
     }
 }
 
-/// Puts the movements of a row that moves these amounts into empty places: one for each wallet that it names, under whichever
-/// roles, by rising address, from the front. Each is a debit of all that is taken from the wallet, else a credit of all that is
-/// brought to it, else a probe of nothing, and has the balance that the row saw.
+/// Puts the movements of a row that moves these amounts into empty places: one for each wallet that it names, under
+/// whichever roles, by rising address, from the front. Each is a debit of all that is taken from the wallet, else a
+/// credit of all that is brought to it, else a probe of nothing, and has the balance that the row saw.
 pub fn put_moves(row: &Row, seen: &Seen, amounts: &Amounts, moves: &mut [Option<Movement>; 4])
     requires empty { moves.old ≡ places [] }
     requires sees { Sees (asked_of (row_of row.now)) seen.now }

@@ -1,5 +1,5 @@
--- An item leaves the world after its calls: each of its rows is refused in the world before it just where its call was, so all act, or each
--- that is not refused is held back.
+-- An item leaves the world after its calls: each of its rows is refused in the world before it just where its call was,
+-- so all act, or each that is not refused is held back.
 use Rattle.std.proofs.Common.{◌≡◌, ◌&&◌, ◌||◌, not, Bool, true, false, cond, List, [], ◌∷◌, ◌++◌, get_or, map, Option, is_some, refl, sym, ap, ◌∙◌, subst, ⊎_elim}
 use Rattle.dex_fold.proofs.Common.{All-append, All-cons, All-head, All-map, All-nil, All-tail, Asked, Call, EachApart, Market, PlainRow, Seen, ShareNothing, World, act, act_item, cases_Bool, chosen, cond-false, cond-true, cond_both, flat_map, fold, fold_items, idle_row, is_held, is_refused, list_any, why, why-far, why_in, why_on}
 use Rattle.dex_replay.proofs.Common.{PlainScript}
@@ -26,14 +26,14 @@ module _ (row : PlainRow) where
   acted-far other call far =
       cond_both (is_held call) (idle_row other) other IsFar (λ held. record { markets = far.markets; wallets = far.wallets }) (λ own. far)
 
-  -- so it is refused behind them just where it is before them
+  -- so it is refused after them just where it is before them
   why-still : (rows : List PlainRow) (world : World) → All IsFar rows → why_in (fold rows world) row ≡ why_in world row
   why-still [] world far = refl
   why-still (other ∷ rows) world far = why-still rows (act other world) (All-tail IsFar other rows far) ∙ why-far other row (All-head IsFar other rows far) world
 
 -- ---- which rows of an item are refused in the world before it
 
--- some calls are those of items, with others before and behind
+-- some calls are those of items, with others before and after
 module _ (script : PlainScript) (made : List (Stamped Call)) (once : AreOnce script) where
   -- a row is refused there just where its call was
   abbrev IsToldRight : Item script → Type 0

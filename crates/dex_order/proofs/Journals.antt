@@ -1,4 +1,5 @@
--- The calls of all lanes, sorted by their stamps, are on each market its journal, and in each wallet's journal its entries.
+-- The calls of all lanes, sorted by their stamps, are on each market its journal, and in each wallet's journal its
+-- entries.
 use Rattle.std.proofs.Common.{◌≡◌, ℕ, ◌<◌, Bool, true, false, cond, eqb, List, [], ◌∷◌, ◌++◌, length, map, get_or, refl, sym, ap, ◌∙◌, subst}
 use Rattle.dex_fold.proofs.Common.{Address, All-cons, All-map, All-nil, All-weaker, Call, IsLegal, IsWalletLegal, Movement, PlainAccount, PlainMarketAccounts, WalletEntry, filter, filter-append, flat_map, flat_map-append, flat_map-map, is_same, length-map, length-range_with_len, range_with_len}
 use Rattle.dex_replay.proofs.Common.{PlainScript, balance_of, market_in}

@@ -54,7 +54,7 @@ module _ {A : Type 0} (key : A → ℕ) where
   sorted-ordered [] = tt
   sorted-ordered (x ∷ xs) = placed-ordered x (sorted key xs) (sorted-ordered xs)
 
-  -- before all others, and behind some
+  -- before all others, and after some
   pub placed-first : (x : A) (xs : List A) → All (λ y. key x ≤ key y) xs → placed key x xs ≡ x ∷ xs
   placed-first x [] all = refl
   placed-first x (y ∷ ys) all =

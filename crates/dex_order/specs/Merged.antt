@@ -14,8 +14,8 @@ use Rattle.dex_journals.specs.Journals.{market_calls, market_origin, wallet_entr
 use Rattle.dex_journals.specs.StampedCalls.{calls_of_lane, calls_on, entries_of_lane, entries_on}
 use Rattle.dex_journals.specs.Lanes.{IsLaneDone, Lane}
 
--- a market that the script starts with, when all lanes are done: for each lane its journal has just the lane's calls on the
--- market, in their order, and it has no others
+-- a market that the script starts with, when all lanes are done: for each lane its journal has just the lane's calls on
+-- the market, in their order, and it has no others
 pub record IsMarketMerged (script : PlainScript) (lanes : List Lane) (start : PlainMarketAccounts)
     (market : BankMarketState) : Type 0 where
   pub kept : IsBankMarket market

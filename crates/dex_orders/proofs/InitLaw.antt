@@ -57,7 +57,7 @@ module _ (bytes : List ℕ) (market owner : Address) (blank : IsBlank bytes) (ma
   length-now : length now ≡ 3228
   length-now = length-with_bytes freed PADDING END_TEXT ∙ length-freed
 
-  -- a field behind the owner that is not the mask is zero, as it was
+  -- a field after the owner that is not the mask is zero, as it was
   zero_now : (field : Field) → 77 ≤ field.at → end_of field ≤ 3221 → AreApart field FREE_SLOT_BITS → number_in now field ≡ 0
   zero_now field behind before apart =
       number_in-with_bytes_apart freed field PADDING END_TEXT (inl (omega arith))

@@ -55,7 +55,7 @@ module _ (bytes : List ℕ) (slot free_bits bid_bits id client : ℕ) (size : le
       bytes_in-with_number_apart named other (client_field slot) client (inl (omega arith)) ∙ bytes_in-with_number_apart sided other (id_field slot) id (inl (omega arith))
       ∙ bytes_in-with_number_apart freed other IS_BID_BITS bid_bits (inl (omega arith)) ∙ bytes_in-with_number_apart bytes other FREE_SLOT_BITS free_bits (inl low)
 
-  -- the field behind them
+  -- the field after them
   pub referrer_behind : number_in last REFERRER_REBATES_ACCRUED ≡ number_in bytes REFERRER_REBATES_ACCRUED
   referrer_behind = number_apart REFERRER_REBATES_ACCRUED (inr (omega arith)) (inr (omega arith)) (inr (omega arith)) (inr (omega arith))
 

@@ -1,4 +1,5 @@
--- What writes leave of an open account, by its bytes alone: other funds, an order in a slot, and a slot that is free again.
+-- What writes leave of an open account, by its bytes alone: other funds, an order in a slot, and a slot that is free
+-- again.
 use Rattle.std.proofs.Common.{◌≡◌, ◌≢◌, ℕ, zero, suc, ◌+◌, ◌-◌, ◌*◌, ◌/◌, ◌%◌, ◌^◌, ◌<◌, Bool, eqb, List, length, set, Some, None, refl, sym, ap, ◌∙◌, subst, arith, lit<}
 use Rattle.std.proofs.Math.Nat.{add-mul-div_left, add-mul-mod_self_left, mul_assoc, pow-succ'}
 use Rattle.std.proofs.lemmas.Nat.{pow-add, pow_pos}

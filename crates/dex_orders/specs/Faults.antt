@@ -1,4 +1,5 @@
--- The first rule that an open-orders account breaks by itself, with the place and the values found and wanted there. The rules stand in the order of their kinds, those of one kind in the order of their places.
+-- The first rule that an open-orders account breaks by itself, with the place and the values found and wanted there.
+-- The rules stand in the order of their kinds, those of one kind in the order of their places.
 use Rattle.std.specs.Prelude.{ℕ, Bool, ◌||◌, List, length, map, Option, Some, None, if◌then◌else◌, ◌==◌, nat_le}
 use Rattle.std.specs.Option.{option_map, option_or}
 use Rattle.std.specs.List.{list_all, range_with_len}
@@ -56,7 +57,7 @@ pair_rule bytes slot lower =
     then Some (slots_fault slot (number_in bytes (id_field slot)) lower)
     else None
 
--- a slot holds an order that a lower one holds too; the lowest such is told
+-- a slot holds an order that a lower one holds too; the lowest such is reported
 unfoldable pub repeat_rule : List ℕ → ℕ → Option AccountFault
 repeat_rule bytes slot = first_fault (map (pair_rule bytes slot) (range_with_len 0 slot))
 

@@ -113,7 +113,7 @@ HasNoOrder id side slots = (slot : ℕ) → holds_order id side (slice_index_or 
 abbrev pub AreDistinct : List (Option Holding) → Type 0
 AreDistinct slots = (i j : ℕ) → i < j → hold_one (slice_index_or slots j None) (slice_index_or slots i None) ≡ false
 
--- what a slot's order is told as
+-- what a slot's order is reported as
 abbrev pub told_holding : Holding → ℕ × Side × ℕ
 told_holding held = (held.id, held.side, held.client)
 

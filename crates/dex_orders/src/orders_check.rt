@@ -20,7 +20,7 @@ use dex_types::{AccountFault, AccountFlags};
 /// A blank account is 3,228 zeros. Of any other the rules are, in the order of their kinds: the length is 3,228;
 /// `serum` stands at the front and `padding` at the end; the flags are 5, or 256 once it is closed; no free amount is
 /// above its total, and no two taken slots hold one id and side. The last kind's place is the amount's offset, or the
-/// later slot's number, whose id is told as found and the lowest slot with the same id and side as wanted; at one
+/// later slot's number, whose id is reported as found and the lowest slot with the same id and side as wanted; at one
 /// place the amount comes first. What free slots hold is not read.
 pub fn check_orders(bytes: &[u8]) -> Result<(), AccountFault>
     ensures ok { IsOk result ↔ IsOrders bytes.now }

@@ -54,7 +54,7 @@ pub struct Bulk {
     pub summary: usize,
 }
 
-/// Makes scripts of so many rows, and sums up what the second leaves.
+/// Makes scripts of this many rows, and sums up what the second leaves.
 pub fn round<R: Clock + AllocGlobal>(rt: &R, rows: u32) -> Result<Bulk, Error>
     requires some { 1 ≤ rows }
     requires limit { rows ≤ 20000 }

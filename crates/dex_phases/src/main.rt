@@ -1,5 +1,6 @@
-//! Times the phases of a run: `time replay` and `time run` those of the script on standard input, `time bulk ROWS` those of a made
-//! script of so many rows. Without words it goes through them once, and prints what each gave, which is the same at each run.
+//! Times the phases of a run: `time replay` and `time run` those of the script on standard input, `time bulk ROWS`
+//! those of a made script of this many rows. Without words it goes through them once, and prints what each gave, which
+//! is the same at each run.
 #![tactic(auto)]
 
 mod bulk;
@@ -39,7 +40,7 @@ enum Task {
     Replay,
     /// To time those of lanes side by side.
     Run,
-    /// To time those of a made script of so many rows.
+    /// To time those of a made script of this many rows.
     Bulk(u32),
 }
 

@@ -16,9 +16,9 @@ use Rattle.dex_script_facts.specs.PlainScript.{PlainScript}
 use Rattle.dex_script_facts.specs.Facts.{HasNoSwap}
 use Rattle.dex_script.specs.Scripts.{Reads}
 
--- the bytes are those of a script, and the sink took the report of an outcome that is lawful whichever way the lanes acted, with
--- sound markets and conserved mints; of each swap both legs took, or neither. Its values fit and its movements stand from the front,
--- so no other such outcome has this report
+-- the bytes are those of a script, and the sink took the report of an outcome that is lawful whichever way the lanes
+-- acted, with sound markets and conserved mints; of each swap both legs took, or neither. Its values fit and its
+-- movements stand from the front, so no other such outcome has this report
 pub record OneLegalHistory (bytes : List ℕ) (o : Output) : Type 0 where
   pub script : PlainScript
   pub outcome : PlainOutcome
@@ -28,9 +28,9 @@ pub record OneLegalHistory (bytes : List ℕ) (o : Output) : Type 0 where
   pub told : IsToldOutcome outcome
   pub taken : o.taken_after ≡ append_known o.taken (report_text outcome (rows_told script))
 
--- the bytes are those of a script, and the sink took the report of an outcome that is lawful likewise, and that is also what all
--- items leave one after the other, in some order that keeps the order of each lane; and where there is no swap, so do all rows, each
--- by itself. No other such outcome has this report
+-- the bytes are those of a script, and the sink took the report of an outcome that is lawful likewise, and that is also
+-- what all items leave one after the other, in some order that keeps the order of each lane; and where there is no
+-- swap, so do all rows, each by itself. No other such outcome has this report
 pub record OneOrder (bytes : List ℕ) (o : Output) : Type 0 where
   pub script : PlainScript
   pub outcome : PlainOutcome

@@ -14,8 +14,8 @@ use Rattle.dex_commands.specs.Ending.{Ends, Input, Output}
 abbrev pub HasRun : Option Command → Input → Output → ℕ → Type 0
 HasRun asked i o number = (ended : Status) × (number ≡ exit_code ended) × Ends asked i o ended
 
--- how a process ends that began with these words: the program ran on all but the first; on none where they are no text; and where there
--- was no memory for them, nothing was read or written
+-- how a process ends that began with these words: the program ran on all but the first; on none where they are no text;
+-- and where there was no memory for them, nothing was read or written
 abbrev pub EndsProcess : Result (Vec (String Global) Global) WordsError → Input → Output → ℕ → Type 0
 EndsProcess (Ok words) i o number = HasRun (command_of (map (λ word. string_bytes word) (drop 1 words.items))) i o number
 EndsProcess (Err Usage) i o number = HasRun None i o number

@@ -16,8 +16,8 @@ use std::marker::Sync;
 use std::sync::Wait;
 use std::thread::Threads;
 
-/// The report of what is left when the rows of a script have acted in their order on so many threads, or why the bytes are
-/// no script for batches: what `replay` answers, but that a swap is refused. Each row is let in by the pace.
+/// The report of what is left when the rows of a script have acted in their order on so many threads, or why the bytes
+/// are no script for batches: what `replay` answers, but that a swap is refused. Each row is let in by the pace.
 pub fn batch_answer<R: Threads + Wait + Sync, P: Pace + Sync>(
     rt: &R,
     alloc: Global,

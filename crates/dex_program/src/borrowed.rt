@@ -1,5 +1,5 @@
-//! Calls that the program does not make: those that only borrow a script come to what those come to that take it, and `run` and
-//! `run_batch` give what is left without the rows.
+//! Calls that the program does not make: those that only borrow a script come to what those come to that take it, and
+//! `run` and `run_batch` give what is left without the rows.
 
 use dex_bank::Cells;
 use dex_batch::run_batch;

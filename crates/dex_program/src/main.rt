@@ -1,5 +1,5 @@
-//! The program `dex`: it replays scripts, on one thread or in batches on several, or lets their lanes run side by side, and writes
-//! reports, dumps, audits, made scripts and summaries.
+//! The program `dex`: it replays scripts, on one thread or in batches on several, or lets their lanes run side by side,
+//! and writes reports, dumps, audits, made scripts and summaries.
 #![tactic(auto)]
 
 mod batch;

@@ -13,9 +13,9 @@ use std::marker::Sync;
 use std::sync::Wait;
 use std::thread::Threads;
 
-/// Runs the program on all words that its process began with but the first, which is its name. The answer is the number of the status,
-/// with which the process ends. Words that are no text are no command. Where there was no memory for the words it is 7, and nothing is
-/// read or written.
+/// Runs the program on all words that its process began with but the first, which is its name. The answer is the number
+/// of the status, with which the process ends. Words that are no text are no command. Where there was no memory for the
+/// words it is 7, and nothing is read or written.
 pub fn run_process<R: Threads + Wait + Sync, S: Source, K: Sink, P: Pace + Sync>(
     rt: &R,
     alloc: Global,
@@ -34,7 +34,7 @@ pub fn run_process<R: Threads + Wait + Sync, S: Source, K: Sink, P: Pace + Sync>
     }
 }
 
-/// The same where there are no words: they are no text, or there was no memory for them.
+/// Like `run_process`, where there are no words: they are no text, or there was no memory for them.
 fn run_without_words<R: Threads + Wait + Sync, S: Source, K: Sink, P: Pace + Sync>(
     rt: &R,
     alloc: Global,

@@ -23,8 +23,8 @@ use std::thread::Threads;
 
 /// Runs the program on these words, those after its name: the command that they are, or the line that tells how the
 /// program is used. The whole text is built before the first byte is written. `run` and `batch` act on several threads,
-/// which wait for each other: what is promised of them holds where they return. The pace is for tests, and no clause says
-/// when it is called.
+/// which wait for each other: what is promised of them holds where they return. The pace is for tests, and no clause
+/// says when it is called.
 pub fn dex_main<R: Threads + Wait + Sync, S: Source, K: Sink, P: Pace + Sync>(
     rt: &R,
     alloc: Global,

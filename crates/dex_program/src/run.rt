@@ -17,8 +17,8 @@ use std::marker::Sync;
 use std::sync::Wait;
 use std::thread::Threads;
 
-/// The report of what is left when the lanes of a script have run side by side, or why the bytes are no script. Each row is let
-/// in by the pace.
+/// The report of what is left when the lanes of a script have run side by side, or why the bytes are no script. Each
+/// row is let in by the pace.
 pub fn run_answer<R: Threads + Wait + Sync, P: Pace + Sync>(
     rt: &R,
     alloc: Global,

@@ -84,7 +84,7 @@ do,0,m,ann,amy,ann_coin,-,-,-,init
 do,1,n,bob,ben,bob_coin,-,-,-,init
 ";
 
-/// How often a row gives way before it gives up.
+/// How often a row yields before it gives up.
 const MOST_YIELDS: u32 = 1_000_000;
 
 // Holds each row, with the turns of its market and its wallet, until another is inside, or until it gives up.
@@ -147,7 +147,7 @@ do,1,n,bob,-,-,-,-,shared,settle
 ",
 ];
 
-/// How often a row gives way while it is inside.
+/// How often a row yields while it is inside.
 const SHORT: u32 = 1_000;
 
 // Stays inside for a while, and counts the rows, and those that met another inside.
@@ -199,8 +199,8 @@ fn rows_that_share_are_inside_one_at_a_time(rt: HostRuntime) -> Result<(), Fail>
     Ok(())
 }
 
-/// Swaps of a lane over two markets, and of another lane over the same two in the other order, with a row of it on each: of two lanes
-/// no two can be inside at once.
+/// Swaps of a lane over two markets, and of another lane over the same two in the other order, with a row of it on
+/// each: of two lanes no two can be inside at once.
 const SWAPS: &[u8] = b"mint,coin,6
 mint,usd,6
 market,m,coin,usd,admin,5,5,8,AAAAAABkAAAAAAAAAAoAAAAAAAAAAAAAAAAAAAAAAAEAAAAAAAAA

@@ -17,8 +17,8 @@ use std::marker::Sync;
 use std::sync::Wait;
 use std::thread::Threads;
 
-/// What a command on several threads, whose numbers are within their limits, answers to the bytes that it read: the text,
-/// and the status under which it is written. It answers otherwise only for want of memory.
+/// What a command on several threads, whose numbers are within their limits, answers to the bytes that it read: the
+/// text, and the status under which it is written. It answers otherwise only for lack of memory.
 pub fn answer_on_threads<R: Threads + Wait + Sync, P: Pace + Sync>(
     rt: &R,
     alloc: Global,

@@ -16,7 +16,8 @@ use std::alloc::Global;
 use std::marker::Sync;
 use std::thread::Threads;
 
-/// The report of an outcome of so many items, made side by side. The outcome is given up, and its rows. All values that it tells fit.
+/// The report of an outcome of this many items, made side by side. The outcome is given up, and its rows. All values
+/// that it tells fit.
 pub(crate) fn report_of<R: Threads + Sync>(
     rt: &R,
     alloc: Global,

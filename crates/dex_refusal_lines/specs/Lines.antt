@@ -23,7 +23,7 @@ script_fault_name kind =
     else (if kind == 7 then codes "Duplicate" else (if kind == 8 then codes "OverLimit" else (if kind == 9 then codes "SetupRefused"
     else (if kind == 10 then codes "BadSwap" else codes "NoBatch")))))))))
 
--- a setup code behind a space, and nothing for 0
+-- a setup code after a space, and nothing for 0
 abbrev pub code_text : ℕ → List ℕ
 code_text code = if code == 0 then [] else spaced (decimal code)
 
@@ -56,11 +56,11 @@ abbrev pub finding_line : Finding → List ℕ
 finding_line finding = line (codes "finding" ++ spaced (decimal finding.kind) ++ spaced (address_text finding.account)
     ++ spaced (decimal finding.place) ++ spaced (decimal finding.found) ++ spaced (decimal finding.wanted))
 
--- what is told of an audit with findings: each of them, and how many there are
+-- what is recorded of an audit with findings: each of them, and how many there are
 abbrev pub audit_failed : List Finding → List ℕ
 audit_failed found = flat_map finding_line found ++ line (codes "audit failed" ++ spaced (decimal (length found)))
 
--- what is told of an audit without a finding: how many markets and wallets there are
+-- what is recorded of an audit without a finding: how many markets and wallets there are
 abbrev pub audit_ok : ℕ → ℕ → List ℕ
 audit_ok markets wallets = line (codes "audit ok" ++ spaced (decimal markets) ++ spaced (decimal wallets))
 

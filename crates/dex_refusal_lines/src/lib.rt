@@ -1,4 +1,5 @@
-//! The lines that a run writes where it has no report, dump, script or summary: what refuses its input, and what an audit says.
+//! The lines that a run writes where it has no report, dump, script or summary: what refuses its input, and what an
+//! audit says.
 #![tactic(auto)]
 
 mod lines;

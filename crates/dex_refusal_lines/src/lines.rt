@@ -9,8 +9,8 @@ use dex_dump::DumpFault;
 use dex_migrate::MigrateFault;
 use std::fmt;
 
-/// The first faulty row of a script, counted from 1, with the number of the lowest of its faults, from 1 to 11, and that of the
-/// setup code, 0 where it has none. It prints as the line that a run writes.
+/// The first faulty row of a script, counted from 1, with the number of the lowest of its faults, from 1 to 11, and
+/// that of the setup code, 0 where it has none. It prints as the line that a run writes.
 #[derive(Clone, Copy, Debug, PartialEq, Eq)]
 pub struct ScriptRefused {
     pub row: u32,

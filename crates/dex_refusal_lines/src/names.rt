@@ -31,7 +31,7 @@ impl fmt::Display for ScriptFaultName {
     }
 }
 
-/// A setup code behind a space, and nothing for 0.
+/// A setup code after a space, and nothing for 0.
 #[derive(Clone, Copy)]
 pub(crate) struct CodeWord(pub(crate) u8);
 

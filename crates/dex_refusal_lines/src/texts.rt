@@ -1,4 +1,4 @@
-//! The lines as texts. Each call answers otherwise only for want of memory.
+//! The lines as texts. Each call answers otherwise only for lack of memory.
 
 ghost use Rattle.std.specs.Prelude.{◌≡◌, ◌++◌, IfOk, OnOk};
 ghost use Rattle.std.specs.List.{flat_map};
@@ -12,8 +12,8 @@ use dex_migrate::MigrateFault;
 use std::alloc::{AllocError, Global};
 use std::fmt::Write;
 
-/// The line that names the first faulty row of a script: `script refused row R: K NAME`, and behind it the setup code where
-/// it is not 0.
+/// The line that names the first faulty row of a script: `script refused row R: K NAME`, and behind it the setup code
+/// where it is not 0.
 pub fn script_refused_text(alloc: Global, fault: ScriptRefused) -> Result<String, AllocError>
     ensures { IfOk result (λ text. string_bytes text ≡ lines.script_refused fault) }
 {
@@ -28,7 +28,8 @@ pub fn dump_refused_text(alloc: Global, fault: DumpFault) -> Result<String, Allo
     format!(in alloc; "{line}")
 }
 
-/// The lines of an audit with findings: `finding KIND ACCOUNT PLACE FOUND WANTED` for each of them, and `audit failed COUNT`.
+/// The lines of an audit with findings: `finding KIND ACCOUNT PLACE FOUND WANTED` for each of them, and `audit failed
+/// COUNT`.
 pub fn audit_failed_text(alloc: Global, found: &[Finding]) -> Result<String, AllocError>
     ensures { IfOk result (λ text. string_bytes text ≡ lines.audit_failed found.now) }
 {
@@ -48,7 +49,7 @@ fn write_findings(text: &mut String, found: &[Finding]) -> Result<(), AllocError
     Ok(())
 }
 
-/// The line of an audit without a finding, of so many markets and wallets: `audit ok MARKETS WALLETS`.
+/// The line of an audit without a finding, of this many markets and wallets: `audit ok MARKETS WALLETS`.
 pub fn audit_ok_text(alloc: Global, markets: usize, wallets: usize) -> Result<String, AllocError>
     ensures { IfOk result (λ text. string_bytes text ≡ lines.audit_ok markets wallets) }
 {

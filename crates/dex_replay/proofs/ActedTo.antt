@@ -65,7 +65,7 @@ behind-three row rows two place d within =
     let same : suc place + 2 ≡ suc (place + 2) = omega arith in
     subst (λ (n : ℕ). (get_or rows place d).number < (get_or (row ∷ rows) n d).number) same (two (suc place) d (omega (arith, within)))
 
--- rows behind one of a higher number have other numbers too
+-- rows after one of a higher number have other numbers too
 apart-behind : (number : ℕ) (first : PlainRow) (rows : List PlainRow) → number < first.number → AllPairs NeverFalls (first ∷ rows) → All (IsApart number) (first ∷ rows)
 apart-behind number first rows higher rising =
     All-cons (IsApart number) first rows (ne_eqb number first.number (λ same. omega (arith, same, higher)))
@@ -144,7 +144,7 @@ module _ (script : PlainScript) (is : IsScript script) (left : List PlainRow) (p
         All-behind [] all = all
         All-behind (first ∷ front) all = All-behind front (All-tail IsOwn first (front ++ items_of left) all)
 
-    -- behind it
+    -- after it
     acts : (after : CellsState) (behind : List RowPlaces) → AllPairs NeverFalls rest → HasNoThree rest → ArePlacedIn cells rest behind → opened_of after ≡ opened_of cells
         → AreCells after → world_of after ≡ act_item item (world_of cells) → AreLeft script rest behind after
     acts after behind rising two placed kept are acted = record {
@@ -263,7 +263,7 @@ module _ (script : PlainScript) (is : IsScript script) (row : Row) (behind : Opt
 
 -- ---- the rows of buffers
 
--- the row behind it has another number
+-- the row after it has another number
 abbrev pub IsAlone : Row → Option (Bor Row) → Type 0
 IsAlone row behind = (second : PlainRow) → option_map row_of (option_copied behind) ≡ Some second → row.number ≡ second.number → ⊥
 
@@ -293,11 +293,11 @@ pub so-many : (script : PlainScript) (all : List Row) (places : List RowPlaces) 
     → length places ≡ length all
 so-many script all places cells left = AllZip-long (ArePlacesIn cells) (map row_of all) places left.placed ∙ length-map all row_of
 
--- a row and the others behind it have as many places
+-- a row and the others after it have as many places
 pub as-many : (places : List RowPlaces) (all others : List Row) (row : Row) → length places ≡ length all → all ≡ row ∷ others → length places ≡ suc (length others)
 as-many places all others row same is = omega (arith, same, ap (λ (some : List Row). length some) is)
 
--- what is left behind the item that acted
+-- what is left after the item that acted
 pub behind-item : (script : PlainScript) (row : Row) (behind : Option Row) (others all : List Row) (places : List RowPlaces) (at at_behind : RowPlaces) (count : ℕ)
     (cells after : CellsState)
     → IsScript script → all ≡ row ∷ others → behind ≡ slice_get others 0 → get_or places 0 at ≡ at → get_or places 1 at_behind ≡ at_behind

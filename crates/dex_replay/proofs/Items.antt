@@ -59,7 +59,8 @@ module _ (row : PlainRow) (seen : Seen) (m : Market) where
 
 -- ---- the rows of an item
 
--- in a world, a row that is told of was refused as it would be, and held back where another of its item is refused and it is not
+-- in a world, a row that is told of was refused as it would be, and held back where another of its item is refused and
+-- it is not
 record IsReplied (before : World) (any : Bool) (told : RowReply) : Type 0 where
   refused : is_refusal told.reply ≡ is_some (why_in before told.row)
   held : (is_take (decoded told.row.bytes) && is_done told.reply) ≡ (any && not (is_some (why_in before told.row)))

@@ -15,7 +15,7 @@ use Rattle.dex_replay.proofs.Runs.{AllStandIn, IsHistory, IsMoved, IsRun, Stands
 
 -- ---- rows lane by lane
 
--- what is told of a part of the rows, lane by lane, where the rows are the script's lane by lane
+-- what is recorded of a part of the rows, lane by lane, where the rows are the script's lane by lane
 lane-told : (script : PlainScript) (all : List RowReply) (test : PlainRow → Bool) (lane : ℕ)
     → ((number : ℕ) → rows_of_lane number (map row_told all) ≡ rows_of_lane number script.rows)
     → map row_told (filter (λ (told : RowReply). told.row.lane == lane) (filter (λ (told : RowReply). test told.row) all))
@@ -96,7 +96,7 @@ module _ (script : PlainScript) (is : IsScript script) (order : List Item) (lane
   all-run : HaveAllRun script order [] (start_world script)
   all-run = items-run script is.start order [] (start_world script) (order-items script is.rows order lanes) (start-run script)
 
-  -- the rows, and what is told of them
+  -- the rows, and what is recorded of them
   pub told : List RowReply
   told = all-run.told
 

@@ -43,7 +43,7 @@ count-split test done between rest rows row whole =
     ∙ sum_by-append one done (between ++ row ∷ rest)
     ∙ ap (λ (n : ℕ). count_by test done + n) (sum_by-append one between (row ∷ rest) ∙ ap (λ (n : ℕ). count_by test between + n) (sum_by-cons one row rest))
 
--- a row behind those that are done, and behind some more
+-- a row after those that are done, and after some more
 module _ (script : PlainScript) (cells : CellsState) (own : AreOfScript script cells) (its : All HasItsAddress cells.markets)
     (done between rest : List PlainRow) (row : PlainRow) (whole : done ++ (between ++ row ∷ rest) ≡ script.rows) (counted : IsCounted done (world_of cells)) where
   market-spare : (cell : MarketCellState) → HasItsAddress cell → cell.room ≡ rows_on cell.start.address script.rows → HasFew done (market_state_of cell)

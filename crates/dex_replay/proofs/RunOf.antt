@@ -1,4 +1,5 @@
--- What items leave in an order that keeps the lanes is a run of the script: lawful, of sound markets, and with each mint conserved.
+-- What items leave in an order that keeps the lanes is a run of the script: lawful, of sound markets, and with each
+-- mint conserved.
 use Rattle.std.proofs.Common.{◌≡◌, ℕ, ◌+◌, cond, List, [], ◌∷◌, map, refl, sym, ap, ◌∙◌, subst, arith}
 use Rattle.dex_fold.proofs.Common.{Address, All-cons, All-head, All-nil, All-tail, All-weaker, AllZip, MarketState, PlainAccount, PlainMarketAccounts, WalletState, World, is_same, total}
 use Rattle.dex_replay.proofs.Common.{AreCells, AreSound, CellsState, IsAccepted, IsLeftBy, IsOneOrder, IsReplayOf, IsRunOf, IsScript, KeepsLanes, PlainOutcome, PlainScript, StandsFor, WalletWords, balance_of, closed, market_state, market_words, opened, opened_of, wallet_state, wallet_words, wallet_words-with_amount, with_amount, with_amounts, world_after, world_of}

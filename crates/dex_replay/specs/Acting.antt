@@ -17,7 +17,8 @@ use Rattle.dex_replay.specs.Replays.{start_world}
 abbrev pub NeverFalls : PlainRow → PlainRow → Type 0
 NeverFalls one other = one.number ≤ other.number
 
--- the items of a script have acted on the cells up to these rows, which begin with an item and stand among the cells at these places
+-- the items of a script have acted on the cells up to these rows, which begin with an item and stand among the cells at
+-- these places
 pub record AreLeft (script : PlainScript) (left : List PlainRow) (places : List RowPlaces) (cells : CellsState) : Type 0 where
   pub done : List Item
   pub items : items_of script.rows ≡ done ++ items_of left
@@ -29,7 +30,8 @@ pub record AreLeft (script : PlainScript) (left : List PlainRow) (places : List 
   pub addresses : All (λ (cell : MarketCellState). cell.accounts.address ≡ cell.start.address) cells.markets
   pub acted : world_of cells ≡ fold_items done (start_world script)
 
--- a row is left, and behind it others, with this one in front if there is any; it stands at the first of these places, and the one behind it at the second
+-- a row is left, and after it others, with this one in front if there is any; it stands at the first of these places,
+-- and the one after it at the second
 pub record IsNext (script : PlainScript) (row : PlainRow) (behind : Option PlainRow) (others : List PlainRow) (places : List RowPlaces) (at at_behind : RowPlaces)
     (cells : CellsState) : Type 0 where
   pub left : AreLeft script (row ∷ others) places cells
@@ -37,7 +39,7 @@ pub record IsNext (script : PlainScript) (row : PlainRow) (behind : Option Plain
   pub stands : get_or places 0 at ≡ at
   pub stands_behind : get_or places 1 at_behind ≡ at_behind
 
--- so many of these rows were an item, and it has acted
+-- this many of these rows were an item, and it has acted
 pub record HaveActed (script : PlainScript) (rows : List PlainRow) (places : List RowPlaces) (count : ℕ) (cells : CellsState) : Type 0 where
   pub some : 0 < count
   pub within : count ≤ length rows

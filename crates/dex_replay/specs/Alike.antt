@@ -6,14 +6,15 @@ use Rattle.dex_types.specs.Market.{Market}
 use Rattle.dex_accounts.specs.StandsFor.{StandsFor}
 use Rattle.dex_state.specs.Outcomes.{PlainOutcome}
 
--- the accounts are those of one market at one time. They may differ in which tree node holds which order, and in bytes that stand
--- for nothing
+-- the accounts are those of one market at one time. They may differ in which tree node holds which order, and in bytes
+-- that stand for nothing
 pub record StandForOne (one other : PlainMarketAccounts) : Type 0 where
   pub market : Market
   pub first : StandsFor one market
   pub second : StandsFor other market
 
--- the outcomes have the same journals, the same mints and the same bytes of wallets, and of each market accounts that stand for one
+-- the outcomes have the same journals, the same mints and the same bytes of wallets, and of each market accounts that
+-- stand for one
 pub record AreAlike (one other : PlainOutcome) : Type 0 where
   pub market_journals : one.markets ≡ other.markets
   pub wallet_journals : one.wallets ≡ other.wallets

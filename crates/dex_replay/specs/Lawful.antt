@@ -44,7 +44,8 @@ origin_of_entry entry = record { market = entry.market; lane = entry.lane; row =
 -- ---- a market
 
 -- a market's journal is that of a legal history from its first accounts, its last accounts stand for the market at the
--- end, and for each lane the calls ask what the script's rows of that lane on this market do, one for each, in their order
+-- end, and for each lane the calls ask what the script's rows of that lane on this market do, one for each, in their
+-- order
 pub record IsLawfulMarket (script : PlainScript) (first last : PlainMarketAccounts) (journal : PlainMarketJournal)
     : Type 0 where
   pub calls : List Call
@@ -108,8 +109,9 @@ IsAllOrNone journals item = All (λ (row : PlainRow). was_held journals row
 
 -- ---- all
 
--- the outcome is one that the script allows: it is of the script's start; each market and each wallet has a lawful journal
--- and what stands at its end; what moved between them stands in both; and each item did all that its rows ask, or nothing
+-- the outcome is one that the script allows: it is of the script's start; each market and each wallet has a lawful
+-- journal and what stands at its end; what moved between them stands in both; and each item did all that its rows ask,
+-- or nothing
 pub record IsLawful (script : PlainScript) (outcome : PlainOutcome) : Type 0 where
   pub start : IsOfStart script outcome
   pub markets : AllThree (IsLawfulMarket script) script.start.markets outcome.accounts.markets outcome.markets

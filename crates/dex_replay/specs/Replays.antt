@@ -26,8 +26,8 @@ with_amounts (account ∷ accounts) (state ∷ states) =
     record account { bytes = with_amount account.bytes state.seen.balance } ∷ with_amounts accounts states
 with_amounts _ _ = []
 
--- the outcome is of the script's start: its mints as they were, and its wallets, markets and open-orders accounts, by address and in
--- their order, with one journal for each market and each wallet
+-- the outcome is of the script's start: its mints as they were, and its wallets, markets and open-orders accounts, by
+-- address and in their order, with one journal for each market and each wallet
 pub record IsOfStart (script : PlainScript) (outcome : PlainOutcome) : Type 0 where
   pub mints : outcome.accounts.mints ≡ script.start.mints
   pub srm : outcome.accounts.srm ≡ script.start.srm
@@ -39,8 +39,8 @@ pub record IsOfStart (script : PlainScript) (outcome : PlainOutcome) : Type 0 wh
   pub wallet_journals : map (λ (journal : PlainWalletJournal). journal.address) outcome.wallets
       ≡ map address_of script.start.wallets
 
--- the outcome is what is left of this world: the journals are its, the accounts of markets stand for its markets, and the wallets
--- are as they were but for the amount, which reads as the balance there
+-- the outcome is what is left of this world: the journals are its, the accounts of markets stand for its markets, and
+-- the wallets are as they were but for the amount, which reads as the balance there
 pub record IsLeftIn (script : PlainScript) (world : World) (outcome : PlainOutcome) : Type 0 where
   pub start : IsOfStart script outcome
   pub accepted : AreAccepted outcome.accounts

@@ -21,15 +21,15 @@ pub record IsOneOrder (script : PlainScript) (outcome : PlainOutcome) : Type 0 w
   pub lanes : KeepsLanes script order
   pub replay : IsLeftBy script order outcome
 
--- the outcome is what is left when rows have acted, each by itself, in an order that has the script's rows, and of each lane in
--- the lane's order
+-- the outcome is what is left when rows have acted, each by itself, in an order that has the script's rows, and of each
+-- lane in the lane's order
 pub record IsOneOrderOfRows (script : PlainScript) (outcome : PlainOutcome) : Type 0 where
   pub order : List PlainRow
   pub lanes : (lane : ℕ) → rows_of_lane lane order ≡ rows_of_lane lane script.rows
   pub replay : IsLeftByRows script order outcome
 
--- the outcome is lawful; its accounts are accepted, and each market's those of a sound market; and of each mint the wallets and
--- the vaults hold its supply together
+-- the outcome is lawful; its accounts are accepted, and each market's those of a sound market; and of each mint the
+-- wallets and the vaults hold its supply together
 pub record IsRunOf (script : PlainScript) (outcome : PlainOutcome) : Type 0 where
   pub lawful : IsLawful script outcome
   pub accepted : AreAccepted outcome.accounts

@@ -15,7 +15,8 @@ use Rattle.dex_script_facts.specs.PlainScript.{PlainScript}
 use Rattle.dex_replay.specs.EntryCalls.{calls_told}
 use Rattle.dex_replay.specs.Told.{told_in, told_out}
 
--- an account's worth in a token: what last accounts hold for it, less what calls tell of its deposits, plus what they tell was settled
+-- an account's worth in a token: what last accounts hold for it, less what calls tell of its deposits, plus what they
+-- tell was settled
 abbrev pub told_of : Token → Address → PlainMarketAccounts → List Call → ℤ
 told_of token owner last calls = (pos (held_for token owner (market_in last)) -ℤ pos (total (told_in token owner) calls)) +ℤ pos (total (told_out token owner) calls)
 

@@ -16,8 +16,9 @@ use dex_act::PlacedRow;
 use dex_bank::Cells;
 use dex_types::{Row, RowPlaces};
 
-/// The item that begins with a row acts: the row, or, where the one behind it has its number, both as the legs of a swap. The row stands
-/// among the cells at the places `at`, and the one behind it at `at_behind`. Says how many rows these are.
+/// The item that begins with a row acts: the row, or, where the one behind it has its number, both as the legs of a
+/// swap. The row stands among the cells at the places `at`, and the one behind it at `at_behind`. Says how many rows
+/// these are.
 fn act_item(
     cells: &mut Cells,
     row: &Row,
@@ -48,8 +49,8 @@ fn act_item(
     1
 }
 
-/// All items of a script act in their order on the cells with which it starts: each row, or the two legs of a swap. Each row's
-/// market and wallets stand among the cells at its places.
+/// All items of a script act in their order on the cells with which it starts: each row, or the two legs of a swap.
+/// Each row's market and wallets stand among the cells at its places.
 pub fn act_all(cells: Cells, rows: &[Row], places: &[RowPlaces]) -> Cells
     requires script { (script : PlainScript) × IsScript script × (cells ≡ opened script)
         × (map row_of rows.now ≡ script.rows) }
@@ -64,7 +65,7 @@ pub fn act_all(cells: Cells, rows: &[Row], places: &[RowPlaces]) -> Cells
     let mut places = places;
     'item: while let Some((row, others)) = rows.split_first() {
         let at = &places[0];
-        // Where no row is behind, these are the row's own places.
+        // Where no row is after, these are the row's own places.
         let at_behind = &places[others.len().min(1)];
         let count = act_item(&mut cells, row, others.first(), at, at_behind);
         rows = rows.split_at(count).1;
@@ -73,8 +74,8 @@ pub fn act_all(cells: Cells, rows: &[Row], places: &[RowPlaces]) -> Cells
     cells
 }
 
-/// The same with the rows and their places given up. Each is let go when its item has acted, and their memory is given back piece by
-/// piece, since journals grow meanwhile. For that they stand from the last to the first.
+/// Like `act_all`, with the rows and their places given up. Each is let go when its item has acted, and their memory is
+/// given back piece by piece, since journals grow meanwhile. For that they stand from the last to the first.
 pub(crate) fn use_up(cells: Cells, rows: Vec<Row>, places: Vec<RowPlaces>) -> Cells
     requires script { (script : PlainScript) × IsScript script × (cells ≡ opened script)
         × (map row_of rows.items ≡ script.rows) }
@@ -91,7 +92,7 @@ pub(crate) fn use_up(cells: Cells, rows: Vec<Row>, places: Vec<RowPlaces>) -> Ce
     'item: while let Some((row, others)) = rows.split_last() {
         let last = others.len();
         let at = &places[last];
-        // Where no row is behind, these are the row's own places.
+        // Where no row is after, these are the row's own places.
         let at_behind = &places[last.saturating_sub(1)];
         let count = act_item(&mut cells, row, others.last(), at, at_behind);
         let_go(&mut rows, count);

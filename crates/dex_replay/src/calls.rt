@@ -1,5 +1,5 @@
-//! The calls of a market's history, told by the script and the entries of the market's journal. The law is a function without a body,
-//! and its clauses are the law.
+//! The calls of a market's history, told by the script and the entries of the market's journal. The law is a function
+//! without a body, and its clauses are the law.
 
 ghost use Rattle.std.specs.Prelude.{◌≡◌, Some};
 ghost use Rattle.dex_types.specs.Accounts.{PlainMarketAccounts};

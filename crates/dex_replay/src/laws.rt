@@ -19,8 +19,8 @@ ghost use Rattle.dex_replay.specs.Replays.{IsLeftBy, IsLeftByRows, IsReplayOf};
 ghost use Rattle.dex_replay.specs.Runs.{IsOneOrder, IsOneOrderOfRows, IsRunOf};
 
 /// What is left when a script's items act one after the other, in an order that keeps each lane's, is lawful, its
-/// accounts are accepted and those of sound markets, and wallets and vaults hold each mint's supply. So whoever shows that
-/// his way to run a script is one order of its items has all of that.
+/// accounts are accepted and those of sound markets, and wallets and vaults hold each mint's supply. So whoever shows
+/// that his way to run a script is one order of its items has all of that.
 pub fn what_one_order_leaves_is_a_run()
     ensures { (script : PlainScript) (outcome : PlainOutcome) → IsScript script → IsOneOrder script outcome
         → IsRunOf script outcome }
@@ -62,8 +62,8 @@ pub fn each_row_has_one_entry()
         → AllPairs (λ (one other : PlainRow). one.number < other.number) (rows_of_wallet lane address script.rows) }
 {}
 
-/// A replay is a function of its script: two outcomes of one script have the same journals, the same mints and the same bytes
-/// of wallets, and their accounts of each market stand for one market. So it is of items in any one order.
+/// A replay is a function of its script: two outcomes of one script have the same journals, the same mints and the same
+/// bytes of wallets, and their accounts of each market stand for one market. So it is of items in any one order.
 pub fn a_script_has_one_replay()
     ensures replay { (script : PlainScript) (one other : PlainOutcome) → IsReplayOf script one
         → IsReplayOf script other → AreAlike one other }

@@ -29,7 +29,7 @@ pub fn replay_with_rows(alloc: Global, script: Script) -> Result<(Outcome, Vec<R
     }
 }
 
-/// The same without the rows: each is let go when it has acted.
+/// Like `replay_with_rows`, without the rows: each is let go when it has acted.
 pub fn replay(alloc: Global, script: Script) -> Result<Outcome, NoMemory>
     ensures outcome { IfOk result (λ outcome. IsReplayOf script (outcome_of outcome)) }
     ensures run { IfOk result (λ outcome. IsRunOf script (outcome_of outcome)) }

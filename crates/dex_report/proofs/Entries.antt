@@ -81,7 +81,7 @@ moves-are_words (move ∷ moves) h =
 same-movement : (a b : Movement) → a.wallet ≡ b.wallet → a.kind ≡ b.kind → a.amount ≡ b.amount → a.before ≡ b.before → a ≡ b
 same-movement a b p q r s = λ i. record { wallet = p i; kind = q i; amount = r i; before = s i }
 
--- behind an empty place no movement has words
+-- after an empty place no movement has words
 none-words : (moves : List (Option Movement)) → list_all is_none moves ≡ true → flat_map move_words moves ≡ []
 none-words [] h = refl
 none-words (None ∷ moves) h = none-words moves h

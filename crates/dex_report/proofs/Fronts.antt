@@ -19,7 +19,7 @@ none-taken (suc (suc (suc zero))) = refl
 none-taken (suc (suc (suc (suc zero)))) = refl
 none-taken (suc (suc (suc (suc (suc count))))) = refl
 
--- movements, and empty places behind them, stand from the front
+-- movements, and empty places after them, stand from the front
 in-front : (count : ℕ) (moves : List Movement) → stand_from_front (take count (map (λ move. Some move) moves ++ replicate 4 None)) ≡ true
 in-front zero moves = refl
 in-front (suc count) [] = none-taken (suc count)

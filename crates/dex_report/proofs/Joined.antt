@@ -32,7 +32,7 @@ Wrote job text = job.text ≡ Ok text
 abbrev pub parts_of_jobs : List Writing → List Part
 parts_of_jobs jobs = parts_in (map (λ (job : Writing). job.parts) jobs)
 
--- what stands behind all of these is what all parts are
+-- what stands after all of these is what all parts are
 pub all-written : (before after : List Writing) (texts : List Text) → AllZip WritesParts before after
     → AllZip Wrote after texts
     → All FitPart (parts_of_jobs before) × (flat_map text_of texts ≡ flat_map part_lines (parts_of_jobs before))
@@ -57,7 +57,7 @@ whole-more pieces texts text so_far =
     ∙ ap (λ (y : List ℕ). y ++ text_of text) so_far
     ∙ sym (flat_map-append text_of texts (text ∷ []) ∙ ap (λ (y : List ℕ). flat_map text_of texts ++ y) (append-nil (text_of text)))
 
--- a part more behind a text
+-- a part more after a text
 pub lines-more : (text before all : List ℕ) (parts : List Part) (part : Part) → all ≡ before ++ part_lines part → before ≡ text ++ flat_map part_lines parts
     → all ≡ text ++ flat_map part_lines (parts ++ part ∷ [])
 lines-more text before all parts part is was =

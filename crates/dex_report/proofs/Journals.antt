@@ -31,7 +31,7 @@ header-joined p a n t x = simp (append_assoc, append-nil)
 header-are_words : (address : Address) (count : ℕ) → IsAddress address → count < 2 ^ 64 → list_all is_word (header address count) ≡ true
 header-are_words address count at few = rw (is_word-address address at, is_word-decimal count (from64 count few)) refl
 
--- what a journal's text tells, behind its first word
+-- what a journal's text tells, after its first word
 journal-ends : (A : Type 0) (P : A → Type 0) (text : A → List ℕ) → IsReadBack A P text → (a b : Address) (s t : List A) (x y : List ℕ)
     → IsAddress a → IsAddress b → length s < 2 ^ 64 → length t < 2 ^ 64 → All P s → All P t
     → flat_map spaced (header a (length s)) ++ 10 ∷ (flat_map text s ++ x) ≡ flat_map spaced (header b (length t)) ++ 10 ∷ (flat_map text t ++ y)
@@ -97,11 +97,11 @@ wallets-begin (wallet ∷ wallets) x other = refl
 report-joined : (p n m w d l : List ℕ) → (((((p ++ n) ++ (10 ∷ [])) ++ m) ++ w) ++ d) ++ l ≡ p ++ ((n ++ []) ++ 10 ∷ (m ++ (w ++ (d ++ l))))
 report-joined p n m w d l = simp (append_assoc, append-nil)
 
--- what stands behind the last wallet's journal
+-- what stands after the last wallet's journal
 abbrev last_part : PlainOutcome → List ℕ
 last_part outcome = dump_text outcome.accounts ++ line (codes "end")
 
--- what stands behind the first line
+-- what stands after the first line
 abbrev behind_rows : PlainOutcome → List ℕ
 behind_rows outcome = flat_map market_lines outcome.markets ++ (flat_map wallet_lines outcome.wallets ++ last_part outcome)
 

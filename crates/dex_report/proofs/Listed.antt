@@ -30,7 +30,7 @@ five a b c d e = append_assoc _ d e ∙ append_assoc _ c _ ∙ append_assoc a b 
 six : (a b c d e f : List ℕ) → ((((a ++ b) ++ c) ++ d) ++ e) ++ f ≡ a ++ (b ++ (c ++ (d ++ (e ++ f))))
 six a b c d e f = append_assoc _ e f ∙ five a b c d (e ++ f)
 
--- what holds of all holds of those in front, of those behind, and of what was mapped
+-- what holds of all holds of those in front, of those after, and of what was mapped
 front : {A : Type 0} (P : A → Type 0) (xs ys : List A) → All P (xs ++ ys) → All P xs
 front P [] ys all = All-nil P
 front P (x ∷ xs) ys all = All-cons P x xs (All-head P x (xs ++ ys) all) (front P xs ys (All-tail P x (xs ++ ys) all))
@@ -52,7 +52,7 @@ rows-text (market ∷ rows) =
     ap (λ (t : List ℕ). lines_text (market_rows (market_accounts_of market)) ++ t) (rows-text rows)
     ∙ sym (lines_text-append (market_rows (market_accounts_of market)) (flat_map market_rows (map market_accounts_of rows)))
 
--- a dump in its parts, and what stands behind it
+-- a dump in its parts, and what stands after it
 dump-behind : (accounts : PlainAccounts) → lines_text (first_row ∷ account_rows (front_of accounts))
     ++ (lines_text (flat_map market_rows accounts.markets) ++ (codes "enddump\n" ++ codes "end\n")) ≡ dump_text accounts ++ codes "end\n"
 dump-behind accounts =

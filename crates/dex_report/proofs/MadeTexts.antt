@@ -10,6 +10,6 @@ order-words new side price lots pc cancel kind client ten rest = simp append_ass
 pub drawn-words : (front account c k q none asked end : List ℕ) → front ++ (account ++ c ++ k ++ q ++ k ++ none ++ (asked ++ end)) ≡ front ++ account ++ c ++ k ++ q ++ k ++ none ++ asked ++ end
 drawn-words front account c k q none asked end = simp append_assoc refl
 
--- those of a row with accounts and one word behind them
+-- those of a row with accounts and one word after them
 pub account-words : (front accounts behind end : List ℕ) → front ++ (accounts ++ (behind ++ end)) ≡ front ++ accounts ++ behind ++ end
 account-words front accounts behind end = simp append_assoc refl

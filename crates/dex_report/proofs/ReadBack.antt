@@ -1,4 +1,4 @@
--- Texts that are read back whatever follows them, one behind another.
+-- Texts that are read back whatever follows them, one after another.
 use Rattle.std.proofs.Common.{◌≡◌, ◌∙◌, ℕ, ◌++◌, ◌∷◌, ◌==◌, [], List, Bool, true, false, All, length, refl, sym, ap, append_assoc, arith}
 use Rattle.std.specs.List.{flat_map}
 use Rattle.dex_dump.proofs.EachRow.{first_of, others_of}
@@ -15,7 +15,7 @@ behind : (A : Type 0) (text : A → List ℕ) (a b : A) (s t : List A) (x y : Li
     → text a ++ (flat_map text s ++ x) ≡ text b ++ (flat_map text t ++ y)
 behind A text a b s t x y e = sym (append_assoc (text a) (flat_map text s) x) ∙ e ∙ append_assoc (text b) (flat_map text t) y
 
--- so many of them
+-- this many of them
 pub so-many : (A : Type 0) (P : A → Type 0) (text : A → List ℕ) → IsReadBack A P text → (s t : List A) (x y : List ℕ) → All P s → All P t
     → length s ≡ length t → flat_map text s ++ x ≡ flat_map text t ++ y → (s ≡ t) × (x ≡ y)
 so-many A P text each [] [] x y ps pt same e = (refl, e)

@@ -84,7 +84,7 @@ refusal-spaced (refusal.SumTooLarge a b) = simp (append_assoc, append-nil, space
 more : (p w : List ℕ) (ws : List (List ℕ)) → (p ++ spaced w) ++ flat_map spaced ws ≡ p ++ flat_map spaced (w ∷ ws)
 more p w ws = append_assoc p (spaced w) (flat_map spaced ws)
 
--- six words behind a text
+-- six words after a text
 pub six-words : (p a b c d e f : List ℕ) → p ++ spaced a ++ spaced b ++ spaced c ++ spaced d ++ spaced e ++ spaced f
     ≡ p ++ flat_map spaced (a ∷ b ∷ c ∷ d ∷ e ∷ f ∷ [])
 six-words p a b c d e f =

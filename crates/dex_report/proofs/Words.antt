@@ -11,7 +11,7 @@ is_inner c = nat_lt 32 c
 abbrev pub is_word : List ℕ → Bool
 is_word word = list_all is_inner word
 
--- a text behind which nothing of a word can stand: none, or one that begins with a space or a line feed
+-- a text after which nothing of a word can stand: none, or one that begins with a space or a line feed
 abbrev pub ends_words : List ℕ → Bool
 ends_words [] = true
 ends_words (c ∷ rest) = not (is_inner c)

@@ -48,7 +48,8 @@ summary_line s = line (codes "market" ++ spaced (address_text s.address) ++ spac
 abbrev pub market_line : PlainMarketAccounts → List ℕ
 market_line accounts = summary_line (summary_of (market_in accounts))
 
--- the summary of an outcome: the number and the rows of the script, how many instructions were accepted and refused, and each market
+-- the summary of an outcome: the number and the rows of the script, how many instructions were accepted and refused,
+-- and each market
 abbrev pub bulk_text : ℕ → ℕ → PlainOutcome → List ℕ
 bulk_text number rows outcome =
     line (codes "bulk" ++ spaced (decimal number) ++ spaced (decimal rows))

@@ -16,17 +16,17 @@ generator_of number = started 64 multiplier_64 number (increment_of 64 1)
 unfoldable pub draw : ℕ → Lcg → ℕ
 draw m generator = (pcg32 generator).0 % m
 
--- the generator behind that word
+-- the generator after that word
 unfoldable pub after_draw : Lcg → Lcg
 after_draw generator = (pcg32 generator).1
 
--- what a row asks for, and the generator behind the words that it drew
+-- what a row asks for, and the generator after the words that it drew
 pub record Drawn : Type 0 where
   pub asked : MadeInstruction
   pub after : Lcg
 
--- a new order of this type and client id: the side, the price from 90 to 110 and the lots from 1 to 20 are drawn, in this order;
--- it may spend twenty times its lots at its price
+-- a new order of this type and client id: the side, the price from 90 to 110 and the lots from 1 to 20 are drawn, in
+-- this order; it may spend twenty times its lots at its price
 abbrev pub drawn_order : OrderType → ℕ → Lcg → Drawn
 drawn_order order_type client generator =
     let second = after_draw generator in
@@ -42,7 +42,8 @@ drawn_order order_type client generator =
 abbrev pub drawn_cancel : ℕ → Lcg → Drawn
 drawn_cancel i generator = record { asked = Cancel (1 + draw (i + 1) generator); after = after_draw generator }
 
--- by a number below 10: an order that rests for 0 to 5, one that does not for 6, a cancel for 7, and a settle for 8 and 9
+-- by a number below 10: an order that rests for 0 to 5, one that does not for 6, a cancel for 7, and a settle for 8 and
+-- 9
 abbrev pub drawn_by : ℕ → ℕ → Lcg → Drawn
 drawn_by operation i generator =
     if nat_le operation 5 then drawn_order Limit (i + 1) generator

@@ -34,7 +34,7 @@ part_lines (Spent rows) = []
 abbrev pub parts_in : List (Vec Part Global) → List Part
 parts_in groups = flat_map (λ (group : Vec Part Global). group.items) groups
 
--- pieces, one behind the other
+-- pieces, one after the other
 abbrev pub whole : List Piece → List ℕ
 whole pieces = flat_map piece_text pieces
 

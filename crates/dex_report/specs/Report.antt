@@ -12,7 +12,7 @@ use Rattle.dex_dump.specs.DumpText.{dump_text}
 use Rattle.dex_report.specs.Lines.{line}
 use Rattle.dex_state.specs.Outcomes.{PlainMarketJournal, PlainOutcome, PlainWalletJournal}
 
--- a movement behind a space, where one stands
+-- a movement after a space, where one stands
 abbrev pub move_text : Option Movement → List ℕ
 move_text None = []
 move_text (Some movement) = spaced (movement_text movement)
@@ -44,7 +44,8 @@ move_line entry =
 abbrev pub wallet_lines : PlainWalletJournal → List ℕ
 wallet_lines journal = head_line (codes "wallet") (Some journal.address) (length journal.entries) ++ flat_map move_line journal.entries
 
--- the report of an outcome of so many rows: the rows, each market's journal, each wallet's, the last accounts, and the end
+-- the report of an outcome of this many rows: the rows, each market's journal, each wallet's, the last accounts, and
+-- the end
 abbrev pub report_text : PlainOutcome → ℕ → List ℕ
 report_text outcome rows =
     head_line (codes "report") None rows ++ flat_map market_lines outcome.markets ++ flat_map wallet_lines outcome.wallets

@@ -14,7 +14,7 @@ use Rattle.dex_types.specs.declared.replies.Reply.TheVariants.{Ordered, Took, Ca
 use Rattle.dex_state.specs.Held.{HoldBytes, IsAddress}
 use Rattle.dex_state.specs.Outcomes.{PlainMarketJournal, PlainOutcome, PlainWalletJournal}
 
--- the movements stand from the front: behind an empty place there is none
+-- the movements stand from the front: after an empty place there is none
 abbrev pub stand_from_front : List (Option Movement) → Bool
 stand_from_front [] = true
 stand_from_front (Some movement ∷ rest) = stand_from_front rest
@@ -108,7 +108,8 @@ pub record IsToldOutcome (outcome : PlainOutcome) : Type 0 where
   pub markets : All IsToldMarket outcome.markets
   pub wallets : All IsToldWallet outcome.wallets
 
--- all values of an outcome fit: addresses 32 bytes, lanes and rows 32 bits, amounts of movements 64, numbers of replies and refusals 128
+-- all values of an outcome fit: addresses 32 bytes, lanes and rows 32 bits, amounts of movements 64, numbers of replies
+-- and refusals 128
 pub record FitOutcome (outcome : PlainOutcome) : Type 0 where
   pub accounts : HoldBytes outcome.accounts
   pub markets : All FitMarket outcome.markets

@@ -25,8 +25,9 @@ use std::alloc::{AllocError, Global};
 use std::fmt;
 use std::fmt::Write;
 
-/// The summary of what the made script of this number with so many rows came to: how many of all instructions were accepted
-/// and refused, and for each market its resting orders, its pending events, its vaults and its fees, in native units.
+/// The summary of what the made script of this number with this many rows came to: how many of all instructions were
+/// accepted and refused, and for each market its resting orders, its pending events, its vaults and its fees, in native
+/// units.
 pub fn bulk_text(
     alloc: Global,
     number: u64,

@@ -202,7 +202,7 @@ fn put_reply(line: &mut [u8; LINE], reply: Reply, end: usize) -> usize
     }
 }
 
-/// Puts a word, and three numbers behind it, in front of a place.
+/// Puts a word, and three numbers after it, in front of a place.
 fn put_three(
     line: &mut [u8; LINE],
     word: &[u8],

@@ -19,7 +19,7 @@ use std::alloc::{AllocError, Global};
 use std::fmt;
 use std::fmt::Write;
 
-/// The script of this number with so many drawn rows. What is drawn follows from the 32-bit words of PCG's generator
+/// The script of this number with this many drawn rows. What is drawn follows from the 32-bit words of PCG's generator
 /// at this number and stream 1, so one number and one count of rows give one script.
 pub fn make_script(alloc: Global, number: u64, rows: u32) -> Result<Vec<u8>, NoMemory>
     requires some { 1 ≤ rows }

@@ -126,8 +126,8 @@ pub(crate) fn put_drawn(
     put_place(line, market, trader, accounts)
 }
 
-/// Puts the row by which a trader consumes events for all accounts of a market at the end of a line, and returns where it
-/// starts.
+/// Puts the row by which a trader consumes events for all accounts of a market at the end of a line, and returns where
+/// it starts.
 pub(crate) fn put_consuming(line: &mut [u8; LINE], market: MadeMarket, trader: u32) -> usize
     requires { trader < 8 }
     ensures start { result ≤ 768 }

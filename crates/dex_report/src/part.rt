@@ -38,8 +38,9 @@ impl Part {
         }
     }
 
-    /// How long it takes to write it and to let it go, told in bytes of accounts, which are mostly zeros: a byte of a market's journal
-    /// takes about as long as eight of these, one of a wallet's as five, and a row that is let go as long as 400.
+    /// How long it takes to write it and to let it go, told in bytes of accounts, which are mostly zeros: a byte of a
+    /// market's journal takes about as long as eight of these, one of a wallet's as five, and a row that is let go as
+    /// long as 400.
     pub(crate) fn weight(&self) -> usize {
         match self {
             Part::Text(_) | Part::Rows(_) => self.size(),
@@ -77,7 +78,7 @@ fn size_of_wallets(journals: &[WalletJournal]) -> usize {
     size
 }
 
-/// Writes a part, which is given up, behind a text; each of its lines is put together in the array.
+/// Writes a part, which is given up, after a text; each of its lines is put together in the array.
 pub(crate) fn take_part(
     text: &mut Pieces,
     line: &mut [u8; LINE],

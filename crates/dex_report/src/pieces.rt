@@ -19,9 +19,10 @@ use std::alloc::{AllocError, Global};
 use std::marker::Sync;
 use std::thread::Threads;
 
-/// The report of an outcome of so many rows, in pieces that follow each other. The outcome is given up: each journal and each market's
-/// accounts are let go when they are written, so that they and their lines are not there together. Of zeros of large accounts nothing
-/// is in memory. All values that it tells fit: addresses 32 bytes, amounts of movements 64 bits, and numbers of replies 128.
+/// The report of an outcome of this many rows, in pieces that follow each other. The outcome is given up: each journal
+/// and each market's accounts are let go when they are written, so that they and their lines are not there together. Of
+/// zeros of large accounts nothing is in memory. All values that it tells fit: addresses 32 bytes, amounts of movements
+/// 64 bits, and numbers of replies 128.
 pub fn into_report_pieces(
     alloc: Global,
     outcome: Outcome,
@@ -43,14 +44,15 @@ fn pieces_of(alloc: Global, outcome: Outcome, rows: u32) -> Result<Vec<Piece>, A
         flat_map piece_text pieces.items ≡ report_text (outcome_of outcome) rows) }
 {
     let parts = parts_of(alloc, outcome, rows, Vec::new(alloc))?;
-    // Room for the first quarter. The text of a small report then begins where the buffers of rows were, which are let go by now, and
-    // comes to a place of its own when some journals are let go too. A large one grows without a copy.
+    // Room for the first quarter. The text of a small report then begins where the buffers of rows were, which are let
+    // go by now, and comes to a place of its own when some journals are let go too. A large one grows without a copy.
     let room = size_of(&parts) / 4;
     text_of(alloc, parts, room)
 }
 
-/// The same, written on threads of their own: each market's journal, the journals of all wallets and each market's accounts, small ones
-/// together. What is spent is let go beside them: pieces of rows, of which nothing is told.
+/// Like `pieces_of`, written on threads of their own: each market's journal, the journals of all wallets and each
+/// market's accounts, small ones together. What is spent is let go beside them: pieces of rows, of which nothing is
+/// told.
 pub fn report_pieces<R: Threads + Sync>(
     rt: &R,
     alloc: Global,
@@ -83,7 +85,7 @@ fn pieces_by_threads<R: Threads + Sync>(
     texts_of(rt, alloc, parts)
 }
 
-/// The parts of a report, in their order, behind what is spent.
+/// The parts of a report, in their order, after what is spent.
 fn parts_of(
     alloc: Global,
     outcome: Outcome,

@@ -12,9 +12,9 @@ use dex_state::Outcome;
 use dex_types::NoMemory;
 use std::alloc::{AllocError, Global};
 
-/// The report of an outcome of so many rows, in one buffer: the number of rows, each market's journal, each wallet's,
-/// the dump of the last accounts, and the end. All values that it tells fit: addresses 32 bytes,
-/// amounts of movements 64 bits, and numbers of replies 128.
+/// The report of an outcome of this many rows, in one buffer: the number of rows, each market's journal, each wallet's,
+/// the dump of the last accounts, and the end. All values that it tells fit: addresses 32 bytes, amounts of movements
+/// 64 bits, and numbers of replies 128.
 pub fn report_text(alloc: Global, outcome: &Outcome, rows: u32) -> Result<Vec<u8>, NoMemory>
     ensures fits { IfOk result (λ text. FitOutcome (outcome_of outcome.now)) }
     ensures text { IfOk result (λ text. text.items ≡ texts.report_text (outcome_of outcome.now) rows) }

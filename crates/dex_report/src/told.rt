@@ -20,7 +20,7 @@ pub(crate) trait Told {
     /// Its lines.
     ghost lines: { Self → List ℕ };
 
-    /// Writes its lines behind a text; each is put together in the array.
+    /// Writes its lines after a text; each is put together in the array.
     fn write(&self, text: &mut Vec<u8>, line: &mut [u8; LINE]) -> Result<(), AllocError>
         ensures fits { OnOk result (fits self.now) }
         ensures text { OnOk result (text.new.items ≡ text.old.items ++ lines self.now) };

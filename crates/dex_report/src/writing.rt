@@ -14,7 +14,7 @@ use std::marker::Sync;
 use std::mem;
 use std::thread::Threads;
 
-/// The first piece of a text has room for so many bytes at most, until it needs more.
+/// The first piece of a text has room for this many bytes at most, until it needs more.
 const MOST_ROOM: usize = 16_777_216;
 
 /// Parts that follow each other, until they are written, and then their text in pieces.
@@ -52,7 +52,7 @@ pub(crate) fn text_of(
     Ok(pieces)
 }
 
-/// Writes parts behind a text.
+/// Writes parts after a text.
 fn take_parts(text: &mut Pieces, parts: Vec<Part>) -> Result<(), AllocError>
     ensures fits { OnOk result (All FitPart parts.items) }
     ensures text { OnOk result (text_in text.new ≡ text_in text.old ++ flat_map part_lines parts.items) }
@@ -81,14 +81,15 @@ pub(crate) fn texts_of<R: Threads + Sync>(
     Ok(pieces)
 }
 
-/// Whether a group is complete where a part of this weight comes next: with half of it the parts so far would weigh more than all
-/// groups up to this one should.
+/// Whether a group is complete where a part of this weight comes next: with half of it the parts so far would weigh
+/// more than all groups up to this one should.
 fn is_complete(group: usize, so_far: usize, part: usize, bound: usize) -> bool {
     LINE < group && bound < so_far.saturating_add(part / 2)
 }
 
-/// The parts in groups of those that follow each other: about so many, where no part is much larger than others, and one where there
-/// is one processor. A thread costs as much time as some hundred lines, so small parts are written by the thread of a larger one.
+/// The parts in groups of those that follow each other: about this many, where no part is much larger than others, and
+/// one where there is one processor. A thread costs as much time as some hundred lines, so small parts are written by
+/// the thread of a larger one.
 fn groups_of(alloc: Global, parts: Vec<Part>, shares: usize) -> Result<Vec<Vec<Part>>, AllocError>
     ensures { IfOk result (λ groups. parts_in groups.items ≡ parts.items) }
 {
@@ -113,7 +114,7 @@ fn groups_of(alloc: Global, parts: Vec<Part>, shares: usize) -> Result<Vec<Vec<P
     Ok(groups)
 }
 
-/// Puts a group behind the others, and begins the next.
+/// Puts a group after the others, and begins the next.
 fn complete(
     alloc: Global,
     groups: &mut Vec<Vec<Part>>,
@@ -161,7 +162,7 @@ fn text_in(job: Writing) -> Result<Vec<Piece>, AllocError>
     job.text
 }
 
-/// The pieces of texts, one behind the other.
+/// The pieces of texts, one after the other.
 fn joined(alloc: Global, texts: Vec<Vec<Piece>>) -> Result<Vec<Piece>, AllocError>
     ensures { IfOk result (λ pieces. whole pieces.items ≡ flat_map (λ text. whole text.items) texts.items) }
 {

@@ -37,7 +37,7 @@ AmountsFit-events_of bytes are accepted =
     let count : number < number_in bytes COUNT = omega (arith, length-events_of bytes, lt) in
     subst AmountsFit (sym (get_or-events_of bytes number first count)) (AmountsFit-event_at bytes number are accepted))
 
--- what holds of all holds of those behind
+-- what holds of all holds of those after
 All-behind : (P : QueuedEvent → Type 0) (front events : List QueuedEvent) → All P (front ++ events) → All P events
 All-behind P [] events all = all
 All-behind P (event ∷ front) events all = All-behind P front events (All-tail P event (front ++ events) all)

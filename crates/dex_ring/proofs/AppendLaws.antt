@@ -34,7 +34,7 @@ appended-none ring small =
     let count : events_counted ring.seq_num 0 ≡ ring.seq_num = ap (λ n. n % 2 ^ 64) sum ∙ mod-eq_of_lt small in
     ap (λ (es : List QueuedEvent). with_events ring es (events_counted ring.seq_num 0)) (append-nil ring.events) ∙ ap (λ n. with_events ring ring.events n) count
 
--- a queue that has room for all events has room for the first ones, and behind them for the others
+-- a queue that has room for all events has room for the first ones, and after them for the others
 pub HasRoom-first : (first second : List QueuedEvent) (ring : Ring) → HasRoom (length (first ++ second)) ring → HasRoom (length first) ring
 HasRoom-first first second ring room = omega (arith, room, length-append first second)
 
@@ -78,7 +78,7 @@ kind_again (ReleasingOut Ask) = refl
 pub decoded-encoded : (event : QueuedEvent) → decoded_event (encoded_event event) ≡ event
 decoded-encoded event = ap (λ (kind : EventKind). record event { kind = kind }) (kind_again event.kind)
 
--- the queue after events were appended: it holds them behind the others, and is accepted
+-- the queue after events were appended: it holds them after the others, and is accepted
 pub record IsAppended (events : List QueuedEvent) (bytes : List ℕ) : Type 0 where
   pub ring : ring_of (pushed_all events bytes) ≡ appended events (ring_of bytes)
   pub accepted : IsEventQueue (pushed_all events bytes)

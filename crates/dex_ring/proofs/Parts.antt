@@ -65,7 +65,7 @@ set_from-append bytes place (b ∷ front) back =
     let same : suc place + length front ≡ place + suc (length front) = omega arith in
     set_from-append next (suc place) front back ∙ ap (λ (n : ℕ). set_from (set_from next (suc place) front) n back) same
 
--- a part is written, and then those behind it
+-- a part is written, and then those after it
 pub part_written : (old next end : List ℕ) (field : Field) (part back : List ℕ) → next ≡ with_bytes old field part → length part ≡ field.len
     → set_from next (end_of field) back ≡ end → set_from old field.at (part ++ back) ≡ end
 unfolding with_bytes

@@ -83,7 +83,7 @@ module _ (bytes : List ℕ) (e : Event) (queue : IsEventQueue bytes) (room : num
       (behind other ∙ bytes_in-with_bytes_apart bytes (event_field other) (event_field place) (event_bytes e) (event_fields_apart other place apart))
 
   module _ (back : event_of (event_bytes e) ≡ e) (size : length (event_bytes e) ≡ 88) where
-    -- the event behind them is the new one
+    -- the event after them is the new one
     pub pushed-last : event_at (pushed bytes e) count ≡ e
     unfolding event_at
     pushed-last =

@@ -45,7 +45,7 @@ place_of-other capacity head i j low before within same =
       ]
     ]
 
--- behind a head that moved on by one, each event is one number nearer
+-- after a head that moved on by one, each event is one number nearer
 pub place_of-next : (capacity head number : ℕ) → place_of capacity (place_of capacity head 1) number ≡ place_of capacity head (number + 1)
 place_of-next capacity head number =
     let same : head + 1 + number ≡ head + (number + 1) = omega arith in

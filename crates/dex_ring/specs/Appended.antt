@@ -5,11 +5,11 @@ use Rattle.dex_types.specs.QueuedEvent.{QueuedEvent, encoded_event}
 use Rattle.dex_ring.specs.EventBytes.{IsQueued, event_bytes, event_of}
 use Rattle.dex_ring.specs.Ring.{Ring, pushed}
 
--- the events stand behind the pending ones, and are counted
+-- the events stand after the pending ones, and are counted
 abbrev pub appended : List QueuedEvent → Ring → Ring
 appended events ring = record ring { events = ring.events ++ events; seq_num = events_counted ring.seq_num (length events) }
 
--- the queue has room for so many more events
+-- the queue has room for that many more events
 abbrev pub HasRoom : ℕ → Ring → Type 0
 HasRoom more ring = length ring.events + more ≤ ring.capacity
 

@@ -1,4 +1,5 @@
--- The first rule that an event queue breaks by itself, with the place and the values found and wanted there. The rules stand in the order of their kinds, those of one kind in the order of their places.
+-- The first rule that an event queue breaks by itself, with the place and the values found and wanted there. The rules
+-- stand in the order of their kinds, those of one kind in the order of their places.
 use Rattle.std.specs.Prelude.{ℕ, List, length, map, Option, Some, None, if◌then◌else◌, ◌==◌, nat_lt, nat_le}
 use Rattle.std.specs.Option.{option_map, option_or}
 use Rattle.std.specs.List.{range_with_len}

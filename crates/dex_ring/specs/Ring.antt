@@ -16,7 +16,7 @@ pub record Ring : Type 0 where
   pub capacity : ℕ
   pub seq_num : ℕ
 
--- how many events fit behind the header
+-- how many events fit after the header
 abbrev pub capacity_of : List ℕ → ℕ
 capacity_of bytes = (length bytes - 44) / 88
 
@@ -54,11 +54,11 @@ pub record IsEventQueue (bytes : List ℕ) : Type 0 where
   pub count : number_in bytes COUNT ≤ capacity_of bytes
   pub events : (number : ℕ) → number < number_in bytes COUNT → IsQueued (event_at bytes number)
 
--- the place behind the last event in use
+-- the place after the last event in use
 abbrev pub free_place : List ℕ → ℕ
 free_place bytes = place_of (capacity_of bytes) (number_in bytes HEAD) (number_in bytes COUNT)
 
--- what an append leaves: the event behind the last one in use, one more in use, and one more that was ever appended
+-- what an append leaves: the event after the last one in use, one more in use, and one more that was ever appended
 abbrev pub pushed : List ℕ → Event → List ℕ
 pushed bytes event =
     with_number

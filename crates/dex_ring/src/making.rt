@@ -9,7 +9,7 @@ use dex_fields::event_queue::LAYOUT;
 use dex_fields::{END_TEXT, event, write_empty_account};
 use dex_types::AccountFlags;
 
-/// How many bytes a queue that is made for so many events has; for 1 to 65,535 events it can be one.
+/// How many bytes a queue that is made for this many events has; for 1 to 65,535 events it can be one.
 pub fn made_size(events: u32) -> usize
     ensures size { result ≡ made_size events }
     ensures made { 1 ≤ events → events ≤ 65535 → IsMadeSize result }

@@ -11,7 +11,7 @@ use dex_fields::event_queue::{HEAD, LAYOUT as HEADER};
 use dex_fields::{END_TEXT, get_u64};
 use dex_types::Event;
 
-/// How many events fit behind the header.
+/// How many events fit after the header.
 pub fn capacity(bytes: &[u8]) -> usize
     requires { 44 ≤ length bytes.now }
     ensures { result ≡ capacity_of bytes.now }

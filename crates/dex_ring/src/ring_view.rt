@@ -63,8 +63,8 @@ impl RingView<'_> {
         self.as_ref().at(index)
     }
 
-    /// Appends an event behind the last one. It writes the event's own bytes, the count and the count of all events ever
-    /// appended, which begins again at 0 behind 2^64 - 1; all other bytes stay.
+    /// Appends an event after the last one. It writes the event's own bytes, the count and the count of all events ever
+    /// appended, which begins again at 0 after 2^64 - 1; all other bytes stay.
     pub fn push(&mut self, event: &Event)
         requires accepted { IsEventQueue self.old.bytes.now }
         requires room { length (ring_of self.old.bytes.now).events < (ring_of self.old.bytes.now).capacity }

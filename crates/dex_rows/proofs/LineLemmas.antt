@@ -97,7 +97,7 @@ passed_none text rest start more behind within none =
       ends = λ place low high. (none_at place low high).1;
     }
 
--- one more field is kept, or is behind those that are
+-- one more field is kept, or is after those that are
 kept_more : (fields after : List (Bor (List ℕ))) (count : ℕ) (field : List ℕ) (done : List (List ℕ)) → length fields ≡ 12 → count ≡ length done
     → texts (take count fields) ≡ take 12 done → KeepsField fields count field after → texts (take (count + 1) after) ≡ take 12 (done ++ field ∷ [])
 kept_more fields after count field done size counted before kept =

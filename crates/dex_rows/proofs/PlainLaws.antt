@@ -44,7 +44,7 @@ unfolding behind_ends
 rows_behind [] = refl
 rows_behind (c ∷ rest) = behind_at c rest (ends_row c) refl (rows_behind rest)
 
--- behind a carriage return a row is read as at the start
+-- after a carriage return a row is read as at the start
 after_step : (c : ℕ) (r n : Bool) → (c == 13) ≡ r → (c == 10) ≡ n → step default_config st.AfterCr c ≡ step default_config st.StartRecord c
 after_step c true true e f = rw (e, f) refl
 after_step c true false e f = rw (e, f) refl
@@ -147,7 +147,7 @@ unfolding behind_ends
 first_other [] some = absurd (omega arith)
 first_other (c ∷ rest) some = first_at c rest (ends_row c) refl (first_other rest) some
 
--- what stands behind line ends has no quote either
+-- what stands after line ends has no quote either
 plain_at : (c : ℕ) (rest : List ℕ) (is : Bool) → ends_row c ≡ is → HasNoQuote (c ∷ rest) → HasNoQuote (behind_ends rest) → HasNoQuote (behind_ends (c ∷ rest))
 unfolding behind_ends
 plain_at c rest true e plain more = rw e more
@@ -203,7 +203,7 @@ unfolding strip_bom
 unmarked_at a b c rest true e none = rw e (All-drop (λ byte. (byte == 34) ≡ false) 3 (a ∷ b ∷ c ∷ rest) none)
 unmarked_at a b c rest false e none = rw e none
 
--- nor behind a byte-order mark
+-- nor after a byte-order mark
 pub unmarked : (text : List ℕ) → HasNoQuote text → HasNoQuote (strip_bom text)
 unfolding strip_bom
 unmarked [] none = none

@@ -10,7 +10,7 @@ use Rattle.std.proofs.lemmas.List.Splits.{slice_split_at, slice_split_none}
 abbrev pub part_at : List ℕ → ℕ → ℕ → List ℕ
 part_at text start at = take (at - start) (drop start text)
 
--- a text is read up to a place: cut into these parts up to a start, with no cut behind that
+-- a text is read up to a place: cut into these parts up to a start, with no cut after that
 pub record InPart (p : ℕ → Bool) (text : List ℕ) (start at : ℕ) (done : List (List ℕ)) : Type 0 where
   pub order : start ≤ at
   pub split : (tail : List ℕ) → slice_split p (take start text ++ tail) ≡ done ++ slice_split p tail
@@ -43,7 +43,7 @@ up_to text start at order =
     let size : at ≡ start + (at - start) = omega arith in
     ap (λ n. take n text) size ∙ take-add start (at - start) text
 
--- a part that ends with what stands behind the place
+-- a part that ends with what stands after the place
 behind : (p : ℕ → Bool) (text : List ℕ) (start at : ℕ) (done : List (List ℕ)) (tail : List ℕ) → InPart p text start at done
     → slice_split p (take at text ++ tail) ≡ done ++ slice_split p (part_at text start at ++ tail)
 behind p text start at done tail h =

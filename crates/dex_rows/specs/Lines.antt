@@ -19,7 +19,7 @@ abbrev pub IsEnd : List ℕ → Type 0
 IsEnd [] = Unit {0}
 IsEnd (byte ∷ rest) = ends_row byte ≡ true
 
--- what stands behind the line ends at the front of a text
+-- what stands after the line ends at the front of a text
 unfoldable pub behind_ends : List ℕ → List ℕ
 behind_ends [] = []
 behind_ends (byte ∷ rest) = if ends_row byte then behind_ends rest else byte ∷ rest
@@ -28,7 +28,7 @@ behind_ends (byte ∷ rest) = if ends_row byte then behind_ends rest else byte �
 abbrev pub rows_in : List ℕ → List (List (List ℕ))
 rows_in text = rows_from st.StartRecord (Some text)
 
--- the fields of a row: what stands before, between and behind its commas
+-- the fields of a row: what stands before, between and after its commas
 abbrev pub cells_of : List ℕ → List (List ℕ)
 cells_of line = slice_split (λ byte. byte == 44) line
 
@@ -45,7 +45,7 @@ pub record AreCut (bytes : List ℕ) (n : ℕ) (fields : List (Bor (List ℕ))) 
 abbrev pub IsCut : Line → Type 0
 IsCut line = AreCut line.bytes.now line.count line.fields
 
--- so many bytes at the front of a text are a row, up to a line end or the text's
+-- this many bytes at the front of a text are a row, up to a line end or the text's
 pub record IsFront (text : List ℕ) (n : ℕ) : Type 0 where
   pub fits : n ≤ length text
   pub whole : All (λ byte. ends_row byte ≡ false) (take n text)

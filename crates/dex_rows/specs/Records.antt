@@ -11,6 +11,6 @@ rows_of text = records default_config (strip_bom text)
 abbrev pub Fields : Type 0
 Fields = List (List ℕ)
 
--- the field at a place, from 0; nothing behind the last
+-- the field at a place, from 0; nothing after the last
 abbrev pub field_at : Fields → ℕ → List ℕ
 field_at row place = slice_index_or row place []

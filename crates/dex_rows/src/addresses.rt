@@ -52,7 +52,7 @@ pub fn read_role(text: &[u8], role: &mut Option<Address>) -> bool
     }
 }
 
-// The same of a word that is to name a wallet: its bytes are written where they stay.
+// Like `read_role`, of a word that is to name a wallet: its bytes are written where they stay.
 fn read_wallet(text: &[u8], role: &mut Option<Address>) -> bool
     ensures { IsRead result (option_map Some (address_of text.now)) role.new }
 {

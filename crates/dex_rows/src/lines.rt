@@ -55,7 +55,7 @@ pub(crate) fn next_line<'a>(rest: &mut &'a [u8], line: &mut Line<'a>) -> bool
     true
 }
 
-// What stands behind the line ends at the front.
+// What stands after the line ends at the front.
 fn behind_ends(text: &[u8]) -> &[u8]
     ensures { result.now ≡ behind_ends text.now }
 {
@@ -67,8 +67,8 @@ fn behind_ends(text: &[u8]) -> &[u8]
     &[]
 }
 
-// Cuts the row at the front of a text, up to a line end or the text's: one pass over its bytes. It is not inlined, so that
-// the pass has few values in hand. Fields that stood there before stay behind those of the row.
+// Cuts the row at the front of a text, up to a line end or the text's: one pass over its bytes. It is not inlined, so
+// that the pass has few values in hand. Fields that stood there before stay behind those of the row.
 #[inline(never)]
 fn cut_at<'a>(text: &'a [u8], fields: &mut [&'a [u8]; KEPT]) -> Cut
     requires { length fields.old ≡ 12 }
@@ -105,8 +105,8 @@ fn cut_at<'a>(text: &'a [u8], fields: &mut [&'a [u8]; KEPT]) -> Cut
     }
 }
 
-// Where to look on behind a comma. The words of a `do` row are its tenth field, which is a long one: many bytes are looked at
-// together there.
+// Where to look on after a comma. The words of a `do` row are its tenth field, which is a long one: many bytes are
+// looked at together there.
 fn next_place(text: &[u8], start: usize, count: usize) -> usize
     requires { start ≤ length text.now }
     ensures { IsPassed text.now start result }
@@ -131,7 +131,8 @@ fn keep<'a>(fields: &mut [&'a [u8]; KEPT], count: usize, field: &'a [u8])
     }
 }
 
-/// The bytes of the field at a place of a line, counted from 0, if it is one of the first twelve; no bytes behind the last.
+/// The bytes of the field at a place of a line, counted from 0, if it is one of the first twelve; no bytes after the
+/// last.
 pub(crate) fn field<'r>(line: &'r Line<'_>, place: usize) -> &'r [u8]
     requires few { place < 12 }
     requires cut { IsCut line.now }

@@ -30,7 +30,7 @@ impl<'a> PlainRows<'a> {
         self.bytes.len()
     }
 
-    /// Cuts them at the first line end behind so many bytes, and hands out those behind it.
+    /// Cuts them at the first line end after so many bytes, and hands out those after it.
     pub fn cut(&mut self, size: usize) -> PlainRows<'a>
         ensures { self.old ≡ self.new ++ result }
     {
@@ -62,7 +62,7 @@ impl<'a> PlainRows<'a> {
     }
 }
 
-// Where the first line end behind so many bytes stands, or where the text ends.
+// Where the first line end after so many bytes stands, or where the text ends.
 fn line_end(text: &[u8], size: usize) -> usize
     ensures within { result ≤ length text.now }
     ensures end { IsEnd (drop result text.now) }

@@ -16,7 +16,7 @@ pub fn is_printable(text: &[u8]) -> bool
     has_printable_bytes(text)
 }
 
-// The same. It looks at each byte, also behind one that is not printable: so many can be looked at together.
+// Like `is_printable`. It looks at each byte, also after one that is not printable: so many can be looked at together.
 fn has_printable_bytes(text: &[u8]) -> bool
     ensures { result ≡ list_all is_printable_byte text.now }
 {
@@ -52,7 +52,7 @@ fn record_is_printable(row: &ByteRecord) -> bool
     is_printable(row.as_slice()) || fields_are_printable(row)
 }
 
-// The same, field by field: the record may have bytes that stand in no field.
+// Like `record_is_printable`, field by field: the record may have bytes that stand in no field.
 fn fields_are_printable(row: &ByteRecord) -> bool
     ensures { result ≡ row_is_printable (fields_of row.now) }
 {

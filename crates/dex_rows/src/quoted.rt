@@ -45,8 +45,8 @@ impl<'a> QuotedRows<'a> {
         }
     }
 
-    /// Takes the next row into a record, the one that is there or a new one, and answers whether there was one. After a want
-    /// of memory there are no more rows.
+    /// Takes the next row into a record, the one that is there or a new one, and answers whether there was one. After a
+    /// lack of memory there are no more rows.
     pub(crate) fn next_row(&mut self, row: &mut Option<ByteRecord>) -> Result<bool, NoMemory>
         ensures next { IfOk result (λ found. found ≡ true
             → IsSomeAnd row.new (λ kept. self.old ≡ fields_of kept ∷ self.new)) }
@@ -82,7 +82,7 @@ fn read_row(reader: &mut Reader<&[u8]>, row: &mut ByteRecord) -> Result<bool, No
     Ok(found)
 }
 
-/// The bytes of the field at a place of a record, counted from 0; no bytes behind the last.
+/// The bytes of the field at a place of a record, counted from 0; no bytes after the last.
 pub(crate) fn field(read: &ByteRecord, place: usize) -> &[u8]
     ensures { result.now ≡ field_at (fields_of read.now) place }
 {

@@ -59,8 +59,8 @@ pub struct Rows<'a> {
     source: Source<'a>,
 }
 
-// What is left of a text: bytes without a quote, a text with quotes of which nothing was read, or rows that `csv` reads. Its reader
-// takes 16 KB, so it stands in a box, which is made before the first row is read.
+// What is left of a text: bytes without a quote, a text with quotes of which nothing was read, or rows that `csv`
+// reads. Its reader takes 16 KB, so it stands in a box, which is made before the first row is read.
 #[derive(Drop)]
 enum Source<'a> {
     Plain(&'a [u8]),
@@ -111,7 +111,7 @@ impl<'a> Rows<'a> {
         }
     }
 
-    /// Takes the next row, and answers whether there was one. After a want of memory there are no more rows.
+    /// Takes the next row, and answers whether there was one. After a lack of memory there are no more rows.
     pub fn next_row(&mut self, row: &mut Fields<'a>) -> Result<bool, NoMemory>
         ensures next { IfOk result (λ found. found ≡ true → self.old ≡ row.new ∷ self.new) }
         ensures end { IfOk result (λ found. found ≡ false → self.old ≡ []) }
@@ -131,8 +131,8 @@ impl<'a> Rows<'a> {
     }
 }
 
-// Takes the first row of a text, read by `csv`, and puts what is left into the source. It is not inlined, so that a reader is on the
-// stack only here, and so that a row behind the first costs nothing for it.
+// Takes the first row of a text, read by `csv`, and puts what is left into the source. It is not inlined, so that a
+// reader is on the stack only here, and so that a row behind the first costs nothing for it.
 #[inline(never)]
 fn first_row<'a>(
     alloc: Global,
@@ -170,7 +170,8 @@ pub fn field_count(row: &Fields<'_>) -> usize
     }
 }
 
-/// The bytes of the field at a place of a row, counted from 0, if it is one of the first twelve; no bytes behind the last.
+/// The bytes of the field at a place of a row, counted from 0, if it is one of the first twelve; no bytes after the
+/// last.
 pub fn field_at<'r>(row: &'r Fields<'_>, place: usize) -> &'r [u8]
     requires { place < 12 }
     ensures { result.now ≡ field_at row.now place }

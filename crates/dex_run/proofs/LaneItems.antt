@@ -28,12 +28,12 @@ module _ (lane : ℕ) (rows : List Row) where
       ∙ ap length (rows_of_lane-append lane before (row_of row ∷ []))
       ∙ length-append (rows_of_lane lane before) (rows_of_lane lane (row_of row ∷ []))
 
-  -- one more behind a row of the lane
+  -- one more after a row of the lane
   before-own : (i : ℕ) (row : Row) → i < length rows → row ≡ get_or rows i row → row.lane ≡ lane → rows_before lane rows (i + 1) ≡ rows_before lane rows i + 1
   before-own i row within at own =
       before-more i row within at ∙ ap (λ (b : Bool). rows_before lane rows i + length (cond b (row_of row ∷ []) [])) (eq-eqb row.lane lane own)
 
-  -- as many behind a row of another
+  -- as many after a row of another
   before-other : (i : ℕ) (row : Row) → i < length rows → row ≡ get_or rows i row → (row.lane ≡ lane → ⊥) → rows_before lane rows (i + 1) ≡ rows_before lane rows i
   before-other i row within at other =
       before-more i row within at
@@ -53,7 +53,7 @@ pub found-none : (rows : List Row) (by_lane : List (Vec ℕ Global)) → All (λ
 found-none rows by_lane empty = λ lane own within later rest.
     subst (λ (l : List ℕ). IsRest lane rows 0 (l ++ later)) (sym (empty lane own within)) (subst (λ (n : ℕ). IsRest lane rows n later) (before-none lane rows) rest)
 
--- behind the last row all are found
+-- after the last row all are found
 pub found-all : (rows : List Row) (place : ℕ) (by_lane : List (Vec ℕ Global)) → length rows ≤ place → AreFound rows place by_lane → IsIndex rows by_lane
 found-all rows place by_lane over found = λ lane own within.
     subst (IsRest lane rows 0) (append-nil (get_or by_lane lane own).items)
@@ -130,7 +130,7 @@ pub rest-next : (rows : List Row) (seat : SeatState) (own : List ℕ) (item plac
 rest-next rows seat own item place within at rest =
     subst (IsRestAt rows seat) (drop_more own item place within ∙ ap (λ (p : ℕ). p ∷ drop (item + 1) own) (sym at)) rest
 
--- what is to come behind it
+-- what is to come after it
 pub rest-behind : (rows : List Row) (before after : SeatState) (later : List ℕ) (done : ℕ) → after.lane ≡ before.lane → length after.calls ≡ done → IsRest before.lane rows done later
     → IsRestAt rows after later
 rest-behind rows before after later done lane calls rest =

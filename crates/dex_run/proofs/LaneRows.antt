@@ -15,13 +15,13 @@ use Rattle.std.proofs.lemmas.List.{drop_more, get_or-drop, take-append-drop, get
 pub rows_of_lane-append : (lane : ℕ) (xs ys : List PlainRow) → rows_of_lane lane (xs ++ ys) ≡ rows_of_lane lane xs ++ rows_of_lane lane ys
 rows_of_lane-append lane xs ys = filter-append (λ (row : PlainRow). nat_eq row.lane lane) xs ys
 
--- what is there behind the first items
+-- what is there after the first items
 behind : {A : Type 0} (xs : List A) (i : ℕ) (x : A) → i < length xs → x ≡ get_or xs i x → (rest : List A) × (xs ≡ take i xs ++ x ∷ rest)
 behind [] i x within at = absurd (omega (arith, within))
 behind (y ∷ xs) zero x within at = (xs, ap (λ z. z ∷ xs) (sym at))
 behind (y ∷ xs) (suc i) x within at = let found = behind xs i x (omega (arith, within)) at in (found.0, ap (λ l. y ∷ l) found.1)
 
--- and behind one and the next
+-- and after one and the next
 behind-two : {A : Type 0} (xs : List A) (i : ℕ) (x y : A) → suc i < length xs → x ≡ get_or xs i x → y ≡ get_or xs (suc i) y → (rest : List A) × (xs ≡ take i xs ++ x ∷ y ∷ rest)
 behind-two [] i x y within at next = absurd (omega (arith, within))
 behind-two (z ∷ xs) zero x y within at next =
@@ -60,7 +60,7 @@ module _ (script : PlainScript) (rows : List Row) (are : map row_of rows ≡ scr
   pub begins-first : Begins rows 0
   begins-first = λ k d less within. absurd (omega (arith, less))
 
-  -- behind a row alone
+  -- after a row alone
   pub begins-alone : (place : ℕ) → Begins rows place → ((d : Row) → place + 1 < length rows → (get_or rows place d).number ≡ (get_or rows (place + 1) d).number → ⊥)
       → Begins rows (place + 1)
   begins-alone place begins other = λ k d less within.
@@ -73,7 +73,7 @@ module _ (script : PlainScript) (rows : List Row) (are : map row_of rows ≡ scr
       omega (arith, at, le, not))
       (cases_lt k place)
 
-  -- behind two legs
+  -- after two legs
   pub begins-two : (place : ℕ) → Begins rows place → ((d : Row) → (place + 1 < length rows) × ((get_or rows place d).number ≡ (get_or rows (place + 1) d).number))
       → Begins rows (place + 2)
   begins-two place begins swap = λ k d less within.
@@ -94,7 +94,7 @@ module _ (script : PlainScript) (rows : List Row) (are : map row_of rows ≡ scr
       (cases_lt k (place + 1)))
       (cases_lt k place)
 
-  -- behind a row alone all numbers are higher
+  -- after a row alone all numbers are higher
   pub higher-behind : (i : ℕ) (row : Row) → i < length rows → row ≡ get_or rows i row → Begins rows (i + 1)
       → All (λ (other : PlainRow). row.number < other.number) (map row_of (drop (i + 1) rows))
   higher-behind i row within at begins =

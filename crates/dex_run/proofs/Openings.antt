@@ -24,7 +24,7 @@ zip-map P Q f each (x ∷ xs) (y ∷ ys) all = (each x y all.0, zip-map P Q f ea
 
 -- ---- a list that is changed from its first place on
 
--- the first so many items are mapped
+-- the first n items are mapped
 abbrev pub half : {A : Type 0} → (A → A) → ℕ → List A → List A
 half f zero xs = xs
 half f (suc i) [] = []

@@ -31,12 +31,12 @@ pub record ClosesAs (script : PlainScript) (seats : List SeatState) (outcome : P
 
 -- ---- room
 
--- room for so many gates with so many passes each
+-- room for this many gates with this many passes each
 pub record HasGateRoom {P C : Type 0} (gates lanes : ℕ) (room : GateRoom P C) : Type 0 where
   pub columns : AreEmpty gates lanes room.columns.items
   pub cells : IsRoom gates room.cells
 
--- room for so many markets and wallets with so many lanes
+-- room for this many markets and wallets with this many lanes
 pub record HasRoom (markets wallets lanes : ℕ) (room : ClosingRoom) : Type 0 where
   pub of_markets : HasGateRoom markets lanes room.markets
   pub of_wallets : HasGateRoom wallets lanes room.wallets

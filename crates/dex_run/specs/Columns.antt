@@ -16,7 +16,7 @@ AreLonger before [] after = after ≡ before
 AreLonger (old ∷ before) (item ∷ items) (new ∷ after) = IsLonger old item new × AreLonger before items after
 AreLonger _ _ _ = ⊥
 
--- so many empty lists, each with room for so many items
+-- this many empty lists, each with room for this many items
 pub record AreEmpty {T Z : Type 0} (count room : ℕ) (columns : List (Vec T Z)) : Type 0 where
   pub so_many : length columns ≡ count
   pub empty : All (λ (column : Vec T Z). column.items ≡ []) columns
@@ -38,7 +38,7 @@ module _ {V E O : Type 0} (entries : V → List E) (lane : E → ℕ) (origin : 
     pub each : All (λ (pass : PassView E O). of_lane lane pass.number (added gate.opening (entries value)) ≡ pass.mine)
         passes
 
--- an empty list with room for so many items
+-- an empty list with room for this many items
 pub record IsRoom {T Z : Type 0} (count : ℕ) (items : Vec T Z) : Type 0 where
   pub empty : items.items ≡ []
   pub enough : count ≤ vec_capacity items

@@ -18,13 +18,13 @@ Begins rows place =
     (k : ℕ) (row : Row) → k < place → place < length rows
     → (slice_index_or rows k row).number < (slice_index_or rows place row).number
 
--- the row at a place and the one behind it have one number
+-- the row at a place and the one after it have one number
 abbrev pub IsSwapAt : List Row → ℕ → Type 0
 IsSwapAt rows place =
     (row : Row) → (place + 1 < length rows)
     × ((slice_index_or rows place row).number ≡ (slice_index_or rows (place + 1) row).number)
 
--- no row behind the row at a place has its number
+-- no row after the row at a place has its number
 abbrev pub IsAlone : List Row → ℕ → Type 0
 IsAlone rows place =
     (row : Row) → place + 1 < length rows

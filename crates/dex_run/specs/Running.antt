@@ -18,8 +18,8 @@ pub record AreRowsOf (bank : BankState) (rows : List Row) (places : List RowPlac
   pub placed : ArePlaced bank.script.start (map row_of rows) places
   pub beside : AreBeside (map row_of rows) places
 
--- a seat of this bank of whose rows none has acted, all rows of its script with their places, and where the items of each lane
--- begin
+-- a seat of this bank of whose rows none has acted, all rows of its script with their places, and where the items of
+-- each lane begin
 pub record CanRun (lanes : Lanes) (seat : SeatState) : Type 0 where
   pub are : AreRowsOf lanes.bank.now lanes.rows.now lanes.places.now
   pub of_bank : IsSeatOf lanes.bank.now seat

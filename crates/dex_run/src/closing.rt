@@ -32,7 +32,7 @@ struct GateRoom<P, C> {
     cells: Vec<C>,
 }
 
-/// Room for so many gates with so many passes each, if there is memory for it.
+/// Room for this many gates with this many passes each, if there is memory for it.
 fn gate_room<P: Drop, C: Drop>(alloc: Global, gates: usize, lanes: usize) -> Option<GateRoom<P, C>>
     ensures { IfSome result (HasGateRoom gates lanes) }
 {
@@ -49,7 +49,7 @@ struct ClosingRoom {
     left: Room,
 }
 
-/// Room for closing a bank of so many markets and wallets with so many lanes, if there is memory for it.
+/// Room for closing a bank of this many markets and wallets with this many lanes, if there is memory for it.
 fn closing_room(alloc: Global, markets: usize, wallets: usize, lanes: usize) -> Option<ClosingRoom>
     ensures { IfSome result (HasRoom markets wallets lanes) }
 {

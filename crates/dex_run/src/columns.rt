@@ -9,7 +9,7 @@ use crate::of_cell::OfCell;
 use dex_gate::{Gate, Pass};
 use std::alloc::Global;
 
-/// Writes an item behind the others, where room for it is reserved.
+/// Writes an item after the others, where room for it is reserved.
 pub(crate) fn append<T: Drop>(items: &mut Vec<T>, item: T)
     requires { vec_len items.old < vec_capacity items.old }
     ensures { IsLonger items.old item items.new }
@@ -17,7 +17,7 @@ pub(crate) fn append<T: Drop>(items: &mut Vec<T>, item: T)
     items.push(item).unwrap();
 }
 
-/// So many empty columns, each with room for so many items, if there is memory for them.
+/// So many empty columns, each with room for this many items, if there is memory for them.
 pub(crate) fn columns_for<T: Drop>(alloc: Global, count: usize, room: usize) -> Option<Vec<Vec<T>>>
     ensures { IfSome result (λ columns. AreEmpty count room columns.items) }
 {

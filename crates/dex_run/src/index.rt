@@ -12,7 +12,7 @@ use dex_script_facts::RowList;
 use dex_types::{NoMemory, RowPlaces, add};
 use std::alloc::Global;
 
-/// Whether the row at a place and the one behind it are the legs of one swap: they have one number, as what stands
+/// Whether the row at a place and the one after it are the legs of one swap: they have one number, as what stands
 /// beside them tells.
 pub(crate) fn is_swap(places: &[RowPlaces], place: usize) -> bool
     requires { place < length places.now }

@@ -41,7 +41,7 @@ fn markets_of(places: &[RowPlaces], place: usize) -> Option<Markets> {
     })
 }
 
-/// The markets of an item of a lane, where it has so many. `own` holds the places at which its items begin, here and
+/// The markets of an item of a lane, where it has this many. `own` holds the places at which its items begin, here and
 /// below.
 fn markets_at(lanes: &Lanes<'_>, own: &[usize], item: usize) -> Option<Markets> {
     markets_of(lanes.places, *own.get(item)?)
@@ -126,7 +126,7 @@ impl Stay {
         }
     }
 
-    /// Behind an item: goes out where the stay ends with it.
+    /// After an item: goes out where the stay ends with it.
     pub(crate) fn behind(&self, doors: &[Door], item: usize) {
         if item.wrapping_add(1) != self.until {
             return;

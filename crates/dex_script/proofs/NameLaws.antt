@@ -19,7 +19,7 @@ use Rattle.dex_script.specs.Rows.{is_unknown}
 
 -- ---- the first place, from the last item to the first
 
--- the item at an index, and those behind it
+-- the item at an index, and those after it
 pub position-at : {X : Type 0} (test : X → Bool) (i k : ℕ) (xs : List X) (d : X) → k < length xs
     → position_from test i (drop k xs) ≡ cond (test (get_or xs k d)) (Some i) (position_from test (i + 1) (drop (suc k) xs))
 position-at test i k [] d within = absurd (omega (arith, within))
@@ -31,7 +31,7 @@ pub position-map : {X Y : Type 0} (test : Y → Bool) (f : X → Y) (i : ℕ) (x
 position-map test f i [] = refl
 position-map test f i (x ∷ xs) = ap (λ (rest : Option ℕ). cond (test (f x)) (Some i) rest) (position-map test f (i + 1) xs)
 
--- the item in front of those behind is put at its place
+-- the item in front of those after is put at its place
 pub put-first : {X : Type 0} (name : X → Address) (xs : List X) (place : ℕ) (address : Address) (x : X) (before after : Option ℕ) → 0 < place
     → place ≤ length xs → before ≡ position_from (λ one. is_same address (name one)) place (drop place xs)
     → after ≡ cond (is_same (name (get_or xs (place - 1) x)) address) (Some (place - 1)) before
@@ -48,7 +48,7 @@ put-first {X} name xs place address x before after some within behind is =
     ∙ ap (λ (n : ℕ). cond (test one) (Some (place - 1)) (position_from test (place - 1 + 1) (drop n xs))) (sym next)
     ∙ sym at
 
--- behind none is the whole list
+-- after none is the whole list
 pub from-first : {X Y : Type 0} (test : Y → Bool) (f : X → Y) (xs : List X) (place : ℕ) → place ≡ 0
     → position_from (λ x. test (f x)) place (drop place xs) ≡ position test (map f xs)
 from-first test f xs place none =

@@ -77,7 +77,7 @@ known-row start number draft words known within =
 in-order : (script : PlainScript) → AreRows script → AreInOrder script.start script.rows
 in-order script are = record { each = are.each; rising = are.rising; legs = are.legs; two = are.two }
 
--- a row of this number behind the others
+-- a row of this number after the others
 pub push-new : (number : ℕ) (draft : PlainDraft) (one : PlainRow) → IsGood number draft → one.number ≡ number → IsRowOf draft.script.start one
     → AreInOrder draft.script.start (draft.script.rows ++ one ∷ [])
 push-new number draft one good is of_start =
@@ -104,7 +104,7 @@ push-second number draft one other good is other_is of_start other_of_start legs
     rw low (omega (arith, less, other_is))) in
     subst (AreInOrder draft.script.start) (append_assoc rows (one ∷ []) (other ∷ [])) both
 
--- the rows of one item behind the others: `few` tells that there is room
+-- the rows of one item after the others: `few` tells that there is room
 pub item-good : (number : ℕ) (draft : PlainDraft) (first : PlainRow) (others : List PlainRow) (lane : ℕ) → IsGood number draft
     → is_full draft number ≡ false → All (λ (row : PlainRow). row.number ≡ number) (first ∷ others)
     → AreInOrder draft.script.start (draft.script.rows ++ first ∷ others) → lanes_of (first ∷ others) ≡ max 1 (lane + 1)
@@ -244,7 +244,7 @@ through P step number before last (fields ∷ rows) holds is =
     let a = first-row number before last fields rows is in
     through P step (next_number number) a.0 last rows (step number before a.0 fields holds a.1) a.2
 
--- a good script behind the first rows: the start is theirs where setup rows come too late
+-- a good script after the first rows: the start is theirs where setup rows come too late
 record Goes (first : PlainDraft) (number : ℕ) (draft : PlainDraft) : Type 0 where
   pub good : IsGood number draft
   pub start : first.is_late ≡ true → draft.script.start ≡ first.script.start
@@ -260,7 +260,7 @@ module _ (first : PlainDraft) (number : ℕ) (before after : PlainDraft) (goes :
     batch = kept.batch ∙ goes.batch;
   }
 
-  -- an instruction row or a swap leaves the start, and setup rows come too late behind it
+  -- an instruction row or a swap leaves the start, and setup rows come too late after it
   by-item : (rows : List PlainRow) (lane : ℕ) → with_item before rows lane ≡ after → IsGood (next_number number) after → Goes first (next_number number) after
   by-item rows lane is good = record {
     good = good;
@@ -306,7 +306,7 @@ from-rows number draft rows script good is =
     subst (Gives draft) (ok-same {E = Refusal} a.0.script script a.2)
     (record { rows = ends.good.rows; start = ends.start; single = λ batch. ends.good.single (ends.batch ∙ batch) })
 
--- what a dump and the rows behind it give
+-- what a dump and the rows after it give
 pub record StartsWith (batch : Bool) (script : PlainScript) : Type 0 where
   pub rows : AreRows script
   pub single : batch ≡ true → HasNoSwap script.rows

@@ -1,4 +1,4 @@
--- Rows that are read behind the bare markets and wallets of a script, and added to it, are read behind the script.
+-- Rows that are read after the bare markets and wallets of a script, and added to it, are read after the script.
 use Rattle.std.proofs.Common.{◌≡◌, ◌∙◌, ◌+◌, ◌-◌, ◌^◌, ◌≤◌, ◌==◌, ℕ, ℤ, Bool, true, false, not, nat_le, List, [], ◌∷◌, ◌++◌, Option, Some, None, Result, Ok, Err, ap, append_assoc, append-nil, arith, map, max, refl, subst, sym}
 use Rattle.std.specs.List.{AllZip}
 use Rattle.std.proofs.lemmas.Bool.{lt-leb}
@@ -89,7 +89,7 @@ swap-ok number draft words a b c d e f g = rw (a, b, c, d, e, f, g) refl
 
 -- a script that is under way, and a piece so far
 module _ (draft : PlainDraft) (under : IsUnderway draft) where
-  -- the script with so many rows, lanes and items
+  -- the script with this many rows, lanes and items
   abbrev built : ℤ → List PlainRow → ℕ → ℕ → Bool → Bool → PlainDraft
   built clock rows lanes items first late = record draft {
     script = record draft.script { rows = rows; lanes = lanes };
@@ -131,7 +131,7 @@ module _ (draft : PlainDraft) (under : IsUnderway draft) where
 
 -- ---- one more row of a piece
 
--- it is read behind the script too, and the next is like it
+-- it is read after the script too, and the next is like it
 record Steps (draft : PlainDraft) (next : PlainDraft) (left : Result PlainDraft FaultKind) : Type 0 where
   is : left ≡ Ok (joined draft next)
   alike : AreAlike draft next
@@ -227,7 +227,7 @@ bare-same start = record {
       position_from-zero test (map bare_wallet start.wallets) ∙ position-map test bare_wallet 0 start.wallets ∙ sym (position_from-zero test start.wallets);
 }
 
--- rows that are read beside a script are read behind it, where their clock is right and there is room
+-- rows that are read beside a script are read after it, where their clock is right and there is room
 pub read-behind : (draft : PlainDraft) (clock : ℤ) (number : ℕ) (rows : List Fields) (piece : PlainDraft) → IsUnderway draft → clock ≡ draft.clock
     → draft_after (beside draft clock) number rows ≡ Ok piece → draft.items + piece.items ≤ 100000
     → draft_after draft number rows ≡ Ok (joined draft piece)
@@ -271,7 +271,7 @@ stays-joined first draft piece stays = record { under = record { late = stays.un
 
 -- ---- rows behind rows
 
--- so are they behind one row more, or its fault
+-- so are they after one row more, or its fault
 abbrev AreBoth : ℕ → PlainDraft → List Fields → List Fields → Type 0
 AreBoth number draft rows more =
     draft_after draft number (rows ++ more) ≡ (draft_after draft number rows >>= λ next. draft_after next (number_after number rows) more)

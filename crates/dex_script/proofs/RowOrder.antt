@@ -57,7 +57,7 @@ pub lanes-more : (rows more : List PlainRow) (lane : ℕ) → lanes_of more ≡ 
 lanes-more [] more lane is = is
 lanes-more (first ∷ rows) more lane is = ap (λ (n : ℕ). max (first.lane + 1) n) (lanes-more rows more lane is) ∙ omega arith
 
--- rows of one number behind rows of lower ones are one item more
+-- rows of one number after rows of lower ones are one item more
 pub items-more : (rows : List PlainRow) (number : ℕ) (first : PlainRow) (others : List PlainRow) → All (λ (row : PlainRow). row.number < number) rows
     → All (λ (row : PlainRow). row.number ≡ number) (first ∷ others) → length (items_of (rows ++ first ∷ others)) ≡ length (items_of rows) + 1
 items-more rows number first others below same =

@@ -56,7 +56,7 @@ pub record IsMintRow (draft : PlainDraft) (address : Address) (decimals : ℕ) (
   pub few : length draft.script.start.mints < 16
   pub declares : Declares draft (address ∷ []) (more_mints draft.script.start address decimals) after
 
--- a row that gives a name to a mint that is declared, and has so many decimals
+-- a row that gives a name to a mint that is declared, and has this many decimals
 pub record IsName (draft : PlainDraft) (mint : Address) (decimals : ℕ) : Type 0 where
   pub words : MintWords
   pub found : mint_at mint draft.script.start.mints ≡ Some words

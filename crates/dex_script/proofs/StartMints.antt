@@ -42,7 +42,7 @@ any-push test (first ∷ xs) x h = elim (cases_Bool (test first)) [
 
 -- ---- mints
 
--- the first mint of an address has so many decimals
+-- the first mint of an address has this many decimals
 pub record HasDecimals (mints : List PlainAccount) (decimals : ℕ) (address : Address) : Type 0 where
   pub words : MintWords
   pub found : mint_at address mints ≡ Some words

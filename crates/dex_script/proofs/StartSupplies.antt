@@ -1,4 +1,5 @@
--- The supply of each mint is what its wallets hold, and so what wallets and vaults hold: vaults are empty as they are made.
+-- The supply of each mint is what its wallets hold, and so what wallets and vaults hold: vaults are empty as they are
+-- made.
 use Rattle.std.proofs.Common.{◌≡◌, ◌∙◌, ◌<◌, ◌≤◌, ◌+◌, ◌^◌, ◌∷◌, ◌++◌, [], ℕ, List, Bool, true, false, Some, ap, arith, cond, if◌then◌else◌, inl, inr, length, lit<, map, refl, subst, sym}
 use Rattle.std.specs.List.{All}
 use Rattle.std.proofs.lemmas.Bool.{cases_Bool}

@@ -5,9 +5,9 @@ use Rattle.dex_types.specs.Accounts.{PlainAccounts}
 use Rattle.dex_state.specs.Addresses.{addresses_of}
 use Rattle.dex_script_facts.specs.PlainScript.{PlainScript, no_accounts, without_rows}
 
--- the script so far, with every address that is taken, the clock of the next instruction row, whether no row stands there but
--- those of a dump, whether setup rows come too late: behind a dump or an instruction row; how many instruction rows there are,
--- where a swap is one; and whether the script is to act in batches
+-- the script so far, with every address that is taken, the clock of the next instruction row, whether no row stands
+-- there but those of a dump, whether setup rows come too late: after a dump or an instruction row; how many instruction
+-- rows there are, where a swap is one; and whether the script is to act in batches
 pub record PlainDraft : Type 0 where
   pub script : PlainScript
   pub taken : List Address
@@ -29,7 +29,7 @@ no_rows batch = record {
   batch = batch;
 }
 
--- behind a dump: its accounts are there, and setup rows come too late
+-- after a dump: its accounts are there, and setup rows come too late
 abbrev pub behind_dump : Bool → PlainAccounts → PlainDraft
 behind_dump batch accounts = record {
   script = without_rows accounts;

@@ -68,8 +68,8 @@ pub record AreFew (start : PlainAccounts) : Type 0 where
   pub markets : length start.markets ≤ 16
   pub wallets : length start.wallets ≤ 256
 
--- what a reader knows: each row has its places, its number and its lane beside it, and none was read where setup rows do not come
--- too late
+-- what a reader knows: each row has its places, its number and its lane beside it, and none was read where setup rows
+-- do not come too late
 pub record IsReading (draft : PlainDraft) (places : List RowPlaces) : Type 0 where
   pub placed : ArePlaced draft.script.start draft.script.rows places
   pub beside : AreBeside draft.script.rows places

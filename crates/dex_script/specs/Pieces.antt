@@ -1,4 +1,4 @@
--- Rows behind an instruction row, read in pieces.
+-- Rows after an instruction row, read in pieces.
 use Rattle.std.specs.Prelude.{◌≡◌, ℕ, ℤ, ◌+◌, true, false, List, [], ◌∷◌, ◌++◌, None, map, max}
 use Rattle.dex_types.specs.declared.addresses.Address.{Address}
 use Rattle.dex_types.specs.Accounts.{PlainAccount, PlainAccounts, PlainMarketAccounts}
@@ -8,7 +8,7 @@ use Rattle.dex_script_facts.specs.Places.{market_place, wallet_place}
 use Rattle.dex_script.specs.Drafts.{PlainDraft}
 use Rattle.dex_script.specs.Markets.{no_accounts_of}
 
--- the number of the row behind some, the first of which has this number
+-- the number of the row after some, the first of which has this number
 abbrev pub number_after : ℕ → List Fields → ℕ
 number_after number [] = number
 number_after number (row ∷ rows) = number_after (next_number number) rows
@@ -60,7 +60,7 @@ pub record AreAlike (draft piece : PlainDraft) : Type 0 where
   pub batch : piece.batch ≡ draft.batch
   pub places : HaveSamePlaces piece.script.start draft.script.start
 
--- the script with the rows of a piece behind its own
+-- the script with the rows of a piece after its own
 abbrev pub joined : PlainDraft → PlainDraft → PlainDraft
 joined draft piece = record draft {
   script = record draft.script {

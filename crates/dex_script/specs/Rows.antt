@@ -1,4 +1,4 @@
--- The script with what one more row states, or the lowest fault that the row has behind the rows before it.
+-- The script with what one more row states, or the lowest fault that the row has after the rows before it.
 use Rattle.std.specs.Prelude.{ℕ, ℤ, ◌+◌, ◌-◌, ◌^◌, Bool, true, false, not, ◌||◌, ◌==◌, nat_le, nat_lt, if◌then◌else◌, List, [], ◌∷◌, ◌++◌, length, max, Option, Some, None, Result, Ok, is_some}
 use Rattle.std.specs.List.{list_any}
 use Rattle.dex_types.specs.declared.addresses.Address.{Address}
@@ -30,7 +30,7 @@ use Rattle.dex_script_facts.specs.Known.{has_account, has_market, is_known_role}
 use Rattle.dex_script.specs.Drafts.{PlainDraft}
 use Rattle.dex_script.specs.Known.{is_any_among, made_addresses, mint_at, orders_at, with_supply}
 
--- the same script with other accounts, behind a setup row that declares these addresses
+-- the same script with other accounts, after a setup row that declares these addresses
 abbrev pub with_start : PlainDraft → List Address → PlainAccounts → PlainDraft
 with_start draft new start = record draft { script = record draft.script { start = start }; taken = draft.taken ++ new; is_first = false }
 
@@ -44,7 +44,8 @@ with_program draft program =
 abbrev pub with_clock : PlainDraft → ℤ → PlainDraft
 with_clock draft now = record draft { clock = now; is_first = false }
 
--- what refuses a row that declares addresses: one of them is taken, there is no room for what they are of, or it comes too late
+-- what refuses a row that declares addresses: one of them is taken, there is no room for what they are of, or it comes
+-- too late
 unfoldable pub checked_new : PlainDraft → Bool → Bool → Result (Unit {0}) FaultKind
 checked_new draft is_taken is_full = unless is_taken Duplicate (unless is_full OverLimit (unless draft.is_late (SetupRefused code.Late) (Ok tt)))
 
@@ -55,7 +56,8 @@ with_mint draft address decimals =
     checked_new draft (is_among address draft.taken) (nat_le 16 (length start.mints)) >>= λ _.
     Ok (with_start draft (address ∷ []) (record start { mints = start.mints ++ record { address = address; bytes = mint_bytes 0 decimals } ∷ [] }))
 
--- what refuses a row that gives a name to a mint, which must have so many decimals: the name is given already, or not, to `named`
+-- what refuses a row that gives a name to a mint, which must have this many decimals: the name is given already, or
+-- not, to `named`
 unfoldable pub checked_name : PlainDraft → Address → Option Address → ℕ → Result (Unit {0}) FaultKind
 checked_name draft mint named decimals =
     found_or (mint_at mint draft.script.start.mints) UnknownLabel >>= λ words.
@@ -166,7 +168,8 @@ instruction_row number now words = record {
   now = now;
 }
 
--- no instruction row of this number finds room: 100,000 of them, where a swap is one, and numbers of rows below the largest u32
+-- no instruction row of this number finds room: 100,000 of them, where a swap is one, and numbers of rows below the
+-- largest u32
 abbrev pub is_full : PlainDraft → ℕ → Bool
 is_full draft number = nat_le 100000 draft.items || (number == 2 ^ 32 - 1)
 
@@ -258,6 +261,6 @@ with_statement draft number (row.Orders market address) = with_orders_row draft 
 with_statement draft number (row.Instruction words) = with_instruction draft number words
 with_statement draft number (row.Swap words) = with_swap draft number words
 
--- the faults that a row has by itself come first, then those behind the rows before it
+-- the faults that a row has by itself come first, then those after the rows before it
 unfoldable pub with_row : PlainDraft → ℕ → Fields → Result PlainDraft FaultKind
 with_row draft number fields = statement_of fields >>= with_statement draft number

@@ -13,8 +13,8 @@ use Rattle.dex_script_facts.specs.PlainScript.{PlainScript}
 use Rattle.dex_script.specs.Drafts.{PlainDraft, behind_dump, no_rows}
 use Rattle.dex_script.specs.Rows.{with_row}
 
--- why a text is no script: its first faulty row, by its number, with the lowest of its faults; or the dump at its start is faulty,
--- or its accounts have findings
+-- why a text is no script: its first faulty row, by its number, with the lowest of its faults; or the dump at its start
+-- is faulty, or its accounts have findings
 pub data Refusal : Type 0 where
   AtRow : (row : ℕ) (kind : FaultKind) → Refusal
   InDump : (fault : DumpFault) → Refusal
@@ -31,7 +31,7 @@ draft_after draft number [] = Ok draft
 draft_after draft number (row ∷ rows) =
     fault_in number (with_row draft number row) >>= λ next. draft_after next (next_number number) rows
 
--- the script that rows give, the first of them of this number, behind what was read
+-- the script that rows give, the first of them of this number, after what was read
 abbrev pub script_from : PlainDraft → ℕ → List Fields → Result PlainScript Refusal
 script_from draft number rows = draft_after draft number rows >>= λ last. Ok last.script
 
@@ -56,8 +56,8 @@ abbrev pub AnswersBy : Bool → Bool → List Fields → Result PlainScript Refu
 AnswersBy batch true rows answer = (dump : PlainAnswer) × AnswersDump rows dump × (answer ≡ behind batch dump)
 AnswersBy batch false rows answer = answer ≡ script_from (no_rows batch) 1 rows
 
--- what a text answers: its script, or why it is none. Whether the script is to act in batches stands first: such a script has no
--- swap
+-- what a text answers: its script, or why it is none. Whether the script is to act in batches stands first: such a
+-- script has no swap
 abbrev pub Answers : Bool → List ℕ → Result PlainScript Refusal → Type 0
 Answers batch text answer = AnswersBy batch (begins_with_dump (rows_of text)) (rows_of text) answer
 

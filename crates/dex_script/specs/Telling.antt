@@ -47,7 +47,7 @@ draft_of draft = record {
   batch = draft.batch;
 }
 
--- an error is this refusal. Want of memory tells nothing
+-- an error is this refusal. A lack of memory tells nothing
 abbrev pub TellsRefusal : ScriptError → Result PlainDraft Refusal → Type 0
 TellsRefusal (script.Row row kind code) meant =
     (fault : FaultKind) × (meant ≡ Err (AtRow row fault)) × (kind ≡ kind_number fault) × (code ≡ code_of fault)
@@ -55,31 +55,32 @@ TellsRefusal (script.Dump fault) meant = meant ≡ Err (InDump fault)
 TellsRefusal (script.Audit found) meant = meant ≡ Err (InAudit found.items)
 TellsRefusal script.NoMemory meant = Unit {0}
 
--- the draft behind rows, or their first faulty one
+-- the draft after rows, or their first faulty one
 abbrev pub TellsDraft : Result PlainDraft ScriptError → Result PlainDraft Refusal → Type 0
 TellsDraft (Ok draft) meant = meant ≡ Ok draft
 TellsDraft (Err error) meant = TellsRefusal error meant
 
--- the draft behind the first of some rows: behind an instruction row the others, the first of them of this number, leave what all
--- leave, and else there are none; or the first faulty one
+-- the draft after the first of some rows: after an instruction row the others, the first of them of this number, leave
+-- what all leave, and else there are none; or the first faulty one
 abbrev pub TellsFront : Result PlainDraft ScriptError → ℕ → List Fields → Result PlainDraft Refusal → Type 0
 TellsFront (Ok draft) number left meant =
     ((draft.is_late && not draft.is_first) ≡ true → meant ≡ draft_after draft number left)
     × ((draft.is_late && not draft.is_first) ≡ false → meant ≡ Ok draft)
 TellsFront (Err error) number left meant = TellsRefusal error meant
 
--- behind a row without a fault this is what it gives, and behind one with a fault all is as it was. Want of memory tells nothing
+-- after a row without a fault this is what it gives, and after one with a fault all is as it was. A lack of memory
+-- tells nothing
 abbrev pub TellsAdded : {A : Type 0} → Result (Unit {0}) RowError → A → A → Result A FaultKind → Type 0
 TellsAdded (Ok done) old new meant = meant ≡ Ok new
 TellsAdded (Err (row_error.Fault kind)) old new meant = (meant ≡ Err kind) × (new ≡ old)
 TellsAdded (Err row_error.NoMemory) old new meant = Unit {0}
 
--- the draft that is left behind a row, or its fault
+-- the draft that is left after a row, or its fault
 abbrev pub TellsLeft : Result (Unit {0}) ScriptError → PlainDraft → Result PlainDraft Refusal → Type 0
 TellsLeft (Ok done) left meant = meant ≡ Ok left
 TellsLeft (Err error) left meant = TellsRefusal error meant
 
--- the dump that rows begin with, with the rows behind it, where its accounts have no findings; or what is wrong with it
+-- the dump that rows begin with, with the rows after it, where its accounts have no findings; or what is wrong with it
 abbrev pub TellsStart : Result DumpRead ScriptError → List Fields → List Fields → Type 0
 TellsStart (Ok read) rows left =
     AnswersDump rows (Ok (plain_dump read left)) × (findings (accounts_of read.accounts) ≡ [])
@@ -89,7 +90,7 @@ TellsStart (Err (script.Audit found)) rows left =
 TellsStart (Err (script.Row row kind code)) rows left = ⊥
 TellsStart (Err script.NoMemory) rows left = Unit {0}
 
--- an error says why the text is no script. Want of memory tells nothing
+-- an error says why the text is no script. A lack of memory tells nothing
 abbrev pub TellsError : ScriptError → Bool → List ℕ → Type 0
 TellsError (script.Row row kind code) batch text =
     (fault : FaultKind) × IsRefused batch text (AtRow row fault) × (kind ≡ kind_number fault) × (code ≡ code_of fault)

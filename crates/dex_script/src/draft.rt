@@ -77,7 +77,7 @@ impl Draft {
         }
     }
 
-    /// Behind the dump of these accounts.
+    /// After the dump of these accounts.
     pub(crate) fn behind_dump(
         alloc: Global,
         accounts: Accounts,

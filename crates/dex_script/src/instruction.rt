@@ -1,4 +1,4 @@
-//! Instruction rows, behind the rows before them.
+//! Instruction rows, after the rows before them.
 
 ghost use Rattle.std.specs.Prelude.{◌≡◌, ◌<◌, ◌≤◌, ◌+◌, List, [], ◌∷◌, ◌++◌, true, OnOk, map, vec_capacity, vec_len};
 ghost use Rattle.dex_types.specs.Accounts.{PlainAccounts};
@@ -114,7 +114,7 @@ impl Draft {
     }
 }
 
-/// Makes room for so many rows more, with their places. Where memory is wanting both lists stay as well.
+/// Makes room for this many rows more, with their places. Where memory is wanting both lists stay as well.
 pub fn make_room(
     rows: &mut Vec<Row>,
     places: &mut Vec<RowPlaces>,
@@ -130,8 +130,8 @@ pub fn make_room(
     Ok(())
 }
 
-/// One more row of this number, at this time and at these places, for which there is room: what the words say, whose buffers
-/// go into it.
+/// One more row of this number, at this time and at these places, for which there is room: what the words say, whose
+/// buffers go into it.
 pub fn push_placed(
     rows: &mut Vec<Row>,
     places: &mut Vec<RowPlaces>,
@@ -168,7 +168,8 @@ pub fn push_placed(
     rows.push_reserved(take_row(number, now, words));
 }
 
-/// The row of this number, at this time: what the words say, whose buffers go into it. It is not inlined: a row is large.
+/// The row of this number, at this time: what the words say, whose buffers go into it. It is not inlined: a row is
+/// large.
 #[inline(never)]
 pub fn take_row(number: u32, now: i64, words: &mut InstructionWords) -> Row
     ensures { row_of result ≡ spec.instruction_row number now words.old }

@@ -1,5 +1,5 @@
-//! Laws of scripts. A law is a function that does nothing, and its clause is the law. One that rests on a law of a crate
-//! below calls that.
+//! Laws of scripts. A law is a function that does nothing, and its clause is the law. One that rests on a law of a
+//! crate below calls that.
 
 ghost use Rattle.std.specs.Prelude.{◌≡◌, ℕ, Bool, List, [], false, true};
 ghost use Rattle.dex_rows.specs.Records.{rows_of};
@@ -13,8 +13,8 @@ use dex_audit::{
     accounts_without_findings_are_of_sound_markets, mints_without_findings_are_conserved,
 };
 
-/// The instruction rows of a script are not too many, are within the limits, and name only markets and wallets with which
-/// the script starts. Their numbers never fall, and rows of one number are the two legs of a swap.
+/// The instruction rows of a script are not too many, are within the limits, and name only markets and wallets with
+/// which the script starts. Their numbers never fall, and rows of one number are the two legs of a swap.
 pub fn rows_of_a_script_are_in_order()
     ensures { (batch : Bool) (text : List ℕ) (script : PlainScript) → Reads batch text script → AreRows script }
 {}

@@ -12,8 +12,9 @@ use dex_types::{Address, MarketAccounts, NoMemory, OrdersAccount};
 use std::alloc::Global;
 use std::marker::Model;
 
-/// A market with which a script starts. A contract sees it as its accounts. Those of a dump are there. Of a market that a row declares
-/// only the open-orders accounts are there at first, and room for large ones: all others are made when the first instruction row is read.
+/// A market with which a script starts. A contract sees it as its accounts. Those of a dump are there. Of a market that
+/// a row declares only the open-orders accounts are there at first, and room for large ones: all others are made when
+/// the first instruction row is read.
 #[derive(Drop)]
 pub struct DeclaredMarket {
     pub(crate) accounts: MarketAccounts,

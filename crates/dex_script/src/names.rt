@@ -16,8 +16,8 @@ use dex_types::{Address, NoMemory};
 use std::alloc::Global;
 use std::collections::HashMap;
 
-/// Where the market and the wallets of a row stand in the lists of those with which its script starts; `u16::MAX` for a role that
-/// names none.
+/// Where the market and the wallets of a row stand in the lists of those with which its script starts; `u16::MAX` for a
+/// role that names none.
 #[derive(Clone, Copy)]
 pub struct Stand {
     pub market: u16,

@@ -1,4 +1,4 @@
-//! Rows behind an instruction row, read in pieces: each beside the others, and then put together.
+//! Rows after an instruction row, read in pieces: each beside the others, and then put together.
 
 ghost use Rattle.std.specs.Prelude.{◌≡◌, ◌≤◌, ◌+◌, ◌&&◌, IfOk, map, not, true};
 ghost use Rattle.dex_types.specs.Accounts.{named_of};
@@ -16,8 +16,8 @@ use std::alloc::{AllocError, Global};
 const MOST: u32 = 100_000;
 
 impl Reader {
-    /// Whether an instruction row was read, or any row behind a dump: neither setup rows nor one that chooses the program may
-    /// follow.
+    /// Whether an instruction row was read, or any row after a dump: neither setup rows nor one that chooses the
+    /// program may follow.
     pub fn is_underway(&self) -> bool
         ensures { result ≡ (self.now.is_late && not self.now.is_first) }
     {
@@ -31,7 +31,8 @@ impl Reader {
         self.draft.clock
     }
 
-    /// A reader of rows further on, for the same markets and wallets, which has read none of them; their clock is this one.
+    /// A reader of rows further on, for the same markets and wallets, which has read none of them; their clock is this
+    /// one.
     pub fn beside(&self, alloc: Global, clock: i64) -> Result<Reader, AllocError>
         ensures { IfOk result (λ piece. piece ≡ spec.beside self.now clock) }
     {
@@ -69,7 +70,7 @@ impl Reader {
         piece.draft.items <= MOST && self.draft.items <= MOST - piece.draft.items
     }
 
-    /// What is read with the rows of a piece behind, which name the same markets and wallets. No row is moved.
+    /// What is read with the rows of a piece after, which name the same markets and wallets. No row is moved.
     pub fn join(self, piece: Reader) -> Result<Reader, NoMemory>
         requires alike { spec.AreAlike self piece }
         requires room { self.items + piece.items ≤ 100000 }

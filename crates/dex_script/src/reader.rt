@@ -30,8 +30,8 @@ const ROWS: usize = 512;
 /// The same for the places of rows.
 const PLACES: usize = 6_600;
 
-/// A script as far as its rows are read, the places of each row, and, from its first instruction row on, the names of its
-/// markets and wallets. A contract sees it as what the rows say.
+/// A script as far as its rows are read, the places of each row, and, from its first instruction row on, the names of
+/// its markets and wallets. A contract sees it as what the rows say.
 #[derive(Drop)]
 pub struct Reader {
     pub(crate) draft: Draft,
@@ -101,8 +101,8 @@ impl Reader {
         })
     }
 
-    /// This reader, with room for some rows more where so many bytes are still to be read. Lists that are shorter than this are copied
-    /// each time that they grow, and longer ones only get other pages.
+    /// This reader, with room for some rows more where so many bytes are still to be read. Lists that are shorter than
+    /// this are copied each time that they grow, and longer ones only get other pages.
     pub(crate) fn with_room(self, left: usize) -> Result<Reader, NoMemory>
         ensures { IfOk result (λ wide. wide ≡ self) }
     {
@@ -114,8 +114,8 @@ impl Reader {
         Ok(wide)
     }
 
-    /// Adds what the row of this number states. Behind a fault all is as it was; where memory is wanting, what is left does
-    /// not matter. The words are a buffer for those of `do` rows.
+    /// Adds what the row of this number states. After a fault all is as it was; where memory is wanting, what is left
+    /// does not matter. The words are a buffer for those of `do` rows.
     #[tactic(auto, unfolding(crate::specs::Rows::with_row))]
     pub fn add_row(
         &mut self,
@@ -150,7 +150,7 @@ impl Reader {
         }
     }
 
-    /// Adds what a setup row states, or one that chooses the program. Names are made anew behind it.
+    /// Adds what a setup row states, or one that chooses the program. Names are made again after it.
     fn add_setup(&mut self, alloc: Global, statement: Statement) -> Result<(), RowError>
         requires { IsSetup statement }
         ensures { (number : ℕ) → TellsAdded result self.old self.new (spec.with_statement self.old number statement) }
@@ -239,7 +239,7 @@ impl Reader {
         }
     }
 
-    /// The same, where the names are not there yet. It is not inlined: it has room for them.
+    /// Like `places_of`, where the names are not there yet. It is not inlined: it has room for them.
     #[inline(never)]
     fn first_places_of(
         &mut self,
@@ -255,7 +255,7 @@ impl Reader {
         Ok(found)
     }
 
-    /// Behind a `clock` row. The names stay.
+    /// After a `clock` row. The names stay.
     fn set_clock(&mut self, now: i64)
         ensures { self.new ≡ spec.with_clock self.old now }
     {

@@ -29,13 +29,13 @@ use dex_statement::{FaultKind, InstructionWords, RowError};
 use dex_types::NoMemory;
 use std::alloc::Global;
 
-/// How the rows of a script are read that stand behind its first instruction row.
+/// How the rows of a script are read that stand after its first instruction row.
 pub trait ReadRows {
     /// What a way to read needs.
     ghost ready: { Self → Type 0 };
 
-    /// What is read behind the rows that are left, the first of which has this number, or the first faulty one. The accounts of
-    /// markets that the reader has may be still to be made.
+    /// What is read after the rows that are left, the first of which has this number, or the first faulty one. The
+    /// accounts of markets that the reader has may be still to be made.
     fn read_rows(
         &self,
         alloc: Global,
@@ -83,8 +83,8 @@ impl MakeMarkets for InTurn {
 }
 
 /// The script that a text is: the accounts that its first rows make, or that the dump at its start holds, and its
-/// instruction rows. Else the first faulty row with the lowest of its faults, or the fault or the findings of the dump. In a
-/// script that is to act in batches a swap is a fault, so each of its rows acts by itself.
+/// instruction rows. Else the first faulty row with the lowest of its faults, or the fault or the findings of the dump.
+/// In a script that is to act in batches a swap is a fault, so each of its rows acts by itself.
 pub fn read_script(alloc: Global, bytes: &[u8], batch: bool) -> Result<Script, ScriptError>
     ensures told { TellsScript result batch bytes.now }
     ensures apart { IfOk result (λ script. batch ≡ true → HasNoSwap script.rows) }
@@ -92,7 +92,7 @@ pub fn read_script(alloc: Global, bytes: &[u8], batch: bool) -> Result<Script, S
     read_script_by(alloc, bytes, batch, &InTurn)
 }
 
-/// The same, with the rows behind the first instruction row read as the last argument does.
+/// Like `read_script`, with the rows after the first instruction row read as the last argument does.
 pub fn read_script_by<H: ReadRows>(
     alloc: Global,
     bytes: &[u8],
@@ -149,8 +149,8 @@ fn read_behind_dump<H: ReadRows>(
     read_all(alloc, Reader::of(alloc, before), number, rows, how)
 }
 
-/// What is read behind the rows that are left, the first of which has this number, or the first faulty one. Those behind the first
-/// instruction row are read as the last argument does.
+/// What is read after the rows that are left, the first of which has this number, or the first faulty one. Those after
+/// the first instruction row are read as the last argument does.
 fn read_all<H: ReadRows>(
     alloc: Global,
     reader: Reader,
@@ -217,8 +217,8 @@ fn next_begins_dump(rows: &mut Rows<'_>) -> Result<bool, NoMemory>
     Ok(found && is_first_row(&row))
 }
 
-/// What is read behind the rows that are left, the first of which has this number, or the first faulty one. Raises the
-/// number to that of the row behind them.
+/// What is read after the rows that are left, the first of which has this number, or the first faulty one. Raises the
+/// number to that of the row after them.
 pub fn read_rows(
     alloc: Global,
     mut reader: Reader,
@@ -237,8 +237,8 @@ pub fn read_rows(
     Ok(reader)
 }
 
-/// What is read behind the rows up to the first instruction row, which is the last that is taken, or the first faulty one.
-/// The rows that are left are those behind it; where no instruction row stands among them, all are read.
+/// What is read after the rows up to the first instruction row, which is the last that is taken, or the first faulty
+/// one. The rows that are left are those after it; where no instruction row stands among them, all are read.
 fn read_first(
     alloc: Global,
     mut reader: Reader,
@@ -256,7 +256,7 @@ fn read_first(
     Ok(reader)
 }
 
-/// Adds what the row of this number states. Behind a fault, what is left does not matter.
+/// Adds what the row of this number states. After a fault, what is left does not matter.
 fn add_row(
     alloc: Global,
     reader: &mut Reader,
@@ -283,7 +283,7 @@ fn row_error(row: u32, kind: FaultKind) -> ScriptError
     }
 }
 
-/// The number of the row behind one. Numbers from the largest u32 on are told as that.
+/// The number of the row after one. Numbers from the largest u32 on are reported as that.
 fn next_number(number: u32) -> u32
     ensures { result ≡ next_number number }
 {

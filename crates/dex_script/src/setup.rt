@@ -1,4 +1,4 @@
-//! Setup rows, and the row that chooses the program, behind the rows before them. Behind a fault the draft is as it was;
+//! Setup rows, and the row that chooses the program, after the rows before them. After a fault the draft is as it was;
 //! where memory is wanting, what is left of it does not matter.
 
 ghost use Rattle.std.specs.Prelude.{◌≡◌, ℕ, OnOk};
@@ -117,7 +117,7 @@ impl Draft {
         Ok(())
     }
 
-    /// Whether a row may give a name to a mint, which must have so many decimals: `named` is who has it already.
+    /// Whether a row may give a name to a mint, which must have this many decimals: `named` is who has it already.
     #[tactic(auto, unfolding(crate::specs::Rows::checked_name))]
     fn check_name(
         &self,

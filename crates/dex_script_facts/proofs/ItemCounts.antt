@@ -15,7 +15,7 @@ abbrev pub goes_with : Option ℕ → ℕ → Bool
 goes_with None number = false
 goes_with (Some last) number = eqb last number
 
--- how many items begin at places that stand behind a row of this number
+-- how many items begin at places that stand after a row of this number
 abbrev pub begun : Option ℕ → List RowPlaces → ℕ
 begun last [] = 0
 begun last (at ∷ places) = cond (goes_with last at.number) 0 1 + begun (Some at.number) places
@@ -33,7 +33,7 @@ begins (Some last) number differs is = turned (eqb last number) ∙ ap one_where
     turned true = refl
     turned false = refl
 
--- from a place to those behind it
+-- from a place to those after it
 pub begun-more : (places : List RowPlaces) (place : ℕ) (at : RowPlaces) (last : Option ℕ) (differs : Bool) → place < length places → at ≡ slice_index_or places place at
     → differs ≡ not (option_eq eqb last (Some at.number))
     → begun last (drop place places) ≡ one_where differs + begun (Some at.number) (drop (place + 1) places)

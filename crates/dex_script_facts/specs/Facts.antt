@@ -37,8 +37,8 @@ pub record IsRowOf (start : PlainAccounts) (row : PlainRow) : Type 0 where
   pub named : length row.named ≤ 16
   pub bytes : length row.bytes ≤ 256
 
--- a row that may be a leg of a swap: its data is a take's or does not decode, its coin and its pc wallet are not one, and it names no
--- open-orders account, no discount and no referrer
+-- a row that may be a leg of a swap: its data is a take's or does not decode, its coin and its pc wallet are not one,
+-- and it names no open-orders account, no discount and no referrer
 pub record IsLeg (row : PlainRow) : Type 0 where
   pub take : is_take_or_bad (decoded row.bytes) ≡ true
   pub wallets : (wallet : Address) → is_role row.coin wallet ≡ true → is_role row.pc wallet ≡ false
@@ -65,7 +65,8 @@ HasNoThree rows =
     (place : ℕ) (row : PlainRow) → place + 2 < length rows
     → (slice_index_or rows place row).number < (slice_index_or rows (place + 2) row).number
 
--- the rows of a script: not too many items, each row of the start, with numbers that never fall, and rows of one number are two legs
+-- the rows of a script: not too many items, each row of the start, with numbers that never fall, and rows of one number
+-- are two legs
 pub record AreRows (script : PlainScript) : Type 0 where
   pub few : length (items_of script.rows) ≤ 100000
   pub each : All (IsRowOf script.start) script.rows

@@ -5,7 +5,7 @@ use Rattle.std.specs.declared.alloc.Global.{Global}
 use Rattle.dex_types.specs.declared.rows.Row.{Row}
 use Rattle.dex_script_facts.specs.declared.row_list.RowList.TheInside.{Inside}
 
--- the rows of these pieces, one behind the other
+-- the rows of these pieces, one after the other
 abbrev pub rows_in : List (Vec Row Global) → List Row
 rows_in pieces = flat_map (λ (piece : Vec Row Global). piece.items) pieces
 

@@ -16,7 +16,8 @@ script_inside inside = record {
   program = inside.program;
 }
 
--- what holds of every script (`IsScript`) holds of the fields, and each row has its places, its number and its lane beside it
+-- what holds of every script (`IsScript`) holds of the fields, and each row has its places, its number and its lane
+-- beside it
 abbrev pub IsKept : Inside → Type 0
 IsKept inside =
     IsScript (script_inside inside) × ArePlaced (accounts_of inside.start) (map row_of inside.rows) inside.places.items

@@ -31,7 +31,7 @@ pub fn addresses_of_markets(
     Ok(addresses)
 }
 
-/// The addresses of wallets, or of mints, in their order, behind others.
+/// The addresses of wallets, or of mints, in their order, after others.
 pub fn push_named(addresses: &mut Vec<Address>, accounts: &[Named]) -> Result<(), NoMemory>
     ensures { OnOk result (addresses.new.items
         ≡ addresses.old.items ++ map (λ (account : PlainAccount). account.address) (map named_of accounts.now)) }

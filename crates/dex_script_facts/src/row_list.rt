@@ -8,8 +8,8 @@ use dex_types::{NoMemory, Row};
 use std::alloc::Global;
 use std::marker::Model;
 
-/// Rows in their order, in pieces that follow each other: what several threads read is put together without moving a row. A contract
-/// sees the rows, one behind the other.
+/// Rows in their order, in pieces that follow each other: what several threads read is put together without moving a
+/// row. A contract sees the rows, one after the other.
 #[derive(Debug, Drop)]
 pub struct RowList {
     pieces: Vec<Vec<Row>>,
@@ -61,7 +61,7 @@ impl RowList {
         unreachable!()
     }
 
-    /// Puts these rows behind the others, as one more piece. Asks memory.
+    /// Puts these rows after the others, as one more piece. Asks memory.
     pub fn push_piece(&mut self, piece: Vec<Row>) -> Result<(), NoMemory>
         ensures { OnOk result (self.new ≡ self.old ++ piece.items) }
     {
@@ -77,7 +77,7 @@ impl RowList {
         }
     }
 
-    /// Puts the pieces of another list behind these. Asks memory.
+    /// Puts the pieces of another list after these. Asks memory.
     pub fn append(&mut self, more: RowList) -> Result<(), NoMemory>
         ensures { OnOk result (self.new ≡ self.old ++ more) }
     {

@@ -9,8 +9,9 @@ use dex_types::{Accounts, Program, RowPlaces};
 use std::marker::Model;
 
 /// A script: the accounts with which it starts, its instruction rows in their order, how many lanes it has (the highest
-/// lane and 1, or 1 where there is no row), and the program that runs. Of each script its accounts are accepted, market by
-/// market those of a sound market, and each mint conserved; its rows are in order, and of these accounts, at their places.
+/// lane and 1, or 1 where there is no row), and the program that runs. Of each script its accounts are accepted, market
+/// by market those of a sound market, and each mint conserved; its rows are in order, and of these accounts, at their
+/// places.
 #[derive(Debug, Drop)]
 pub struct Script {
     pub start: Accounts,

@@ -1,4 +1,4 @@
--- What is read behind pieces, one after the other.
+-- What is read after pieces, one after the other.
 use Rattle.std.proofs.Common.{◌≡◌, ◌∙◌, ◌++◌, ◌+◌, ◌<◌, ◌≤◌, ℕ, ℤ, suc, List, [], ◌∷◌, Result, Ok, Err, IfOk, IsOkAnd, All, ap, append-nil, append_assoc, drop, drop-cons, get_or, length, refl, subst, sym, take}
 use Rattle.std.specs.List.{AllZip}
 use Rattle.std.proofs.lemmas.Grind.{flat_map-append}
@@ -82,7 +82,7 @@ alike-behind draft clock number rows piece under is =
 
 -- ---- pieces that were read
 
--- what was read beside the first draft was read beside any behind it
+-- what was read beside the first draft was read beside any after it
 has-behind : (first draft : PlainDraft) (piece : Piece) → Stays first draft → HasRead first piece → HasRead draft piece
 has-behind first draft piece stays =
     subst (λ (d : PlainDraft). IfOk piece.reader (λ (read : PlainDraft). (draft_after d piece.number piece.rows ≡ Ok read) × (piece.after ≡ number_after piece.number piece.rows)))
@@ -124,7 +124,7 @@ read-of draft piece read has is =
     subst (λ (r : Result PlainDraft ScriptError). IfOk r (λ (read : PlainDraft). (draft_after (beside draft piece.clock) piece.number piece.rows ≡ Ok read)
     × (piece.after ≡ number_after piece.number piece.rows))) is has
 
--- its rows leave what it has behind a draft that it is next to
+-- its rows leave what it has after a draft that it is next to
 pub next-read : (draft : PlainDraft) (number : ℕ) (piece : Piece) (read both : PlainDraft) → IsUnderway draft → HasRead draft piece → piece.reader ≡ Ok read
     → IsNext draft number piece → both ≡ joined draft read → draft_after draft number piece.rows ≡ Ok both
 next-read draft number piece read both under has is (at, clock, room) joins =
@@ -140,7 +140,7 @@ pub rows-more : (pieces : List Piece) (piece : Piece) → rows_of (pieces ++ pie
 rows-more pieces piece =
     flat_map-append (λ (p : Piece). p.rows) pieces (piece ∷ []) ∙ ap (λ (rows : List Fields). rows_of pieces ++ rows) (append-nil piece.rows)
 
--- the pieces so far, the next, and those behind it
+-- the pieces so far, the next, and those after it
 pub parted : (pieces done : List Piece) (piece : Piece) → done ≡ take (length done) pieces → length done < length pieces → piece ≡ get_or pieces (length done) piece
     → pieces ≡ done ++ (piece ∷ drop (suc (length done)) pieces)
 parted pieces done piece so_far more next =
@@ -161,7 +161,7 @@ module _ (first : PlainDraft) (number : ℕ) (pieces done : List Piece) (piece :
   pub piece-here : All (HasRead first) pieces → HasRead before piece
   piece-here all = has-behind first before piece stays (subst (HasRead first) (sym next) (all (length done) piece more))
 
-  -- its rows behind those so far
+  -- its rows after those so far
   piece-behind : draft_after first number (rows_of done ++ piece.rows) ≡ draft_after before at piece.rows
   piece-behind =
       behind-both first number (rows_of done) piece.rows before read ∙ ap (λ (n : ℕ). draft_after before n piece.rows) (sym is_at)

@@ -8,11 +8,11 @@ use Rattle.dex_script.specs.Scripts.{draft_after}
 use Rattle.dex_script.specs.Telling.{TellsDraft}
 use Rattle.dex_script_pieces.specs.declared.piece.Piece.{Piece}
 
--- the rows of pieces, one behind the other
+-- the rows of pieces, one after the other
 abbrev pub rows_of : List Piece → List Fields
 rows_of pieces = flat_map (λ (piece : Piece). piece.rows) pieces
 
--- a piece was read: what its reader says now is what its rows leave behind what it said before
+-- a piece was read: what its reader says now is what its rows leave after what it said before
 pub record ReadsPiece (before after : Piece) : Type 0 where
   pub rows : after.rows ≡ before.rows
   pub number : after.number ≡ before.number
@@ -30,7 +30,7 @@ HasRead draft piece =
     IfOk piece.reader (λ read. (draft_after (beside draft piece.clock) piece.number piece.rows ≡ Ok read)
     × (piece.after ≡ number_after piece.number piece.rows))
 
--- a piece was read without a fault, and stands behind a draft and its rows, of which the next has this number
+-- a piece was read without a fault, and stands after a draft and its rows, of which the next has this number
 abbrev pub IsNext : PlainDraft → ℕ → Piece → Type 0
 IsNext draft number piece =
     (piece.number ≡ number) × (piece.clock ≡ draft.clock) × IsOkAnd piece.reader (λ read. draft.items + read.items ≤ 100000)

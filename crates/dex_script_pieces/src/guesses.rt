@@ -12,8 +12,9 @@ pub(crate) struct Place {
     pub(crate) clock: i64,
 }
 
-/// Where the rows behind these begin, of which the first stands here: right where a line feed stands before each row, and nothing
-/// but rows between. No clause says so: whoever puts pieces together looks, and reads a piece anew that begins elsewhere.
+/// Where the rows after these begin, of which the first stands here: right where a line feed stands before each row,
+/// and nothing but rows between. No clause says so: whoever puts pieces together looks, and reads a piece anew that
+/// begins elsewhere.
 pub(crate) fn place_behind(alloc: Global, rows: &PlainRows<'_>, first: Place) -> Place {
     let clock = match rows.from_last(b"\nclock,") {
         None => first.clock,

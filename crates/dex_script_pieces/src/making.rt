@@ -37,7 +37,7 @@ impl<'a, R: Threads + Sync> MakeMarkets for SideBySide<'a, R> {
     }
 }
 
-/// The same, and pieces of rows are read meanwhile.
+/// Like `make_markets`, and pieces of rows are read meanwhile.
 #[derive(Drop)]
 pub(crate) struct BesidePieces<'a, 'b, R> {
     pub(crate) rt: &'a R,

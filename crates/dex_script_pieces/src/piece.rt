@@ -25,9 +25,9 @@ pub(crate) struct Piece<'a> {
     pub(crate) rows: PlainRows<'a>,
     pub(crate) number: u32,
     pub(crate) clock: i64,
-    /// Before it is read, a reader that has read none of its rows; then, what is read behind them, or their first fault.
+    /// Before it is read, a reader that has read none of its rows; then, what is read after them, or their first fault.
     pub(crate) reader: Result<Reader, ScriptError>,
-    /// The number of the row behind it, when it is read.
+    /// The number of the row after it, when it is read.
     pub(crate) after: u32,
 }
 
@@ -53,8 +53,8 @@ impl<'a> Piece<'a> {
     }
 }
 
-/// What is read behind rows, the first of which has this number, if none before them is faulty. Raises the number to that of the
-/// row behind them.
+/// What is read after rows, the first of which has this number, if none before them is faulty. Raises the number to
+/// that of the row after them.
 pub(crate) fn read_behind(
     alloc: Global,
     reader: Result<Reader, ScriptError>,
@@ -67,8 +67,9 @@ pub(crate) fn read_behind(
     read_rows(alloc, reader?, number, &mut Rows::of_plain(rows))
 }
 
-/// Takes the room that the buffers of rows of so many bytes want, and gives it back. The heap of a thread grows by a page at a time
-/// otherwise, and each time all threads wait for the map of memory. Where memory is wanting less is taken.
+/// Takes the room that the buffers of rows of this many bytes want, and gives it back. The heap of a thread grows by a
+/// page at a time otherwise, and each time all threads wait for the map of memory. Where memory is wanting less is
+/// taken.
 fn make_room(alloc: Global, size: usize) {
     let mut blocks: Vec<Vec<u8>> = Vec::new(alloc);
     for _ in 0..(size / BLOCK).saturating_mul(TIMES) {

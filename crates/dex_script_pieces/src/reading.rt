@@ -18,14 +18,15 @@ use std::alloc::{AllocError, Global};
 use std::marker::Sync;
 use std::thread::Threads;
 
-/// No piece but the last is shorter than so many bytes.
+/// No piece but the last is shorter than this many bytes.
 const SHORTEST: usize = 1_048_576;
 
 /// There are no more pieces than these.
 const MOST: usize = 16;
 
 /// The script that a text is, as `read_script` of `dex_script`. Where the text has no quote, the rows behind the first
-/// instruction row are read in pieces, twice as many as these threads and 16 at most, while the accounts of markets are made.
+/// instruction row are read in pieces, twice as many as these threads and 16 at most, while the accounts of markets are
+/// made.
 pub fn read_script<R: Threads + Sync>(
     rt: &R,
     alloc: Global,
@@ -69,7 +70,7 @@ impl<'a, R: Threads + Sync> ReadRows for InPieces<'a, R> {
     }
 }
 
-// In how many pieces rows of so many bytes are read: two for each thread, if there are several.
+// In how many pieces rows of this many bytes are read: two for each thread, if there are several.
 fn count_of(threads: usize, bytes: usize) -> usize {
     if threads < 2 {
         return 1;
@@ -77,7 +78,8 @@ fn count_of(threads: usize, bytes: usize) -> usize {
     threads.saturating_mul(2).min(MOST).min(bytes / SHORTEST)
 }
 
-// What is read behind rows, the first of which has this number, in so many pieces: they are read while the markets are made.
+// What is read after rows, the first of which has this number, in this many pieces: they are read while the markets are
+// made.
 fn read_in_pieces<R: Threads + Sync>(
     rt: &R,
     alloc: Global,
@@ -149,7 +151,7 @@ fn piece_beside<'a>(
     })
 }
 
-// What is read behind pieces that were read beside this reader, where the first row of theirs has this number.
+// What is read after pieces that were read beside this reader, where the first row of theirs has this number.
 fn behind_pieces(
     alloc: Global,
     reader: Reader,
@@ -168,7 +170,7 @@ fn behind_pieces(
     Ok(reader)
 }
 
-// What is read behind one more piece. One that is not the next as it is read anew.
+// What is read after one more piece. One that is not the next as it is read again.
 fn behind_piece(
     alloc: Global,
     reader: Reader,

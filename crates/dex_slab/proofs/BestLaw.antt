@@ -18,7 +18,7 @@ use Rattle.dex_slab.proofs.FoundLaw.{RestsOn-from, new-rests}
 use Rattle.dex_slab.proofs.Somes.{none_some, same_some}
 use Rattle.dex_slab.proofs.Standing.{count-listed}
 
--- an id that stands before another one is another one, and does not stand behind it
+-- an id that stands before another one is another one, and does not stand after it
 apart : (side : Side) (id other : ℕ) → precedes side id other ≡ true → other ≢ id
 apart Bid id other before = λ same. absurd (omega (arith, ltb-true other id before))
 apart Ask id other before = λ same. absurd (omega (arith, ltb-true id other before))

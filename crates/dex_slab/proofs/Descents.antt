@@ -1,4 +1,4 @@
--- One step down a part of a tree: which child has the first order, the order of an id, and the order behind it.
+-- One step down a part of a tree: which child has the first order, the order of an id, and the order after it.
 use Rattle.std.proofs.Common.{◌≡◌, ◌≢◌, ℕ, ◌<◌, ⊎_elim, true, false, eqb, List, [], ◌∷◌, length, Option, Some, None, refl, sym, ap, ◌∙◌, subst, arith}
 use Rattle.std.specs.Option.{IsSome, IfSome, option_or}
 use Rattle.std.proofs.lemmas.Bool.{cases_Bool, cond_both, eqb-true, eqb-false}
@@ -122,7 +122,8 @@ find-first bytes Ask id t branch part b bit =
 
 -- ---- the order behind that of an id
 
--- where the bit leads to the far child, what is behind is there; where it leads to the near child, it may be the first of the far one
+-- where the bit leads to the far child, what is after is there; where it leads to the near child, it may be the first
+-- of the far one
 pub after-first : (bytes : List ℕ) (side : Side) (id : ℕ) (t : Tree) (branch : Branch) → IsPart bytes t → IsBranch bytes t branch → bit_behind branch.prefix id ≢ 1
     → IsSome (order_with id (orders_of side (tree_at bytes branch.first)))
     → order_after id (orders_of side t)
@@ -160,8 +161,8 @@ child-cases id branch P side second first =
     (λ (none : eqb (bit_behind branch.prefix id) 1 ≡ false). rw none (first (eqb-false (bit_behind branch.prefix id) 1 none)))
     (cases_Bool (eqb (bit_behind branch.prefix id) 1))
 
--- what one step tells: a part below, with fewer nodes, in which the id's order is found, and the order behind it but for the
--- first one beyond
+-- what one step tells: a part below, with fewer nodes, in which the id's order is found, and the order after it but for
+-- the first one beyond
 pub record IsStep (bytes : List ℕ) (id : ℕ) (side : Side) (t : Tree) (child : ℕ) (beyond : Option ℕ) : Type 0 where
   pub part : IsPart bytes (tree_at bytes child)
   pub fewer : length (nodes_of (tree_at bytes child)) < length (nodes_of t)
@@ -212,7 +213,7 @@ behind-step bytes id side t child beyond next s rests =
     ∙ or-assoc (order_after id (orders_of side (tree_at bytes child))) (first_below bytes side beyond) (first_below bytes side next)
     ∙ ap (λ o. option_or (order_after id (orders_of side (tree_at bytes child))) o) (first_below-or bytes side beyond next s.beyond_part)
 
--- no order is behind the only one
+-- no order is after the only one
 pub after-alone : (id : ℕ) (order : Order) → order_after id (order ∷ []) ≡ None
 after-alone id order = cond_both (eqb order.id id) None None (λ o. o ≡ None) (λ same. refl) (λ apart. refl)
 

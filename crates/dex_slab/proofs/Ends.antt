@@ -1,4 +1,4 @@
--- The first and the last of two lists of orders, and the order found in them, or behind one of theirs.
+-- The first and the last of two lists of orders, and the order found in them, or after one of theirs.
 use Rattle.std.proofs.Common.{◌≡◌, ◌≢◌, ℕ, true, false, cond, eqb, ⊎_elim, List, [], ◌∷◌, ◌++◌, Option, Some, None, refl, sym, ap, ◌∙◌, subst}
 use Rattle.std.specs.Option.{IsSome, option_or}
 use Rattle.std.proofs.lemmas.Bool.{cases_Bool, cond-true, cond-false, ne_eqb, false≢true}
@@ -40,7 +40,7 @@ pub order_with-front : (id : ℕ) (xs ys : List Order) → AllIds (λ other. oth
 order_with-front id [] ys apart = order_with-none id ys apart
 order_with-front id (x ∷ xs) ys apart = ap (λ rest. cond (eqb x.id id) (Some x) rest) (order_with-front id xs ys apart)
 
--- the order behind one of the second list is there; behind one of the first it is there too, or the first of the second
+-- the order after one of the second list is there; after one of the first it is there too, or the first of the second
 pub order_after-back : (id : ℕ) (xs ys : List Order) → AllIds (λ other. other ≢ id) xs → order_after id (xs ++ ys) ≡ order_after id ys
 order_after-back id [] ys apart = refl
 order_after-back id (x ∷ xs) ys apart = cond-false _ _ _ (ne_eqb x.id id apart.0) ∙ order_after-back id xs ys apart.1

@@ -43,7 +43,7 @@ Holds-part bytes Root t h = h
 Holds-part bytes (InFirst node prefix key second up) t h = (Holds-part bytes up (Inner node prefix key t second) h).1
 Holds-part bytes (InSecond node prefix key first up) t h = (Holds-part bytes up (Inner node prefix key first t) h).2
 
--- a part gives way to another one with the same node at its top, and the way and what stands beside it stay
+-- a part yields to another one with the same node at its top, and the way and what stands beside it stay
 pub Holds-plug : (old new : List ℕ) (path : Path) (t u : Tree) → Holds old (plug path t) → Holds new u → top_of u ≡ top_of t
     → AreSame (path_nodes path) old new → Holds new (plug path u)
 Holds-plug old new Root t u h held top kept = held

@@ -21,7 +21,7 @@ pub AllIds-map : (P Q : ℕ → Type 0) → ((id : ℕ) → P id → Q id) → (
 AllIds-map P Q f [] h = tt
 AllIds-map P Q f (x ∷ xs) h = (f x.id h.0, AllIds-map P Q f xs h.1)
 
--- an order is posted behind those that stand before it
+-- an order is posted after those that stand before it
 pub posted-behind : (side : Side) (order : Order) (xs ys : List Order) → AllIds (λ id. precedes side id order.id ≡ true) xs
     → posted side order (xs ++ ys) ≡ xs ++ posted side order ys
 posted-behind side order [] ys h = refl
@@ -33,7 +33,7 @@ pub posted-front : (side : Side) (order : Order) (xs : List Order) → AllIds (�
 posted-front side order [] h = refl
 posted-front side order (x ∷ xs) h = rw h.0 refl
 
--- the order of an id behind those of other ids
+-- the order of an id after those of other ids
 pub order_with-behind : (id : ℕ) (xs : List Order) (order : Order) (ys : List Order) → AllIds (λ other. other ≢ id) xs → order.id ≡ id
     → order_with id (xs ++ order ∷ ys) ≡ Some order
 order_with-behind id [] order ys h same = rw (eq-eqb order.id id same) refl

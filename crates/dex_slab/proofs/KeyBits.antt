@@ -85,7 +85,7 @@ unfolding first_bits
 all_bits a b same = omega arith
 
 module _ (a b : ℕ) (low : a < 2 ^ 128) (below : b < 2 ^ 128) where
-  -- what is left of both behind the bits that they share
+  -- what is left of both after the bits that they share
   rest : (m : ℕ) × (leading_zeros w128 (bit_xor a b) + m ≡ 128) × (bit_xor a b < 2 ^ m) × (2 ^ m ≤ 2 * bit_xor a b + 1)
   rest = leading_length 128 (bit_xor a b) (xor_lt 128 a b low below)
 
@@ -125,7 +125,7 @@ module _ (a b : ℕ) (low : a < 2 ^ 128) (below : b < 2 ^ 128) where
         | inr all ↦ absurd (differ (all_bits a b (shared_bits-same 128 all)))
       ]
 
-  -- behind the bits that they share they differ
+  -- after the bits that they share they differ
   pub shared_bits-differ : shared_bits a b < 128 → bit_behind (shared_bits a b) b ≡ 1 - bit_behind (shared_bits a b) a
   shared_bits-differ less =
       let s : ℕ = shared_bits a b in

@@ -133,7 +133,7 @@ module _ (id leaf parent : ℕ) (order : Order) where
 
 -- ---- orders
 
--- the orders that are left are those before the leaf and those behind it
+-- the orders that are left are those before the leaf and those after it
 orders_left : (side : Side) (path : Path) (parent : ℕ) → parent_of path ≡ Some parent → orders_of side (left path) ≡ before side path ++ behind side path
 orders_left side Root parent above = absurd (none_some parent above)
 orders_left Ask (InFirst node prefix key second up) parent above =

@@ -40,7 +40,7 @@ module _ (id : ℕ) (fits : id < 2 ^ 128) where
       )
   agree_more (Other node) least stops h agree = absurd stops
 
-  -- so behind the shared bits they have the other bit
+  -- so after the shared bits they have the other bit
   pub parts-keys : (t : Tree) (least : ℕ) → top_key t < 2 ^ 128 → Stops id t → IsNewAt id t → HasPrefixes least t → KeysAgree t
       → (bit : ℕ) → bit + bit_behind (shared_bits (top_key t) id) id ≡ 1 → AllKeys (Begins (shared_bits (top_key t) id) id bit) t
   parts-keys t least low stops new h agree bit other_bit =

@@ -95,7 +95,7 @@ keys-part Root t h = h
 keys-part (InFirst node prefix key second up) t h = (keys-part up (Inner node prefix key t second) h).2
 keys-part (InSecond node prefix key first up) t h = (keys-part up (Inner node prefix key first t) h).3
 
--- a part gives way to another one whose keys are among its keys and an id to which the way leads
+-- a part yields to another one whose keys are among its keys and an id to which the way leads
 pub keys-plug : (id : ℕ) (path : Path) (t u : Tree) → KeysAgree (plug path t) → Leads id path → KeysAgree u
     → ((Holds : ℕ → Type 0) → Holds id → AllKeys Holds t → AllKeys Holds u) → KeysAgree (plug path u)
 keys-plug id Root t u h leads k more = k

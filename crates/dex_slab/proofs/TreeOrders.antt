@@ -32,7 +32,7 @@ length-orders_of side (Other node) = refl
 
 -- ---- the orders beside a part
 
--- those before the part and those behind it
+-- those before the part and those after it
 abbrev pub before : Side → Path → List Order
 before side Root = []
 before Bid (InFirst node prefix key second up) = before Bid up ++ orders_of Bid second
@@ -95,7 +95,7 @@ before-precedes Ask id (InSecond node prefix key first up) t h leads =
     (AllIds-map (λ other. other < id) (λ other. precedes Ask other id ≡ true) (λ other lt. lt-ltb other id lt) (orders_of Ask first)
     (less id prefix key Ask first leads.0 (keys-part up (Inner node prefix key first t) h).0))
 
--- and those behind it do not
+-- and those after it do not
 pub behind-follows : (side : Side) (id : ℕ) (path : Path) (t : Tree) → KeysAgree (plug path t) → Leads id path
     → AllIds (λ other. precedes side other id ≡ false) (behind side path)
 behind-follows side id Root t h leads = tt

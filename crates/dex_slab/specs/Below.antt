@@ -26,8 +26,8 @@ abbrev pub first_below : List ℕ → Side → Option ℕ → Option Order
 first_below bytes side None = None
 first_below bytes side (Some node) = best_of (orders_of side (tree_at bytes node))
 
--- the child whose orders come next behind those of that child on a side, if there is one: of bids the first child behind the
--- second, of asks the second behind the first
+-- the child whose orders come next after those of that child on a side, if there is one: of bids the first child after
+-- the second, of asks the second after the first
 abbrev pub child_beyond : Side → ℕ → Branch → Option ℕ
 child_beyond side id branch =
     if bit_behind branch.prefix id == 1 then by_side side (Some branch.first) None else by_side side None (Some branch.second)

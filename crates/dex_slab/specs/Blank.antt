@@ -5,11 +5,11 @@ use Rattle.dex_types.specs.declared.terms.Side.{Side}
 use Rattle.dex_types.specs.Side.{by_side}
 use Rattle.dex_slab.specs.Nodes.{nodes_within}
 
--- how many bytes an account that is made with so many nodes has
+-- how many bytes an account that is made with this many nodes has
 abbrev pub made_size : ℕ → ℕ
 made_size nodes = 52 + 72 * nodes
 
--- so many bytes are those of an account that is made with 1 to 65,536 nodes
+-- this many bytes are those of an account that is made with 1 to 65,536 nodes
 pub record IsMadeSize (size : ℕ) : Type 0 where
   pub least : 124 ≤ size
   pub most : size ≤ 4718644

@@ -10,11 +10,12 @@ use Rattle.dex_slab.specs.Slab.{nodes_in, times, tree_of}
 abbrev pub IsBeside : Field → ℕ → Type 0
 IsBeside field place = (place < field.at) ⊎ (end_of field ≤ place)
 
--- the header of the slab: its bytes behind the account's flags
+-- the header of the slab: its bytes after the account's flags
 abbrev pub header : Field
 header = record { at = 13; len = 32 }
 
--- only the slab's header and these three nodes differ: every other node and all bytes outside of the header and the nodes are as before
+-- only the slab's header and these three nodes differ: every other node and all bytes outside of the header and the
+-- nodes are as before
 abbrev pub ChangesNodes : ℕ → ℕ → ℕ → List ℕ → List ℕ → Type 0
 ChangesNodes a b c old new =
     (place : ℕ) → IsBeside header place → IsBeside (node_field a) place → IsBeside (node_field b) place → IsBeside (node_field c) place
@@ -53,13 +54,13 @@ pub record ChangesLotsOf (id : ℕ) (old new : List ℕ) : Type 0 where
   pub key : key_of old leaf ≡ id
   pub changes : ChangesLots leaf old new
 
--- where the slab's header and the nodes of an account of so many bytes stand: one behind another, with the account's flags before
--- them and its end behind them
+-- where the slab's header and the nodes of an account of this many bytes stand: one after another, with the account's
+-- flags before them and its end after them
 abbrev pub slab_field : ℕ → Field
 slab_field size = record { at = header.at; len = header.len + nodes_within size * 72 }
 
--- all bytes outside of the header and the nodes are as before: the text at the front, the flags, and whatever stands behind the
--- last node, with the text at the end
+-- all bytes outside of the header and the nodes are as before: the text at the front, the flags, and whatever stands
+-- after the last node, with the text at the end
 pub record KeepsFrame (old new : List ℕ) : Type 0 where
   pub size : length new ≡ length old
   pub others : ChangesOnly (slab_field (length old)) old new

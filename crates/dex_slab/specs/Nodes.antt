@@ -30,7 +30,7 @@ root_of bytes = number_in bytes ROOT_NODE
 abbrev pub count_of : List ℕ → ℕ
 count_of bytes = number_in bytes LEAF_COUNT
 
--- how many nodes an account of so many bytes has
+-- how many nodes an account of this many bytes has
 abbrev pub nodes_within : ℕ → ℕ
 nodes_within size = (size - 52) / 72
 
@@ -86,7 +86,7 @@ order_in piece = record {
 abbrev pub order_of : List ℕ → ℕ → Order
 order_of bytes node = order_in (node_bytes bytes node)
 
--- the free node behind a free node
+-- the free node after a free node
 abbrev pub next_of : List ℕ → ℕ → ℕ
 next_of bytes node = number_in (node_bytes bytes node) free.NEXT
 

@@ -4,8 +4,8 @@ use Rattle.std.specs.Int.{leading_zeros, w128}
 use Rattle.std.specs.Int.Bits.{bit_xor}
 use Rattle.dex_slab.specs.Tree.{Tree, Leaf, Inner, Other, Begins, first_bits}
 
--- a way from the root: at the root, or into the first or the second child of an inner node with this number, prefix and key,
--- beside this other child, at the end of a way
+-- a way from the root: at the root, or into the first or the second child of an inner node with this number, prefix and
+-- key, beside this other child, at the end of a way
 pub data Path : Type 0 where
   Root : Path
   InFirst : ℕ → ℕ → ℕ → Tree → Path → Path
@@ -39,6 +39,6 @@ top_key (Other node) = 0
 unfoldable pub shared_bits : ℕ → ℕ → ℕ
 shared_bits a b = leading_zeros w128 (bit_xor a b)
 
--- the bit of a key behind its first so many
+-- the bit of a key after its first n
 unfoldable pub bit_behind : ℕ → ℕ → ℕ
 bit_behind count key = first_bits (suc count) key % 2

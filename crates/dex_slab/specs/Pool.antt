@@ -3,7 +3,8 @@ use Rattle.std.specs.Prelude.{ℕ, ◌<◌, ◌≤◌, List, ◌∷◌, length}
 use Rattle.dex_slab.specs.Nodes.{nodes_within}
 use Rattle.dex_slab.specs.Slab.{IsShared, free_of}
 
--- of the nodes of these bytes some are in use and the free list has others, and not all of the account's nodes are in use
+-- of the nodes of these bytes some are in use and the free list has others, and not all of the account's nodes are in
+-- use
 pub record HasSpare (bytes : List ℕ) : Type 0 where
   pub used : List ℕ
   pub shared : IsShared bytes used (free_of bytes)

@@ -52,13 +52,13 @@ times node (first ∷ others) = same first node + times node others
 
 -- ---- which bytes are a slab
 
--- an account of so many bytes can be a side's: it has from 1 to 65,536 nodes
+-- an account of this many bytes can be a side's: it has from 1 to 65,536 nodes
 pub record IsSlabSize (size : ℕ) : Type 0 where
   pub some : 1 ≤ nodes_within size
   pub few : nodes_within size ≤ 65536
 
--- the nodes below `bump_index` are those in use and those on the free list, each once: the rules of the free list, and of the
--- nodes of both together
+-- the nodes below `bump_index` are those in use and those on the free list, each once: the rules of the free list, and
+-- of the nodes of both together
 pub record IsShared (bytes used free : List ℕ) : Type 0 where
   pub bump : bump_of bytes ≤ nodes_within (length bytes)
   pub below : (node : ℕ) → 1 ≤ times node (used ++ free) → node < bump_of bytes

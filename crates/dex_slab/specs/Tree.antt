@@ -6,14 +6,14 @@ use Rattle.dex_types.specs.BookSide.{CanRest}
 use Rattle.dex_types.specs.Side.{by_side}
 use Rattle.dex_slab.specs.Nodes.{first_child_of, key_of, order_of, prefix_of, second_child_of, tag_of}
 
--- a tree of nodes: a leaf has its number and its order; an inner node its number, prefix length, key and two trees below;
--- any other node is only met
+-- a tree of nodes: a leaf has its number and its order; an inner node its number, prefix length, key and two trees
+-- below; any other node is only met
 pub data Tree : Type 0 where
   Leaf : ℕ → Order → Tree
   Inner : ℕ → ℕ → ℕ → Tree → Tree → Tree
   Other : ℕ → Tree
 
--- the tree that begins at a node, as far as it goes in so many steps
+-- the tree that begins at a node, as far as it goes in this many steps
 unfoldable pub tree_from : ℕ → List ℕ → ℕ → Tree
 tree_from zero bytes node = Other node
 tree_from (suc steps) bytes node =
@@ -64,11 +64,11 @@ HasPrefixes least (Inner node prefix key first second) =
     (least ≤ prefix) × (prefix < 128) × HasPrefixes (suc prefix) first × HasPrefixes (suc prefix) second
 HasPrefixes least (Other node) = Unit {0}
 
--- the first so many of a key's 128 bits, as a number
+-- the first n of a key's 128 bits, as a number
 unfoldable pub first_bits : ℕ → ℕ → ℕ
 first_bits count key = key / 2 ^ (128 - count)
 
--- a key begins with the first so many bits of another key, and then has this bit
+-- a key begins with the first n bits of another key, and then has this bit
 abbrev pub Begins : ℕ → ℕ → ℕ → ℕ → Type 0
 Begins prefix other bit key = first_bits (suc prefix) key ≡ 2 * first_bits prefix other + bit
 

@@ -33,7 +33,7 @@ pub record IsOnWay (tree : Tree) (id node : ℕ) : Type 0 where
   pub top : top_of part ≡ node
   pub leads : Leads id path
 
--- a new id enters the tree at this node, with whose key it has so many leading bits in common
+-- a new id enters the tree at this node, with whose key it has this many leading bits in common
 pub record IsPlace (tree : Tree) (id node shared : ℕ) : Type 0 where
   pub way : IsOnWay tree id node
   pub stops : Stops id way.part
@@ -72,7 +72,7 @@ abbrev pub RestsOn : ℕ → Option Tree → Type 0
 RestsOn id None = ⊥
 RestsOn id (Some tree) = RestsIn id tree
 
--- how many nodes a new order takes on a side with so many orders: its leaf, and an inner node where there are others
+-- how many nodes a new order takes on a side with this many orders: its leaf, and an inner node where there are others
 abbrev pub nodes_taken : ℕ → ℕ
 nodes_taken count = if count == 0 then 1 else 2
 

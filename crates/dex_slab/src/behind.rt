@@ -1,4 +1,4 @@
-//! The order behind that of an id, on the way down to it.
+//! The order after that of an id, on the way down to it.
 
 ghost use Rattle.std.specs.Prelude.{◌≡◌, IfSome, IsSome};
 ghost use Rattle.dex_types.specs.BookSide.{order_after};
@@ -12,8 +12,8 @@ use crate::search::child_beyond;
 use crate::walks::child_towards;
 use dex_types::Side;
 
-/// The node below which the order behind that of an id comes first, of those below a node: the last on the way down beside
-/// which the way turned off towards the front.
+/// The node below which the order after that of an id comes first, of those below a node: the last on the way down
+/// beside which the way turned off towards the front.
 pub fn part_behind(bytes: &[u8], side: Side, node: u32, id: u128) -> Option<u32>
     requires part { IsPart bytes.now (tree_at bytes.now node) }
     requires rests { IsSome (order_with id (orders_of side (tree_at bytes.now node))) }

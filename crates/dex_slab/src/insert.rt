@@ -52,8 +52,8 @@ fn branch_above(shared: u32, id: u128, leaf: u32, beside: u32) -> Branch
     }
 }
 
-/// Puts an order on a side that has others. The node beside which its leaf goes moves to a new place, and the inner node
-/// above both takes its old one, so that nothing further up changes.
+/// Puts an order on a side that has others. The node beside which its leaf goes moves to a new place, and the inner
+/// node above both takes its old one, so that nothing further up changes.
 fn insert_beside(bytes: &mut [u8], order: Order)
     requires slab { IsSlab bytes.old }
     requires some { 1 ≤ count_of bytes.old }

@@ -12,7 +12,7 @@ use dex_fields::slab::LAYOUT;
 use dex_fields::{END_TEXT, write_empty_account};
 use dex_types::{AccountFlags, Side};
 
-/// How many bytes a side's account that is made with so many nodes has; with 1 to 65,536 nodes it can be one.
+/// How many bytes a side's account that is made with this many nodes has; with 1 to 65,536 nodes it can be one.
 pub fn made_size(nodes: u32) -> usize
     ensures size { result ≡ made_size nodes }
     ensures made { 1 ≤ nodes → nodes ≤ 65536 → IsMadeSize result }

@@ -14,7 +14,7 @@ pub fn key_of(bytes: &[u8], node: u32) -> u128
     get_u128(node_bytes(bytes, node), inner_node::KEY)
 }
 
-/// The free node behind a free node.
+/// The free node after a free node.
 pub fn next_of(bytes: &[u8], node: u32) -> u32
     requires { node < nodes_within (length bytes.now) }
     ensures { result ≡ next_of bytes.now node }

@@ -19,13 +19,14 @@ pub const INNER: u32 = 1;
 /// The tag of a leaf.
 pub const LEAF: u32 = 2;
 
-/// The tag of a free node that has another one behind it.
+/// The tag of a free node that has another one after it.
 pub const FREE: u32 = 3;
 
 /// The tag of the last free node.
 pub const LAST_FREE: u32 = 4;
 
-/// What an inner node says: the prefix of all keys below it, and the nodes below whose keys have 0 and 1 as their next bit.
+/// What an inner node says: the prefix of all keys below it, and the nodes below whose keys have 0 and 1 as their next
+/// bit.
 #[derive(Clone, Copy, Debug, PartialEq, Eq)]
 pub struct Branch {
     /// How many leading bits all keys below have in common.
@@ -38,7 +39,7 @@ pub struct Branch {
     pub second: u32,
 }
 
-/// How many nodes an account of so many bytes has.
+/// How many nodes an account of this many bytes has.
 pub fn nodes_within(size: usize) -> usize
     ensures { result ≡ nodes_within size }
 {

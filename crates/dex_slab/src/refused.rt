@@ -1,5 +1,5 @@
-//! A body that the contract of a side refuses: it does all that its call promises but one thing. Nothing calls it; an edit in
-//! `must-fail` puts it in the call's place.
+//! A body that the contract of a side refuses: it does all that its call promises but one thing. Nothing calls it; an
+//! edit in `must-fail` puts it in the call's place.
 
 ghost use Rattle.std.specs.Prelude.{◌≡◌, ◌+◌, Some};
 ghost use Rattle.dex_types.specs.declared.terms.Side as sides;

@@ -48,8 +48,8 @@ fn remove_only(bytes: &mut [u8])
     put_u64(bytes, LEAF_COUNT, 0);
 }
 
-/// Takes a leaf off that has an inner node above it. The leaf's sibling moves to the inner node's place, and its own node and
-/// the leaf are free again.
+/// Takes a leaf off that has an inner node above it. The leaf's sibling moves to the inner node's place, and its own
+/// node and the leaf are free again.
 fn remove_beside(bytes: &mut [u8], parent: u32, leaf: u32)
     requires slab { IsSlab bytes.old }
     requires some { 1 ≤ count_of bytes.old }

@@ -1,5 +1,5 @@
-//! A body that writes a whole new tree: it does all that its call promises, but that few nodes change. Nothing calls it; an edit
-//! in `must-fail` puts it in the call's place.
+//! A body that writes a whole new tree: it does all that its call promises, but that few nodes change. Nothing calls
+//! it; an edit in `must-fail` puts it in the call's place.
 
 ghost use Rattle.std.specs.Prelude.{◌≡◌, ◌+◌, ◌-◌, ◌<◌};
 ghost use Rattle.dex_types.specs.BookSide.{CanRest};

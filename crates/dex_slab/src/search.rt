@@ -15,7 +15,8 @@ use crate::nodes::{Branch, branch_of};
 use crate::walks::{child_towards, has_bit};
 use dex_types::Side;
 
-/// The child below which the orders come first on a side: of bids those of the greater ids, of asks those of the lesser.
+/// The child below which the orders come first on a side: of bids those of the greater ids, of asks those of the
+/// lesser.
 pub fn near_child(side: Side, branch: Branch) -> u32
     ensures { result ≡ by_side side branch.second branch.first }
 {
@@ -38,7 +39,7 @@ pub fn first_leaf(bytes: &[u8], side: Side, node: u32) -> u32
     leaf
 }
 
-/// The child whose orders come next on a side behind those of the child to which an id leads, if there is one.
+/// The child whose orders come next on a side after those of the child to which an id leads, if there is one.
 pub fn child_beyond(side: Side, branch: Branch, id: u128) -> Option<u32>
     requires { branch.prefix < 128 }
     ensures { result ≡ part.child_beyond side id branch }

@@ -15,8 +15,8 @@ use crate::remove::remove_order;
 use crate::set_lots::set_order_lots;
 use dex_types::{Order, SideBook};
 
-/// What is written goes to the slice that the view was made with, node by node. No call's work grows with the number of orders
-/// or nodes, only with the depth of the tree, which is 128 at most.
+/// What is written goes to the slice that the view was made with, node by node. No call's work grows with the number of
+/// orders or nodes, only with the depth of the tree, which is 128 at most.
 impl SideBook for SlabView<'_> {
     ghost use Rattle.std.proofs.Common.{refl, ◌∙◌, ◌≡◌};
     ghost use Rattle.dex_slab.specs.Changes.{KeepsFrame};
@@ -30,8 +30,8 @@ impl SideBook for SlabView<'_> {
     ghost chains = { λ first second third here there.
         (there.0 ∙ here.0, frame_chains first.bytes.now second.bytes.now third.bytes.now here.1 there.1) };
 
-    /// Puts an order in its place. At most three nodes change, beside the slab's header. A new node is the first of the free
-    /// list, else the first that was never used.
+    /// Puts an order in its place. At most three nodes change, beside the slab's header. A new node is the first of the
+    /// free list, else the first that was never used.
     fn insert(&mut self, order: Order)
         requires holds { IsSlab self.old.bytes.now }
         requires new { IsNewId order.id (resting self.old.side self.old.bytes.now) }
@@ -70,8 +70,8 @@ impl SideBook for SlabView<'_> {
         set_order_lots(self.bytes, id, lots);
     }
 
-    /// Takes the resting order of an id off the side, and answers it. At most three nodes change, beside the slab's header; its
-    /// nodes are free again.
+    /// Takes the resting order of an id off the side, and answers it. At most three nodes change, beside the slab's
+    /// header; its nodes are free again.
     fn remove(&mut self, id: u128) -> Order
         requires holds { IsSlab self.old.bytes.now }
         requires rests { IsSome (order_with id (resting self.old.side self.old.bytes.now)) }

@@ -36,7 +36,7 @@ pub fn shared_bits(a: u128, b: u128) -> u32
     (a ^ b).leading_zeros()
 }
 
-/// Whether a key has a 1 behind its first so many bits.
+/// Whether a key has a 1 after its first n bits.
 pub fn has_bit(count: u32, key: u128) -> bool
     requires { count < 128 }
     ensures { result ≡ (bit_behind count key == 1) }

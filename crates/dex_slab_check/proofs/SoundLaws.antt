@@ -97,8 +97,8 @@ second_keys bytes node first second parts =
     all_keys bytes (prefix_of bytes node) (key_of bytes node) 1 second parts.second_of parts.second_sound.known (second_prefixes bytes node first second parts)
     parts.second_sound.keys (subst (λ n. Begins (prefix_of bytes node) (key_of bytes node) 1 (key_of bytes n)) (sym parts.second_at) parts.second_child.key)
 
--- no node is met twice: an inner node is not below itself, since the prefixes there are longer, and no node is below both
--- children, since its key has one bit next
+-- no node is met twice: an inner node is not below itself, since the prefixes there are longer, and no node is below
+-- both children, since its key has one bit next
 module _ (bytes : List ℕ) (node : ℕ) (first second : Tree) (parts : AreParts bytes node first second) where
   not_below : (t : Tree) → IsOf bytes t → IsKnown t → HasPrefixes (suc (prefix_of bytes node)) t → times node (nodes_of t) ≡ 0
   not_below t of known prefixes =

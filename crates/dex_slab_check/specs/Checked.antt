@@ -36,7 +36,7 @@ pub record IsSoundTree (bytes : List ℕ) (node : ℕ) (tree : Tree) : Type 0 wh
   pub below : AreBelow bytes (nodes_of tree)
   pub once : AreMetOnce (nodes_of tree)
 
--- and it has so many nodes, and so many leaves
+-- and it has this many nodes, and so many leaves
 pub record IsSizedTree (bytes : List ℕ) (node : ℕ) (tree : Tree) (size leaves : ℕ) : Type 0 where
   pub sound : IsSoundTree bytes node tree
   pub is_size : size ≡ length (nodes_of tree)
@@ -44,7 +44,7 @@ pub record IsSizedTree (bytes : List ℕ) (node : ℕ) (tree : Tree) (size leave
   pub few : size ≤ 65536
   pub fewer : leaves ≤ size
 
--- the tree of a side, if it has one, keeps the rules of a tree, and has so many nodes and leaves
+-- the tree of a side, if it has one, keeps the rules of a tree, and has this many nodes and leaves
 pub record IsSizedRoot (bytes : List ℕ) (tree : Option Tree) (size leaves : ℕ) : Type 0 where
   pub sound : IfSome tree (IsSoundTree bytes (root_of bytes))
   pub is_size : size ≡ length (nodes_in tree)

@@ -1,4 +1,5 @@
--- What the check of a slab finds: a rule that is broken, the node at which it is, and the values found and wanted there.
+-- What the check of a slab finds: a rule that is broken, the node at which it is, and the values found and wanted
+-- there.
 use Rattle.std.specs.Prelude.{◌≡◌, ◌≢◌, ℕ, zero, suc, ◌+◌, ◌<◌, ◌≤◌, ◌⊎◌, List, [], ◌∷◌, ◌++◌, length}
 use Rattle.dex_types.specs.declared.orders.Order.{Order}
 use Rattle.dex_types.specs.Side.{price_of}
@@ -97,7 +98,7 @@ BreaksAmong bytes nodes fault = (node : ℕ) × (1 ≤ times node nodes) × Brea
 
 -- ---- the free list
 
--- the tag of a free node with so many others behind it: 3, and 4 where it is the last
+-- the tag of a free node with this many others after it: 3, and 4 where it is the last
 abbrev pub tag_wanted : ℕ → ℕ
 tag_wanted zero = 4
 tag_wanted (suc behind) = 3

@@ -15,7 +15,7 @@ use dex_types::Side;
 /// The greatest number of nodes that a side may have.
 const MOST_NODES: usize = 65_536;
 
-/// Whether an account of so many bytes can be a side's: it has at least one node, and no more than a side may have.
+/// Whether an account of this many bytes can be a side's: it has at least one node, and no more than a side may have.
 pub fn is_slab_size(size: usize) -> bool
     ensures { IsTrue result ↔ IsSlabSize size }
 {

@@ -32,7 +32,7 @@ pub(crate) fn check_free(bytes: &[u8]) -> Result<(), SlabFault>
     Ok(())
 }
 
-/// Rule 8, of one free node with so many others behind it: it is marked as free, and the last as the last.
+/// Rule 8, of one free node with this many others after it: it is marked as free, and the last as the last.
 fn tag_rule(bytes: &[u8], node: u32, behind: u64) -> Result<(), SlabFault>
     requires { node < nodes_within (length bytes.now) }
     ensures { MatchResult result

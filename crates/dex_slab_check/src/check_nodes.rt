@@ -127,7 +127,7 @@ fn key_rule(bytes: &[u8], node: u32, bit: u8, child: u32) -> Result<(), SlabFaul
     }
 }
 
-/// Whether a key begins with so many bits of another one, and then has this bit.
+/// Whether a key begins with this many bits of another one, and then has this bit.
 #[tactic(auto, unfolding(dex_slab::specs::Tree::first_bits))]
 fn begins(prefix: u8, other: u128, bit: u8, key: u128) -> bool
     requires short { prefix < 128 }

@@ -33,7 +33,7 @@ record IsOn (owner : Address) (side : Side) (orders : List Order) (resting : Res
   pub found : order_with resting.order.id orders ≡ Some resting.order
   pub own : is_same owner resting.order.owner ≡ true
 
--- one found behind another order in book order is found with it
+-- one found after another order in book order is found with it
 on-behind : (owner : Address) (side : Side) (first : Order) (others : List Order) → PrecedesAll side first.id others → (resting : RestingOrder)
     → IsOn owner side others resting → IsOn owner side (first ∷ others) resting
 on-behind owner side first others before resting on =
@@ -137,7 +137,7 @@ at_most_one-apart : (found : Option RestingOrder) → AreApart (at_most_one foun
 at_most_one-apart None = tt
 at_most_one-apart (Some o) = (All-nil (λ (other : RestingOrder). is_same_order o other ≡ false), tt)
 
--- the first so many
+-- the first n
 take-apart : (count : ℕ) (resting : List RestingOrder) → AreApart resting → AreApart (take count resting)
 take-apart zero resting apart = tt
 take-apart (suc count) [] apart = tt

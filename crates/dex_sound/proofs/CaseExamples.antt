@@ -1,5 +1,5 @@
--- worked examples of cases in which one word decides: ages of bids, tiers and programs of budgets, limits of takes, freed slots,
--- counts that turn over, and wallets with several roles
+-- worked examples of cases in which one word decides: ages of bids, tiers and programs of budgets, limits of takes,
+-- freed slots, counts that turn over, and wallets with several roles
 use Rattle.std.proofs.Common.{◌≡◌, ◌^◌, ◌-◌, ℕ, List, [], ◌∷◌, Option, Some, None, refl, replicate, codes, map}
 use Rattle.dex_types.specs.declared.addresses.Address.{Address}
 use Rattle.dex_types.specs.declared.instructions.Ix.TheVariants.{CancelOrderV2, CancelOrderByClientIdV2, SendTake}
@@ -90,7 +90,8 @@ budgets : (buys_for Serum 1 1502 ≡ Ordered 0 (id_of Bid 60 1) 3 1500 2 0) × (
 unfolding taken demand_after price_of sequence_of id_of taker_rate maker_rate
 budgets = (refl, refl, refl, refl, refl, refl, refl, refl)
 
--- a take of two asks, by its limit price, its lots and its match limit; it uses no sequence number, and counts its makers' events
+-- a take of two asks, by its limit price, its lots and its match limit; it uses no sequence number, and counts its
+-- makers' events
 abbrev two_asks : Market
 two_asks = ann_asks 50 (ann_asks 51 base)
 
@@ -150,7 +151,8 @@ counts_turn_over : ((after buy_row buy_sees last_count).events_appended ≡ 2)
 unfolding taken demand_after price_of sequence_of id_of taker_rate maker_rate
 counts_turn_over = (refl, refl, refl, refl)
 
--- a wallet that only gives a discount is probed; one that pays and gives it is debited once, and so is one that a take pays from
+-- a wallet that only gives a discount is probed; one that pays and gives it is debited once, and so is one that a take
+-- pays from
 abbrev shared : Seen
 shared = record (ask_sees 1000) { discount = ann_coin 1000; srm = Some coin; referrer = ann_usd 7 }
 

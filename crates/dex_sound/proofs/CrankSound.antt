@@ -135,7 +135,8 @@ held-by-open owner slot traders held (Some (Open account)) found is = record { a
 pub holder-of : (owner : Address) (slot : ℕ) (traders : Traders) (held : Holding) → held_at owner slot traders ≡ Some held → Holder owner slot traders
 holder-of owner slot traders held is = held-by-open owner slot traders held (trader_at owner traders) refl is
 
--- what each place holds after an event was consumed: what it held, but nothing where the event was the last of its order
+-- what each place holds after an event was consumed: what it held, but nothing where the event was the last of its
+-- order
 paid-held : (event : QueuedEvent) (traders : Traders) (account : Account) → trader_at event.owner traders ≡ Some (Open account) → event.slot < length account.slots
     → (owner : Address) (at : ℕ) → held_at owner at (put_trader event.owner (Open (paid_as event.kind event account)) traders)
     ≡ cond (is_final event && is_event_at owner at event) None (held_at owner at traders)

@@ -44,7 +44,7 @@ coin = label (codes "coin")
 abbrev pub usd : Address
 usd = label (codes "usd")
 
--- a listing with so much base in a lot, and room for so many bids and events
+-- a listing with so much base in a lot, and room for this many bids and events
 abbrev pub listing : ℕ → ℕ → ℕ → Listing
 listing coin_lot bids events = record {
   address = label (codes "m");

@@ -124,7 +124,8 @@ cancels_of_others : ((cancel Ask 922337203685477580800 bob ben asked.market).rep
 unfolding taken demand_after price_of sequence_of id_of taker_rate maker_rate
 cancels_of_others = (refl, refl, refl)
 
--- cancels by client id take the older of two orders; the list form takes both, and passes over 0 and an id without an order
+-- cancels by client id take the older of two orders; the list form takes both, and passes over 0 and an id without an
+-- order
 abbrev cancel_client : ℕ → Market → Step
 cancel_client client m = step (row (CancelOrderByClientIdV2 client) ann (amy ∷ [])) nothing m
 
@@ -180,7 +181,8 @@ prunes : ((prune 1 (label (codes "admin"))).reply ≡ Cancelled 1) × (resting (
 unfolding taken demand_after price_of sequence_of id_of taker_rate maker_rate
 prunes = (refl, refl, refl)
 
--- a large trade, all events consumed, and funds paid out: with a referrer's wallet, or the referrer part to the market's fees
+-- a large trade, all events consumed, and funds paid out: with a referrer's wallet, or the referrer part to the
+-- market's fees
 traded_and_cranked : (events traded ≡ (9 ∷ 200060 ∷ 20000 ∷ 60 ∷ []) ∷ (2 ∷ 0 ∷ 0 ∷ 0 ∷ []) ∷ (5 ∷ 20000 ∷ 200440 ∷ 440 ∷ []) ∷ (6 ∷ 0 ∷ 0 ∷ 0 ∷ []) ∷ [])
     × (held traded ≡ 20000 ∷ 200440 ∷ 292 ∷ 88 ∷ []) × (funds ben cranked ≡ 20000 ∷ 20000 ∷ 0 ∷ 0 ∷ 88 ∷ []) × (funds amy cranked ≡ 0 ∷ 0 ∷ 200060 ∷ 200060 ∷ 0 ∷ [])
 unfolding taken demand_after price_of sequence_of id_of taker_rate maker_rate
@@ -245,7 +247,8 @@ changes_nothing : ((step (row (MatchOrders 9) ann []) nothing asked.market).mark
 unfolding taken demand_after price_of sequence_of id_of taker_rate maker_rate
 changes_nothing = (refl, refl, refl, refl)
 
--- a discount wallet of SRM or MSRM lowers the fee; another one is of the wrong mint, and one of another person is not signed
+-- a discount wallet of SRM or MSRM lowers the fee; another one is of the wrong mint, and one of another person is not
+-- signed
 abbrev discounted : Address → Address → ℕ → Seen
 discounted mint owner balance = record buy_sees {
   discount = wallet (codes "bob_srm") mint owner balance;

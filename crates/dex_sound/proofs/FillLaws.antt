@@ -94,7 +94,8 @@ leaving-pc : (t : TakerTerms) (w : Demand) (orders : List Order) → total (leav
 leaving-pc t w orders =
     omega (arith, given-total t w orders, rebates-total t w orders, total-plus (leaving Pc) (λ (event : QueuedEvent). event.fee_or_rebate) (meet Ask t w orders).events)
 
--- what no event of a meeting moves: a bid's makers pay no quote and gain no base, an ask's pay no base and gain no quote
+-- what no event of a meeting moves: a bid's makers pay no quote and gain no base, an ask's pay no base and gain no
+-- quote
 no-leaving-pc : (t : TakerTerms) (w : Demand) (orders : List Order) → 0 ≡ total (leaving Pc) (meet Bid t w orders).events
 no-leaving-pc t = told-never Bid t (leaving Pc) (λ order lots. refl) (λ order lots. refl) (λ order. refl)
 

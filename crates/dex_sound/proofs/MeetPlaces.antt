@@ -1,4 +1,4 @@
--- places through a meeting: which orders its events end, and that none comes behind the end of its order
+-- places through a meeting: which orders its events end, and that none comes after the end of its order
 use Rattle.std.proofs.Common.{ℕ, ◌+◌, ◌≤◌, ◌≡◌, ⊎_elim, Bool, true, false, ◌&&◌, cond, eqb, List, [], ◌∷◌, ◌++◌, Option, Some, None, refl, sym, ap, ◌∙◌, arith}
 use Rattle.std.specs.List.{All}
 use Rattle.std.proofs.lemmas.Bool.{cases_Bool, cond_both, eq-eqb, and_from, false≢true}
@@ -40,7 +40,7 @@ ends-freed owner slot events =
 pub is_place-itself : (owner : Address) (slot : ℕ) → is_place owner slot owner slot ≡ true
 is_place-itself owner slot = and_from _ _ (is_same-refl owner) (eq-eqb slot slot refl)
 
--- behind events none of which ends the place of a later one, later ones may come
+-- after events none of which ends the place of a later one, later ones may come
 not-here : (final here : Bool) → ◌≡◌ {A = ℕ} (cond (final && here) 1 0) 0 → final ≡ true → here ≡ false
 not-here true true none is = absurd (omega arith)
 not-here true false none is = refl
@@ -108,8 +108,8 @@ cond-one-none false none = refl
 counts-one : (test : Bool) (rest : ℕ) → test ≡ true → 1 ≤ cond test 1 0 + rest
 counts-one test rest is = rw is (omega arith)
 
--- each event of a meeting is for a place for which an order rested; and where at most one rests for each, no event comes
--- behind the end of its order
+-- each event of a meeting is for a place for which an order rested; and where at most one rests for each, no event
+-- comes after the end of its order
 abbrev IsMetOnce : List Order → Meeting → Type 0
 IsMetOnce orders met =
     All (λ (e : QueuedEvent). 1 ≤ rests_at e.owner e.slot orders) met.events
@@ -165,7 +165,7 @@ pub meet-rested : (side : Side) (t : TakerTerms) (w : Demand) (orders : List Ord
     → All (λ (e : QueuedEvent). 1 ≤ rests_at e.owner e.slot orders) (meet side t w orders).events
 meet-rested side t w orders = (meet-once side t w orders).0
 
--- where at most one order rests for each place, no event of a meeting comes behind the end of its order
+-- where at most one order rests for each place, no event of a meeting comes after the end of its order
 pub meet-ends_last : (side : Side) (t : TakerTerms) (w : Demand) (orders : List Order) → ((owner : Address) (slot : ℕ) → rests_at owner slot orders ≤ 1)
     → EndLast (meet side t w orders).events
 meet-ends_last side t w orders = (meet-once side t w orders).1

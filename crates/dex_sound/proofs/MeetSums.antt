@@ -1,4 +1,5 @@
--- what a meeting and a posting leave of sums: of each token, for all orders and for those that pass a test, as an owner's
+-- what a meeting and a posting leave of sums: of each token, for all orders and for those that pass a test, as an
+-- owner's
 use Rattle.std.proofs.Common.{ℕ, ◌+◌, ◌<◌, ◌≡◌, Bool, true, false, cond, eqb, List, [], ◌∷◌, Option, Some, None, get_or, refl, sym, ap, ◌∙◌, arith}
 use Rattle.std.specs.List.{All}
 use Rattle.std.proofs.lemmas.Bool.{cond_both, eqb-true}
@@ -24,7 +25,8 @@ use Rattle.dex_laws.proofs.SpendLaws.{fee_of-le}
 use Rattle.dex_laws.proofs.TotalLaws.{total-agree, total-none}
 use Rattle.dex_sound.specs.Exchange.{gained, gained_as, taker_pays, taker_gets, withheld, IsBalanced}
 
--- what an event keeps of a token in its owner's total, with what it brings, is what it is still to take and what it owes
+-- what an event keeps of a token in its owner's total, with what it brings, is what it is still to take and what it
+-- owes
 event-amounts : (token : Token) (kind : EventKind) (event : QueuedEvent)
     → kept_as token kind event + gained_as token kind event ≡ leaving_as token kind event + owed_as token kind event
 event-amounts Coin (MakerFill Bid) event = omega arith

@@ -210,8 +210,8 @@ order-counts side m account n form room agree owner slot =
       taker-ends owner slot side sizes n o.met o.order,
     )
 
--- an event of the order itself, or of one that stood on its side, comes behind no end of its place: neither among events that
--- were pending nor among those of the meeting
+-- an event of the order itself, or of one that stood on its side, comes after no end of its place: neither among events
+-- that were pending nor among those of the meeting
 abbrev IsBehindNone : Side → Market → Account → NewOrder → Address → ℕ → Type 0
 IsBehindNone side m account n owner slot = (ends_at owner slot m.events ≡ 0) × (ends_at owner slot (order_on side m account n).met.events ≡ 0)
 
@@ -251,7 +251,7 @@ behind-last side m account n form room agree =
     All-booted (λ (order : Order). 1 ≤ rests_at order.owner order.slot (orders side m)) side (capacity side m) o.order (orders side m) (rests-itself (orders side m)) gone is in
     behind-none side m account n form agree gone.owner gone.slot (omega (arith, rests, is_taken-le (held_at gone.owner gone.slot m.traders))))
 
--- one event is behind none
+-- one event is after none
 taker-ends_last : (side : Side) (sizes : Lots) (n : NewOrder) (met : Meeting) (order : Order) → EndLast (taker_events side sizes n met order)
 taker-ends_last side sizes n met order =
     cond_both (eqb met.pc 0) [] (event_of (TakerFill side) order (got side sizes n met) (spent side sizes n met) (fee_of n met) ∷ []) EndLast
@@ -261,7 +261,7 @@ last-ends_last : (side : Side) (sizes : Lots) (order : Order) (booted : Option O
 last-ends_last side sizes order None = cond_both (eqb order.lots 0) (plain_out side order ∷ []) [] EndLast (λ none. ((λ final. tt), tt)) (λ some. tt)
 last-ends_last side sizes order (Some gone) = ((λ final. tt), tt)
 
--- no event comes behind the end of its order
+-- no event comes after the end of its order
 order-last : (side : Side) (m : Market) (account : Account) (n : NewOrder) → IsWellFormed m → HasRoom m account n → PlacesAgree m
     → EndLast (ordered_market side m account n).events
 order-last side m account n form room agree =

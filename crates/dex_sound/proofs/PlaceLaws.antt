@@ -169,7 +169,7 @@ place-empty m owner slot resting pending here =
       ends-none m.traders owner slot m.events here pending,
     )
 
--- events behind a final out are of other orders exactly where they are for other places
+-- events after a final out are of other orders exactly where they are for other places
 held-events : (traders : Traders) (events : List QueuedEvent) → AreHeld traders events
     → All (λ (event : QueuedEvent). held_at event.owner event.slot traders ≡ Some (event_holding event)) events
 held-events traders [] are = All-nil _

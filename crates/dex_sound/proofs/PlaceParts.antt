@@ -101,13 +101,13 @@ pub elsewhere-turned : (owner other : Address) (slot at : ℕ) (final : Bool) �
 elsewhere-turned owner other slot at final test is =
     is_place-sym other owner at slot ∙ false_from_ne_true (is_place owner slot other at) (λ here. false≢true (sym test ∙ and_from final (is_place owner slot other at) is here))
 
--- lists of events elsewhere, one behind the other
+-- lists of events elsewhere, one after the other
 pub AreElsewhere-append : (owner : Address) (slot : ℕ) (events later : List QueuedEvent) → AreElsewhere owner slot events → AreElsewhere owner slot later
     → AreElsewhere owner slot (events ++ later)
 AreElsewhere-append owner slot [] later away then = then
 AreElsewhere-append owner slot (event ∷ events) later away then = (away.0, AreElsewhere-append owner slot events later away.1 then)
 
--- events behind others end last where no final one of the others is for the same place
+-- events after others end last where no final one of the others is for the same place
 pub EndLast-append : (events later : List QueuedEvent) → EndLast events → EndLast later
     → All (λ (event : QueuedEvent). is_final event ≡ true → AreElsewhere event.owner event.slot later) events → EndLast (events ++ later)
 EndLast-append [] later last then away = then

@@ -41,7 +41,8 @@ of_ann slots = Open (record {
 abbrev bid_of : Address → Order
 bid_of owner = record { id = id_of Bid 50 0; owner = owner; slot = 0; tier = 0; lots = 1; client = 1 }
 
--- a market with so much in both vaults, so many places for events, a bid of an owner, a next sequence number, and amy's slots
+-- a market with so much in both vaults, so many places for events, a bid of an owner, a next sequence number, and amy's
+-- slots
 abbrev market : ℕ → ℕ → Address → ℕ → List (Option Holding) → Market
 market vaults places owner next slots = record base {
   listing = listing 100 455 places;

@@ -151,7 +151,8 @@ abbrev both_sides : Market
 both_sides = after (row (new Bid 40 1 1000 Decrement Limit 0 10) ann (amy ∷ [])) (sees None (ann_usd 1000))
     (after (row (new Ask 50 1 1 Decrement Limit 0 10) ann (amy ∷ [])) (ask_sees 1000) base)
 
--- pruning takes bids before asks; a list takes nothing by the client id 0; what is locked or waits is no free fund, and is in the total
+-- pruning takes bids before asks; a list takes nothing by the client id 0; what is locked or waits is no free fund, and
+-- is in the total
 prunes_bids_first : (events (after (row (Prune 1) (label (codes "admin")) (amy ∷ [])) nothing both_sides) ≡ (22 ∷ 400 ∷ 0 ∷ 0 ∷ []) ∷ [])
     × (events (after (row (Prune 2) (label (codes "admin")) (amy ∷ [])) nothing both_sides) ≡ (22 ∷ 400 ∷ 0 ∷ 0 ∷ []) ∷ (18 ∷ 100 ∷ 0 ∷ 0 ∷ []) ∷ [])
     × (taken_by_all (0 ∷ 9 ∷ []) (all_orders_of amy both_sides.bids both_sides.asks) ≡ [])

@@ -124,7 +124,8 @@ drained_slots : (map (λ slot. counts ben slot drained) (0 ∷ 1 ∷ 2 ∷ 3 ∷
 unfolding taken demand_after price_of sequence_of id_of taker_rate maker_rate
 drained_slots = (refl, refl)
 
--- ben's free funds are paid out, and what his orders lock stays; his referrer part goes to the wallet of the quote role too
+-- ben's free funds are paid out, and what his orders lock stays; his referrer part goes to the wallet of the quote role
+-- too
 abbrev settles : Option WalletSeen → Step
 settles referrer = settle (record (sees (bob_coin 50000) (bob_usd 50000)) { referrer = referrer }) drained
 

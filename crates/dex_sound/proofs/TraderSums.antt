@@ -145,7 +145,8 @@ held_at-put_slot address slot held account after traders found within slots owne
     (λ (apart : is_same owner address ≡ false). rw apart (held_at-put_other address owner at (Open after) traders apart))
     (cases_Bool (is_same owner address))
 
--- accounts still add up after a put, where those of others keep what is locked and pending for them, and the one that was put adds up
+-- accounts still add up after a put, where those of others keep what is locked and pending for them, and the one that
+-- was put adds up
 pub AddsUp-put : (m after : Market) (address : Address) (old trader : Trader) → trader_at address m.traders ≡ Some old
     → after.traders ≡ put_trader address trader m.traders
     → ((owner : Address) → is_same owner address ≡ false → (token : Token) →

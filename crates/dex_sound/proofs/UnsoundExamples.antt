@@ -184,7 +184,7 @@ ends_twice : IsSound (holds just [] (ends ∷ releases 0 ∷ [])) → ⊥
 unfolding price_of sequence_of id_of
 ends_twice s = apart 1 2 (lit< tt) (sym (s.slots.taken amy 0 bid_of_7 refl))
 
--- an event of a free slot, of another order of its slot, and one behind its order's end
+-- an event of a free slot, of another order of its slot, and one after its order's end
 event_of_a_free_slot : IsSound (holds (None ∷ None ∷ []) [] (ends ∷ [])) → ⊥
 event_of_a_free_slot s = absurd (let e = s.slots.pending.0 in cc)
 

@@ -28,11 +28,12 @@ without-there id first others apart = cond-false _ _ _ apart
 pub order_with-first : (first : Order) (others : List Order) → order_with first.id (first ∷ others) ≡ Some first
 order_with-first first others = order_with-here first.id first others (eq-eqb first.id first.id refl)
 
--- behind an order of another id one is found as without it
+-- after an order of another id one is found as without it
 pub order_with-behind : (id : ℕ) (first : Order) (others : List Order) → first.id ≢ id → order_with id (first ∷ others) ≡ order_with id others
 order_with-behind id first others apart = order_with-there id first others (ne_eqb first.id id apart)
 
--- what holds of lists that the order found stands first in, and of lists behind another id, holds of each list that it is found in
+-- what holds of lists that the order found stands first in, and of lists after another id, holds of each list that it
+-- is found in
 pub found-induction : (id : ℕ) (order : Order) (P : List Order → Type 0)
     → ((others : List Order) → eqb order.id id ≡ true → P (order ∷ others))
     → ((first : Order) (others : List Order) → eqb first.id id ≡ false → order_with id others ≡ Some order → P others → P (first ∷ others))

@@ -14,7 +14,8 @@ use Rattle.dex_types.specs.Why.{why}
 abbrev pub would_leave : Request → Seen → Market → Market
 would_leave request seen m = (act_decoded request.instruction request seen m).market
 
--- for a token these are the market's vault and what its pending makers' fills are still to take, and together they pass the bound
+-- for a token these are the market's vault and what its pending makers' fills are still to take, and together they pass
+-- the bound
 pub record IsBeyond (m : Market) (held pending : ℕ) : Type 0 where
   pub token : Token
   pub in_vault : held ≡ vault token m

@@ -24,8 +24,8 @@ pub record FieldsFit (m : Market) : Type 0 where
   pub rebates : m.referrer_rebates < 2 ^ 64
   pub accounts : (owner : Address) (account : Account) → trader_at owner m.traders ≡ Some (Open account) → AccountFits account
 
--- a pending event can be paid: its owner is open and holds its order in the event's slot, what it takes off a total is in that,
--- and what it adds to a free amount, to a total or to the referrer part leaves that below 2^64
+-- a pending event can be paid: its owner is open and holds its order in the event's slot, what it takes off a total is
+-- in that, and what it adds to a free amount, to a total or to the referrer part leaves that below 2^64
 pub record CanBePaid (m : Market) (event : QueuedEvent) : Type 0 where
   pub account : Account
   pub found : trader_at event.owner m.traders ≡ Some (Open account)

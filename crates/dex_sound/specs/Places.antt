@@ -34,7 +34,7 @@ abbrev pub AreElsewhere : Address → ℕ → List QueuedEvent → Type 0
 AreElsewhere owner slot [] = Unit {0}
 AreElsewhere owner slot (event ∷ events) = (is_event_at owner slot event ≡ false) × AreElsewhere owner slot events
 
--- no event comes behind a final out for its place
+-- no event comes after a final out for its place
 abbrev pub EndLast : List QueuedEvent → Type 0
 EndLast [] = Unit {0}
 EndLast (event ∷ events) = (is_final event ≡ true → AreElsewhere event.owner event.slot events) × EndLast events
@@ -45,7 +45,8 @@ HoldOnce traders =
     (owner other : Address) (slot at : ℕ) (held same : Holding) → held_at owner slot traders ≡ Some held → held_at other at traders ≡ Some same
     → sequence_of held.side held.id ≡ sequence_of same.side same.id → (owner ≡ other) × (slot ≡ at)
 
--- the slots and what they stand for, by place: at each place as many orders rest and final outs wait as orders are held there
+-- the slots and what they stand for, by place: at each place as many orders rest and final outs wait as orders are held
+-- there
 pub record PlacesAgree (m : Market) : Type 0 where
   pub resting : (side : Side) → All (λ (order : Order). held_at order.owner order.slot m.traders ≡ Some (order_holding side order)) (orders side m)
   pub pending : All (λ (event : QueuedEvent). held_at event.owner event.slot m.traders ≡ Some (event_holding event)) m.events

@@ -11,9 +11,9 @@ ghost use Rattle.dex_types.specs.Soundness.{IsSound};
 ghost use Rattle.dex_types.specs.Why.{why};
 ghost use Rattle.dex_sound.specs.Bounds.{IsBeyond, BreaksBound, IsRefusedForSum, HasNoOtherReason, would_leave};
 
-/// A row is refused for a sum only where the market that it would leave passes the bound, with the values of that market. And
-/// a row that would leave a sound market beyond the bound is always refused: for the sum, or for a reason that comes before
-/// it. So it is refused for a sum exactly where the bound would break and no other reason holds.
+/// A row is refused for a sum only where the market that it would leave passes the bound, with the values of that
+/// market. And a row that would leave a sound market beyond the bound is always refused: for the sum, or for a reason
+/// that comes before it. So it is refused for a sum exactly where the bound would break and no other reason holds.
 pub fn a_sum_is_too_large_where_the_bound_would_break()
     ensures only { (request : Request) (seen : Seen) (m : Market) (held pending : ℕ) →
         why request seen m ≡ Some (SumTooLarge held pending) → IsBeyond (would_leave request seen m) held pending }

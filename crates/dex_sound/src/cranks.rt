@@ -23,8 +23,9 @@ pub fn a_crank_is_any_split_of_it()
         → after_cranks cranks m ≡ after_cranks others m }
 {}
 
-/// A crank consumes no more events than there are and than it may, and none but those of owners that it names. Where it could
-/// consume one more, it does not name that one's owner; so it consumes as many as it may where it names every owner.
+/// A crank consumes no more events than there are and than it may, and none but those of owners that it names. Where it
+/// could consume one more, it does not name that one's owner; so it consumes as many as it may where it names every
+/// owner.
 pub fn a_crank_consumes_what_it_may()
     ensures limit { (limit : ℕ) (named : List Address) (events : List QueuedEvent)
         → consumable limit named events ≤ limit }

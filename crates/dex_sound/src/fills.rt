@@ -21,8 +21,8 @@ pub fn fills_pay_the_fee_less_the_rebates()
         let met = take_meeting side sizes t opposing in IsBalanced side sizes met (take_fee t met) token }
 {}
 
-/// What an order and a take spend and get is what their fills pay and get, and a take pays no more than it may use. What is
-/// withheld of an order's quote is shared by the market and the referrer.
+/// What an order and a take spend and get is what their fills pay and get, and a take pays no more than it may use.
+/// What is withheld of an order's quote is shared by the market and the referrer.
 pub fn what_is_spent_is_what_fills_pay()
     ensures order_spends { (side : Side) (sizes : Lots) (n : NewOrder) (met : Meeting) →
         spent side sizes n met ≡ taker_pays side sizes met (fee_of n met) (locked_token side) }

@@ -11,8 +11,8 @@ ghost use Rattle.dex_sound.specs.Kept.{KeepsMarket};
 ghost use Rattle.dex_types.specs.Requests.{Request};
 ghost use Rattle.dex_types.specs.Steps.{step};
 
-/// Vaults change by what moves between them and wallets alone, and what a market is listed with never changes, nor do its
-/// accounts' addresses.
+/// Vaults change by what moves between them and wallets alone, and what a market is listed with never changes, nor do
+/// its accounts' addresses.
 pub fn only_transfers_move_vaults()
     ensures { (request : Request) (seen : Seen) (m : Market) → KeepsMarket m (step request seen m) }
 {}

@@ -12,10 +12,10 @@ ghost use Rattle.dex_types.specs.Take.{Take, take_meeting, after_take};
 ghost use Rattle.dex_types.specs.Trader.{Open, trader_at};
 ghost use Rattle.dex_types.specs.Why.{why_order_of, why_take};
 
-/// A new order of an open account, at a price of at least 1, that is not refused leaves a sound market sound: it rests in
-/// the slot that it takes, or its out waits there; each order that it met rests on, or ends once; the order that had to
-/// leave a full side ends once; vaults hold what they have to after the deposit, all totals add up, and no sum passes the
-/// bound.
+/// A new order of an open account, at a price of at least 1, that is not refused leaves a sound market sound: it rests
+/// in the slot that it takes, or its out waits there; each order that it met rests on, or ends once; the order that had
+/// to leave a full side ends once; vaults hold what they have to after the deposit, all totals add up, and no sum
+/// passes the bound.
 pub fn a_new_order_leaves_a_sound_market()
     ensures { (side : Side) (n : NewOrder) (request : Request) (seen : Seen) (m : Market) (party : Party) →
         IsSound m → trader_at party.address m.traders ≡ Some (Open party.account) → n.owner ≡ party.address

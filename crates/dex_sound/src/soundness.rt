@@ -12,15 +12,15 @@ ghost use Rattle.dex_types.specs.Steps.{step};
 ghost use Rattle.dex_types.specs.Why.{why_cancelled};
 ghost use Rattle.dex_sound.specs.Cancels.{AreOwnResting};
 
-/// Every step leaves a sound market sound, whatever the row asks and sees, where an order or a take states a price of at
-/// least 1. Instruction data that states none does not decode.
+/// Every step leaves a sound market sound, whatever the row asks and sees, where an order or a take states a price of
+/// at least 1. Instruction data that states none does not decode.
 pub fn every_step_keeps_a_market_sound()
     ensures { (request : Request) (seen : Seen) (m : Market) → IsSound m → HasPrice request.instruction
         → IsSound (step request seen m).market }
 {}
 
-/// In a sound market each vault holds what is free, locked, owed and earned, and with what pending fills are still to take
-/// off totals it is below 2^64.
+/// In a sound market each vault holds what is free, locked, owed and earned, and with what pending fills are still to
+/// take off totals it is below 2^64.
 pub fn a_sound_market_is_solvent_and_bounded()
     ensures solvent { (m : Market) → IsSound m → IsSolvent m }
     ensures bounded { (m : Market) → IsSound m → IsBounded m }

@@ -23,8 +23,8 @@ pub record HasMints (accounts : PlainAccounts) (market : PlainMarketAccounts) : 
   pub coin : IsMintOf accounts (market_words market.market).terms.coin_mint
   pub pc : IsMintOf accounts (market_words market.market).terms.pc_mint
 
--- the accounts are accepted: each as an account of its kind; wallets and markets are of mints that there are; no address is that
--- of two accounts; SRM and MSRM are two of the mints; and no limit is passed
+-- the accounts are accepted: each as an account of its kind; wallets and markets are of mints that there are; no
+-- address is that of two accounts; SRM and MSRM are two of the mints; and no limit is passed
 pub record AreAccepted (accounts : PlainAccounts) : Type 0 where
   pub mints : All (λ (mint : PlainAccount). IsMint mint.bytes) accounts.mints
   pub wallets : All (λ (wallet : PlainAccount). IsWallet wallet.bytes) accounts.wallets

@@ -1,4 +1,5 @@
-//! All accounts of an exchange together, as plain values: when they are accepted and conserved, and what a run leaves. No text.
+//! All accounts of an exchange together, as plain values: when they are accepted and conserved, and what a run leaves.
+//! No text.
 #![tactic(auto)]
 
 mod outcome;

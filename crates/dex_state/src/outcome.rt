@@ -16,7 +16,8 @@ pub struct WalletJournal {
     pub entries: Vec<WalletEntry>,
 }
 
-/// What all rows of a script left: the last accounts, and one journal for each market and each wallet, in declared order.
+/// What all rows of a script left: the last accounts, and one journal for each market and each wallet, in declared
+/// order.
 #[derive(Debug, Drop)]
 pub struct Outcome {
     pub accounts: Accounts,

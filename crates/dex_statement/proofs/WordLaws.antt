@@ -1,4 +1,4 @@
--- The first word of a field, and the words behind it.
+-- The first word of a field, and the words after it.
 use Rattle.std.proofs.Common.{◌≡◌, ◌+◌, ◌-◌, ◌∙◌, ◌≤◌, ◌<◌, ◌++◌, ◌∷◌, [], ℕ, Bor, set, nat_lt, if◌then◌else◌, Bool, true, false, List, Some, None, length, take, drop, arith, refl, ap}
 use Rattle.std.proofs.lemmas.List.{length-drop, map-append, take_all, take_more_set}
 use Rattle.dex_statement.specs.Words.{texts}
@@ -19,7 +19,7 @@ whole : (p : ℕ → Bool) (xs : List ℕ) → length xs ≤ position_or_len p x
 whole p [] h = refl
 whole p (x ∷ xs) h = whole_at p x xs (p x) refl (whole p xs) h
 
--- what is told of the first word, by the answer of `position`
+-- what is recorded of the first word, by the answer of `position`
 pub record IsCut (p : ℕ → Bool) (field : List ℕ) (place : ℕ) : Type 0 where
   pub within : place < length field
   pub words : slice_split p field ≡ take place field ∷ slice_split p (drop (place + 1) field)
@@ -45,7 +45,7 @@ uncut_at p field false within e = whole p field (grind (arith, nat_tests))
 pub uncut : (p : ℕ → Bool) (field : List ℕ) → position p field ≡ None → slice_split p field ≡ field ∷ []
 uncut p field e = uncut_at p field (nat_lt (position_or_len p field) (length field)) refl e
 
--- the same, with what stands behind as a slice takes it
+-- the same, with what stands after as a slice takes it
 pub cut_behind : (p : ℕ → Bool) (field : List ℕ) (place : ℕ) → position p field ≡ Some place
     → slice_split p field ≡ take place field ∷ slice_split p (take (length field - (place + 1)) (drop (place + 1) field))
 cut_behind p field place e =

@@ -29,7 +29,7 @@ kind_number (SetupRefused code) = 9
 kind_number BadSwap = 10
 kind_number NoBatch = 11
 
--- the setup code behind a kind, 0 where it has none
+-- the setup code after a kind, 0 where it has none
 abbrev pub code_of : FaultKind → ℕ
 code_of (SetupRefused code) = code_number code
 code_of _ = 0

@@ -48,7 +48,7 @@ limit_at words place = found_or (number_of (2 ^ 16) (field_at words place)) BadN
 abbrev pub side_at : Fields → ℕ → Result Side FaultKind
 side_at words place = found_or (side_of (field_at words place)) UnknownRow
 
--- one number of 16 bits behind the verb
+-- one number of 16 bits after the verb
 unfoldable pub limit_of : Fields → Result ℕ FaultKind
 limit_of words = unless (not (length words == 2)) FieldCount (limit_at words 1)
 
@@ -72,7 +72,7 @@ is_strange_order words = is_strange_side words 1 || is_strange_self_trade words 
 abbrev pub amount_at : Fields → ℕ → Result ℕ FaultKind
 amount_at words place = found_or (number_of (2 ^ 64) (field_at words place)) BadNumber
 
--- the latest time, where a word stands behind an order's others
+-- the latest time, where a word stands after an order's others
 unfoldable pub latest_of : Fields → Result (Option ℤ) FaultKind
 latest_of words = if not (length words == 10) then Ok None else (do
   latest ← found_or (time_word (field_at words 9)) BadNumber
@@ -124,7 +124,7 @@ cancel_by_client_of words = unless (not (length words == 2)) FieldCount (do
   client ← amount_at words 1
   Ok (ix.CancelOrderByClientIdV2 client))
 
--- numbers of 64 bits, one a word, behind those that were read
+-- numbers of 64 bits, one a word, after those that were read
 abbrev pub ids_behind : List ℕ → Fields → Result (List ℕ) FaultKind
 ids_behind ids [] = Ok ids
 ids_behind ids (word ∷ words) = found_or (number_of (2 ^ 64) word) BadNumber >>= λ id. ids_behind (ids ++ id ∷ []) words
@@ -144,7 +144,7 @@ abbrev pub spelled_of : Result Ix FaultKind → Result (List ℕ) FaultKind
 spelled_of (Ok asked) = Ok (spelling asked)
 spelled_of (Err kind) = Err kind
 
--- the bytes that a verb and the words behind it ask for
+-- the bytes that a verb and the words after it ask for
 abbrev pub bytes_of : Verb → Fields → Result (List ℕ) FaultKind
 bytes_of verb.Init words = spelled_of (bare_ix ix.InitOpenOrders words)
 bytes_of verb.Close words = spelled_of (bare_ix ix.CloseOpenOrders words)

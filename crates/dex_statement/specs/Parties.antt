@@ -8,7 +8,7 @@ use Rattle.dex_statement.specs.Faults.{◌>>=◌, found_or}
 use Rattle.dex_statement.specs.Stated.{PlainParties}
 use Rattle.dex_statement.specs.Words.{Fields, field_at, words_of}
 
--- the addresses that words name, one a word, behind those that were read
+-- the addresses that words name, one a word, after those that were read
 abbrev pub named_behind : List Address → Fields → Result (List Address) FaultKind
 named_behind named [] = Ok named
 named_behind named (word ∷ words) = found_or (address_of word) BadLabel >>= λ address. named_behind (named ++ address ∷ []) words

@@ -12,7 +12,7 @@ use Rattle.dex_types.specs.declared.terms.Side.TheVariants.{Bid, Ask}
 use Rattle.dex_rows.specs.Numbers.{number_of}
 pub use Rattle.dex_rows.specs.Records.{Fields, field_at}
 
--- the words of a field: what stands before, between and behind its spaces
+-- the words of a field: what stands before, between and after its spaces
 abbrev pub words_of : List ℕ → Fields
 words_of field = slice_split (λ byte. byte == 32) field
 

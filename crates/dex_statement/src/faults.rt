@@ -11,7 +11,7 @@ use thiserror::Error;
 /// Why a row is refused where all its words are well formed, known and within the limits.
 #[derive(Clone, Copy, Debug, PartialEq, Eq, Error)]
 pub enum SetupCode {
-    /// A setup row behind an instruction row, or in a script that begins with a dump.
+    /// A setup row after an instruction row, or in a script that begins with a dump.
     #[error("a setup row comes too late")]
     Late,
     /// The SRM mint has not 6 decimals, or the MSRM mint not 0.
@@ -64,7 +64,8 @@ pub enum FaultKind {
     /// The row can not be taken where it stands, or makes no account.
     #[error("{0}")]
     SetupRefused(SetupCode),
-    /// The two markets of a swap are one, a wallet stands twice in it, or a leg's data is another instruction than a take.
+    /// The two markets of a swap are one, a wallet stands twice in it, or a leg's data is another instruction than a
+    /// take.
     #[error("a swap has one market, a wallet twice, or a leg that is no take")]
     BadSwap,
     /// A swap in a script that is to act in batches.

@@ -77,8 +77,9 @@ pub(crate) fn words_row(alloc: Global, row: &Fields<'_>) -> Result<Statement, Ro
     Ok(Statement::Instruction(words))
 }
 
-/// Reads a `do` row into words that are there, and answers whether the row is one. Of any other row, and of one that has a byte
-/// which is not printable, `statement_of` tells what it states. Nothing is moved: a script is nearly all `do` rows.
+/// Reads a `do` row into words that are there, and answers whether the row is one. Of any other row, and of one that
+/// has a byte which is not printable, `statement_of` tells what it states. Nothing is moved: a script is nearly all
+/// `do` rows.
 #[tactic(auto, unfolding(crate::specs::Statements::statement_of))]
 pub fn read_instruction(
     alloc: Global,

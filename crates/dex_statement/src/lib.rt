@@ -1,7 +1,7 @@
 //! What one row of a script states by itself, or the first fault that it has by itself, whatever stands in other rows.
 //!
-//! A row is a record of comma-separated values. Setup rows make accounts, instruction rows hand an instruction to a lane, a
-//! `swap` row two takes on two markets, and a `program` or a `clock` row chooses the program or sets the clock.
+//! A row is a record of comma-separated values. Setup rows make accounts, instruction rows hand an instruction to a
+//! lane, a `swap` row two takes on two markets, and a `program` or a `clock` row chooses the program or sets the clock.
 #![tactic(auto)]
 
 mod faults;

@@ -33,8 +33,8 @@ pub enum Verb {
     CancelByClients,
 }
 
-/// Reads the instruction's bytes that the words of a field ask for. It takes memory for the words only where they are more than
-/// the longest form has.
+/// Reads the instruction's bytes that the words of a field ask for. It takes memory for the words only where they are
+/// more than the longest form has.
 pub(crate) fn read_data(alloc: Global, field: &[u8], bytes: &mut Vec<u8>) -> Result<(), RowError>
     ensures { TellsIn result bytes.new.items (order.data_of (words_of field.now)) }
 {
@@ -46,7 +46,7 @@ pub(crate) fn read_data(alloc: Global, field: &[u8], bytes: &mut Vec<u8>) -> Res
     }
 }
 
-/// The same, of any number of words.
+/// Like `read_data`, of any number of words.
 #[inline(never)]
 fn read_many(alloc: Global, field: &[u8], bytes: &mut Vec<u8>) -> Result<(), RowError>
     ensures { TellsIn result bytes.new.items (order.data_of (words_of field.now)) }
@@ -123,7 +123,7 @@ fn bare_verb_of(word: &[u8]) -> Option<Verb>
     }
 }
 
-/// The instruction of a verb and the words behind it.
+/// The instruction of a verb and the words after it.
 fn ix_of(verb: Verb, words: &[&[u8]]) -> Result<Ix, FaultKind>
     ensures { order.Spells result (order.bytes_of verb (texts words.now)) }
 {
@@ -161,7 +161,7 @@ fn bare_ix(ix: Ix, words: &[&[u8]]) -> Result<Ix, FaultKind>
     }
 }
 
-/// How many orders or events the one word behind a verb says.
+/// How many orders or events the one word after a verb says.
 #[tactic(auto, unfolding(crate::specs::OrderWords::limit_of))]
 fn limit_of(words: &[&[u8]]) -> Result<u16, FaultKind>
     ensures { result ≡ order.limit_of (texts words.now) }
@@ -217,7 +217,7 @@ fn is_strange_order(
         || (6 < words.len() && order_type.is_none())
 }
 
-/// The latest time that the word behind an order's others says, where there is one.
+/// The latest time that the word after an order's others says, where there is one.
 #[tactic(auto, unfolding(crate::specs::OrderWords::latest_of))]
 fn latest_of(words: &[&[u8]]) -> Result<Option<i64>, FaultKind>
     ensures { result ≡ order.latest_of (texts words.now) }

@@ -64,8 +64,8 @@ impl Parties {
     }
 }
 
-/// Reads whom an instruction row names, in its fields from MARKET to REFERRER. All faults of these fields are of one kind, so
-/// that their order is of no account.
+/// Reads whom an instruction row names, in its fields from MARKET to REFERRER. All faults of these fields are of one
+/// kind, so that their order is of no account.
 #[tactic(auto, unfolding(crate::specs::Parties::parties_of))]
 pub(crate) fn read_parties(row: &Fields<'_>, parties: &mut Parties) -> Result<(), RowError>
     ensures { TellsIn result parties.new (parties_meant.parties_of row.now) }

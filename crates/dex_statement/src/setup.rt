@@ -15,9 +15,9 @@ use dex_types::{Address, Program};
 use std::alloc::Global;
 use std::marker::Model;
 
-/// What a market row states: the market's address, whose last byte is 0, the mints of base (coin) and quote (pc), the person
-/// who signs for it, how many nodes each side and how many events the queue is to have, and the bytes of the instruction that
-/// says the rest.
+/// What a market row states: the market's address, whose last byte is 0, the mints of base (coin) and quote (pc), the
+/// person who signs for it, how many nodes each side and how many events the queue is to have, and the bytes of the
+/// instruction that says the rest.
 #[derive(Debug, Drop)]
 pub struct MarketWords {
     pub address: Address,

@@ -51,8 +51,8 @@ pub enum Statement {
     Swap(SwapWords),
 }
 
-/// What a row states by itself, or the lowest fault that it has by itself: an unprintable byte, an unknown word, another
-/// number of fields or words, a bad number, or a bad address word.
+/// What a row states by itself, or the lowest fault that it has by itself: an unprintable byte, an unknown word,
+/// another number of fields or words, a bad number, or a bad address word.
 #[tactic(auto, unfolding(crate::specs::Statements::statement_of))]
 pub fn statement_of(alloc: Global, row: &Fields<'_>) -> Result<Statement, RowError>
     ensures { Tells result (statements.statement_of row.now) }

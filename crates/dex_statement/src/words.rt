@@ -32,7 +32,7 @@ pub(crate) fn few_words<'a>(field: &'a [u8], words: &mut [&'a [u8]; MOST_WORDS])
     Some(count + 1)
 }
 
-/// The words of a field: what stands before, between and behind its spaces.
+/// The words of a field: what stands before, between and after its spaces.
 pub(crate) fn words_of(alloc: Global, field: &[u8]) -> Result<Vec<&[u8]>, AllocError>
     ensures { IfOk result (λ found. script.texts found.items ≡ script.words_of field.now) }
 {
@@ -46,7 +46,7 @@ pub(crate) fn words_of(alloc: Global, field: &[u8]) -> Result<Vec<&[u8]>, AllocE
     Ok(words)
 }
 
-/// The first word of a field, and what stands behind the space that ends it; None where the field has no space.
+/// The first word of a field, and what stands after the space that ends it; None where the field has no space.
 pub(crate) fn first_word(field: &[u8]) -> Option<(&[u8], &[u8])>
     ensures words { MatchOption result (script.words_of field.now ≡ field.now ∷ [])
         (λ parts. script.words_of field.now ≡ parts.0.now ∷ script.words_of parts.1.now) }
@@ -65,7 +65,7 @@ fn first_space(field: &[u8]) -> Option<usize>
     field.iter().position(|&byte| byte == b' ')
 }
 
-/// The word at a place, counted from 0; no bytes behind the last.
+/// The word at a place, counted from 0; no bytes after the last.
 pub(crate) fn word_at<'a>(words: &[&'a [u8]], place: usize) -> &'a [u8]
     ensures { result.now ≡ script.field_at (script.texts words.now) place }
 {

@@ -21,7 +21,7 @@ pub struct Desk {
 }
 
 impl Desk {
-    /// A new market with so many nodes a side, room for so many events, and so many accounts that are not opened.
+    /// A new market with this many nodes a side, room for this many events, and so many accounts that are not opened.
     pub fn new(alloc: Global, nodes: u32, events: u32, accounts: u16) -> Result<Desk, Error>
         requires some_nodes { 1 ≤ nodes }
         requires few_nodes { nodes ≤ 65536 }

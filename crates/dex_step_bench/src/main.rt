@@ -1,8 +1,8 @@
-//! Times rows of a market: a new order, a cancel by client id and a prune of one order, by how many orders rest and how many
-//! events are pending.
+//! Times rows of a market: a new order, a cancel by client id and a prune of one order, by how many orders rest and how
+//! many events are pending.
 //!
-//! With the word `time` it prints times, and without it how many rows of a small market are done, which is the same at each
-//! run.
+//! With the word `time` it prints times, and without it how many rows of a small market are done, which is the same at
+//! each run.
 #![tactic(auto)]
 
 mod desk;
@@ -56,7 +56,7 @@ fn time<R: Print + Clock + AllocGlobal>(rt: &R) -> Result<(), Error> {
     Ok(())
 }
 
-/// Prints the times on a new market with so many orders and events.
+/// Prints the times on a new market with this many orders and events.
 fn time_market<R: Print + Clock + AllocGlobal>(
     rt: &R,
     resting: u32,

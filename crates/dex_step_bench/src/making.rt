@@ -35,7 +35,7 @@ pub const ACCOUNT: u8 = 5;
 
 pub const WALLET: u8 = 6;
 
-/// A market of lots of 1, whose sides have so many nodes, with room for so many events.
+/// A market of lots of 1, whose sides have this many nodes, with room for this many events.
 fn set(nodes: u32, events: u32) -> MarketSet
     requires some_nodes { 1 ≤ nodes }
     requires few_nodes { nodes ≤ 65536 }
@@ -77,7 +77,7 @@ fn blank_accounts(alloc: Global, count: u16) -> Result<Vec<OrdersAccount>, Error
     Ok(made)
 }
 
-/// The accounts of a new market with so many open-orders accounts.
+/// The accounts of a new market with this many open-orders accounts.
 pub fn new_market(
     alloc: Global,
     nodes: u32,

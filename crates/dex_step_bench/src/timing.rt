@@ -1,4 +1,4 @@
-//! How long rows take on a market with so many orders and pending events.
+//! How long rows take on a market with this many orders and pending events.
 
 ghost use Rattle.std.specs.Prelude.{◌≤◌, ◌<◌};
 ghost use Rattle.dex_step_bench.specs.Ready.{AreAgreed, IsReady};
@@ -43,8 +43,8 @@ fn time_stage<R: Clock + AllocGlobal>(
     Ok(end.duration_since(start).as_nanos() / u128::from(BATCH))
 }
 
-/// The times on a market: in each round an account that is open and empty posts a hundred orders, of which fifty are cancelled
-/// by their client ids, and fifty are pruned one by one. The accounts begin with the one of this number.
+/// The times on a market: in each round an account that is open and empty posts a hundred orders, of which fifty are
+/// cancelled by their client ids, and fifty are pruned one by one. The accounts begin with the one of this number.
 pub fn time_rows<R: Clock + AllocGlobal>(
     rt: &R,
     desk: &mut Desk,

@@ -1,4 +1,4 @@
--- What pending events and accounts weigh in sums, and as what a sum is told.
+-- What pending events and accounts weigh in sums, and as what a sum is reported.
 use Rattle.std.specs.Prelude.{ℕ, ◌-◌, ◌^◌, min}
 use Rattle.dex_types.specs.Owed.{kept, leaving, owed, referred}
 use Rattle.dex_types.specs.QueuedEvent.{QueuedEvent}

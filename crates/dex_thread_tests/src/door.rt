@@ -17,7 +17,7 @@ struct Room {
     met: AtomicU64,
 }
 
-// Comes in and goes out, over and over, and gives way in between, so that those who wait sleep.
+// Comes in and goes out, over and over, and yields in between, so that those who wait sleep.
 fn come_and_go<R: Wait>(rt: &R, room: &Room) {
     for _ in 0..STAYS {
         room.door.come_in(rt);
@@ -40,7 +40,8 @@ fn four_come<R: Wait + Threads + Sync>(rt: &R, room: &Room) {
     let _done = thread::join(rt, || two_come(rt, room), || two_come(rt, room));
 }
 
-// More threads than processors share a door. Where who goes out wakes nobody, or another than who is next, this does not end in time.
+// More threads than processors share a door. Where who goes out wakes nobody, or another than who is next, this does
+// not end in time.
 #[test]
 fn one_at_a_time_is_behind_a_door(rt: HostRuntime) -> Result<(), Fail> {
     let room = Room {

@@ -116,8 +116,8 @@ fn two_threads_take_three_turns_each(rt: HostRuntime) -> Result<(), Fail> {
     Ok(())
 }
 
-// More threads than processors take many turns, and give way in each, so that those who wait are parked. Where the end of a turn
-// wakes nobody, or another than who is next, or who waits does not park at all, this does not end in time.
+// More threads than processors take many turns, and give way in each, so that those who wait are parked. Where the end
+// of a turn wakes nobody, or another than who is next, or who waits does not park at all, this does not end in time.
 #[test]
 fn eight_threads_wait_parked(rt: HostRuntime) -> Result<(), Fail> {
     let alloc = rt.alloc();

@@ -6,7 +6,7 @@ use std::sync::atomic::{AtomicU64, Ordering};
 use std::test::Fail;
 use std::thread;
 
-/// How often a job gives way before it gives up.
+/// How often a job yields before it gives up.
 const MOST_YIELDS: u32 = 1_000_000;
 
 // Is inside until all jobs are, or until it gives up.

@@ -1,4 +1,5 @@
-//! Tests of threads: turns at a gate, jobs side by side, the order in which a row takes its turns, and scripts read in pieces.
+//! Tests of threads: turns at a gate, jobs side by side, the order in which a row takes its turns, and scripts read in
+//! pieces.
 #![tactic(auto)]
 
 #[cfg(test)]

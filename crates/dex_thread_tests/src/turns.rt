@@ -29,8 +29,8 @@ impl Journaled for Lanes {
     }
 }
 
-/// Draws a ticket, waits for its turn, gives way in it, adds the pass's number and leaves. Where memory runs out, the turn comes back with nothing
-/// added, and is still out.
+/// Draws a ticket, waits for its turn, yields in it, adds the pass's number and leaves. Where memory runs out, the turn
+/// comes back with nothing added, and is still out.
 pub(crate) fn take_turn<R: Wait>(
     rt: &R,
     gate: &Gate<Lanes>,

@@ -1,4 +1,5 @@
--- The first rule that a token account or a mint breaks by itself, with the place and the bytes found and wanted there. The rules of the bytes stand in the order of their places.
+-- The first rule that a token account or a mint breaks by itself, with the place and the bytes found and wanted there.
+-- The rules of the bytes stand in the order of their places.
 use Rattle.std.specs.Prelude.{ℕ, suc, List, [], ◌∷◌, length, Option, Some, None, if◌then◌else◌, ◌==◌}
 use Rattle.std.specs.Option.{option_or}
 use Rattle.dex_fields.specs.declared.field.Field.{Field}
@@ -26,7 +27,7 @@ first_set start (b ∷ bytes) = if b == 0 then first_set (suc start) bytes else 
 abbrev pub zero_rule : List ℕ → Field → Option AccountFault
 zero_rule bytes field = first_set field.at (bytes_in bytes field)
 
--- the first byte behind the amount that is not what it must be
+-- the first byte after the amount that is not what it must be
 unfoldable pub rest_rule : List ℕ → Option AccountFault
 rest_rule bytes =
     option_or (option_or (option_or (option_or (zero_rule bytes DELEGATE) (byte_rule bytes STATE 1)) (zero_rule bytes IS_NATIVE)) (zero_rule bytes DELEGATED_AMOUNT)) (zero_rule bytes CLOSE_AUTHORITY)

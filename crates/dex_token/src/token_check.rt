@@ -16,8 +16,8 @@ use dex_types::AccountFault;
 /// Whether the bytes are a token account that the exchange takes, by the rules that need this account alone; else the
 /// first rule that is broken.
 ///
-/// In their order the rules are: the length is 165; behind the amount the state is 1, and every other byte is 0. The
-/// first byte that is not so is told.
+/// In their order the rules are: the length is 165; after the amount the state is 1, and every other byte is 0. The
+/// first byte that is not so is reported.
 pub fn check_wallet(bytes: &[u8]) -> Result<(), AccountFault>
     ensures ok { IsOk result ↔ IsWallet bytes.now }
     ensures fault { result_err result ≡ wallet_fault bytes.now }

@@ -350,7 +350,7 @@ own_first_uses_a_match : (events (own_first 1) ≡ event 18 200 0 0 ∷ event 6 
 unfolding taken demand_after price_of sequence_of id_of taker_rate maker_rate
 own_first_uses_a_match = (refl, refl)
 
--- an own order behind another trader's is not met once the lots are used up
+-- an own order after another trader's is not met once the lots are used up
 abbrev own_second : Market
 own_second = (new Ask (order amy 51 1 1 Decrement Limit 2 10) (new Ask (order ben 50 1 1 Decrement Limit 1 10) (market 455 455)).after).after
 

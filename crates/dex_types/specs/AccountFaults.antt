@@ -6,7 +6,7 @@ use Rattle.dex_types.specs.declared.faults.AccountFault.{AccountFault}
 abbrev pub size_fault : ℕ → ℕ → AccountFault
 size_fault found wanted = record { kind = 2; place = 0; found = found; wanted = wanted }
 
--- a byte of the text at the front or at the end; a place above the largest u32 is told as that
+-- a byte of the text at the front or at the end; a place above the largest u32 is reported as that
 abbrev pub text_fault : ℕ → ℕ → ℕ → AccountFault
 text_fault place found wanted = record { kind = 3; place = min place (2 ^ 32 - 1); found = found; wanted = wanted }
 

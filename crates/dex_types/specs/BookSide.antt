@@ -12,7 +12,7 @@ abbrev pub best_of : List Order → Option Order
 best_of [] = None
 best_of (order ∷ others) = Some order
 
--- the order behind the first one with this id, if there is one
+-- the order after the first one with this id, if there is one
 abbrev pub order_after : ℕ → List Order → Option Order
 order_after id [] = None
 order_after id (order ∷ others) = if order.id == id then best_of others else order_after id others

@@ -77,7 +77,7 @@ taken_by_all [] resting = []
 taken_by_all (client ∷ clients) resting =
     at_most_one (taken_by client resting) ++ taken_by_all clients (without_taken (taken_by client resting) resting)
 
--- how a cancel names orders: by side and id, by a client id, by a list of client ids, or the first so many of the account
+-- how a cancel names orders: by side and id, by a client id, by a list of client ids, or the first n of the account
 pub data CancelBy : Type 0 where
   ById : Side → ℕ → CancelBy
   ByClient : ℕ → CancelBy

@@ -120,8 +120,8 @@ fill_pc sizes order lots = price_of order.id * lots * sizes.pc
 abbrev pub fill_rebate : TakerTerms → Order → ℕ → ℕ
 fill_rebate t order lots = maker_rebate t.program (tier_at order.tier) (fill_pc t.sizes order lots)
 
--- the fill of a resting order of the side: an ask is owed quote and the rebate and pays base, a bid is owed base and pays
--- quote less the rebate
+-- the fill of a resting order of the side: an ask is owed quote and the rebate and pays base, a bid is owed base and
+-- pays quote less the rebate
 abbrev pub maker_fill : Side → TakerTerms → Order → ℕ → QueuedEvent
 maker_fill Ask t order lots =
     event_of (MakerFill Ask) order (fill_pc t.sizes order lots + fill_rebate t order lots) (lots * t.sizes.coin) (fill_rebate t order lots)
@@ -177,8 +177,9 @@ met_first side t order lots rest = record {
   aborts = rest.aborts;
 }
 
--- a taker meets the opposite side from the best order on. Each order loses what the taker takes of it: with nothing taken
--- the meeting is over, and so it is where lots of the order are left, since then the lots or the budget are used up
+-- a taker meets the opposite side from the best order on. Each order loses what the taker takes of it: with nothing
+-- taken the meeting is over, and so it is where lots of the order are left, since then the lots or the budget are used
+-- up
 abbrev pub meet : Side → TakerTerms → Demand → List Order → Meeting
 meet side t w [] = met_none side t w []
 meet side t w (order ∷ others) =

@@ -19,8 +19,8 @@ use Rattle.dex_types.specs.QueuedEvent.{QueuedEvent, TakerFill}
 use Rattle.dex_types.specs.Side.{opposite, locked_token, gained_token, id_of, lock}
 use Rattle.dex_types.specs.Trader.{Account, Balance, Holding, Open, balance, with_balance, free_slot, put_trader}
 
--- a new order of a trader, apart from its side. `max_pc` is the native quote that a bid may use, fee included; `matches` is
--- how many orders it may meet; `now` is the clock, and `latest` the last clock at which the order is taken
+-- a new order of a trader, apart from its side. `max_pc` is the native quote that a bid may use, fee included;
+-- `matches` is how many orders it may meet; `now` is the clock, and `latest` the last clock at which the order is taken
 pub record NewOrder : Type 0 where
   pub program : Program
   pub tier : Tier
@@ -60,8 +60,8 @@ terms_of sizes n = record {
 abbrev pub demand_of : Side → Lots → NewOrder → Demand
 demand_of side sizes n = record { lots = n.lots; budget = budget side sizes n; matches = n.matches }
 
--- what a new order looks at of a market: the lot sizes, the next sequence number, its own side with its capacity, and the
--- side that it meets
+-- what a new order looks at of a market: the lot sizes, the next sequence number, its own side with its capacity, and
+-- the side that it meets
 pub record Standing : Type 0 where
   pub sizes : Lots
   pub next_sequence : ℕ
@@ -123,8 +123,8 @@ abbrev pub last_events : Side → Lots → Order → Option Order → List Queue
 last_events side sizes order None = if order.lots == 0 then plain_out side order ∷ [] else []
 last_events side sizes order (Some booted) = releasing_out side sizes booted booted.lots ∷ []
 
--- all that a new order does, as it was decided, unless it is refused (as it is where it has to abort): the amount from the trader's wallet, what it met, how it rests, and the
--- events, in the order in which they are appended
+-- all that a new order does, as it was decided, unless it is refused (as it is where it has to abort): the amount from
+-- the trader's wallet, what it met, how it rests, and the events, in the order in which they are appended
 pub record Ordering : Type 0 where
   pub deposit : ℕ
   pub met : Meeting

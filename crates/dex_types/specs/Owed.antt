@@ -14,8 +14,8 @@ use Rattle.dex_types.specs.Side.{Token, Coin, Pc, price_of, lock}
 abbrev pub order_lock : Side → Lots → Order → ℕ
 order_lock side sizes order = lock side sizes (price_of order.id) order.lots
 
--- the native amount of a token that a pending event of this kind owes: what a maker receives and what an out releases, and
--- the rebate of a bid's fill
+-- the native amount of a token that a pending event of this kind owes: what a maker receives and what an out releases,
+-- and the rebate of a bid's fill
 abbrev pub owed_as : Token → EventKind → QueuedEvent → ℕ
 owed_as Coin (MakerFill Bid) event = event.released
 owed_as Coin (ReleasingOut Ask) event = event.released

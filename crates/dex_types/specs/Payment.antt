@@ -10,8 +10,8 @@ use Rattle.dex_types.specs.QueuedEvent.{EventKind, MakerFill, TakerFill, PlainOu
 use Rattle.dex_types.specs.Side.{locked_token, gained_token}
 use Rattle.dex_types.specs.Trader.{Account, Balance, Trader, Open, Traders, balance, with_balance, trader_at, put_trader}
 
--- the part of a maker's rebate that is paid in the token that it locked: a bid locked quote, and gets its rebate back in it;
--- an ask has its rebate in what it receives
+-- the part of a maker's rebate that is paid in the token that it locked: a bid locked quote, and gets its rebate back
+-- in it; an ask has its rebate in what it receives
 abbrev pub rebate_back : Side → QueuedEvent → ℕ
 rebate_back Bid event = event.fee_or_rebate
 rebate_back Ask event = 0
@@ -32,8 +32,8 @@ unlocked_funds event funds = record funds { free = funds.free + event.released }
 abbrev pub freed : QueuedEvent → Account → Account
 freed event account = if event.paid == 0 then record account { slots = slice_set account.slots event.slot None } else account
 
--- an account after an event of this kind was consumed: a maker's fill pays it, a taker's fill adds the referrer's part of its
--- fee, and an out frees the slot and, if it releases, unlocks
+-- an account after an event of this kind was consumed: a maker's fill pays it, a taker's fill adds the referrer's part
+-- of its fee, and an out frees the slot and, if it releases, unlocks
 abbrev pub paid_as : EventKind → QueuedEvent → Account → Account
 paid_as (MakerFill side) event account =
     with_balance (gained_token side) (maker_received event (balance (gained_token side) account))
@@ -67,12 +67,12 @@ abbrev pub is_named : Address → List Address → Bool
 is_named address [] = false
 is_named address (named ∷ others) = is_same address named || is_named address others
 
--- how many events a call consumes: from the front, at most so many, up to the first whose owner it does not name
+-- how many events a call consumes: from the front, at most this many, up to the first whose owner it does not name
 abbrev pub consumable : ℕ → List Address → List QueuedEvent → ℕ
 consumable limit named [] = 0
 consumable limit named (event ∷ events) =
     if nat_lt 0 limit && is_named event.owner named then consumable (limit - 1) named events + 1 else 0
 
--- the market after its first so many events were consumed
+-- the market after its first n events were consumed
 abbrev pub after_crank : ℕ → Market → Market
 after_crank count m = record m { events = drop count m.events; traders = pay_all (take count m.events) m.traders }

@@ -1,4 +1,5 @@
--- How an order is put on its side of the book: whether it may rest, where it stands, and what leaves a full side for it.
+-- How an order is put on its side of the book: whether it may rest, where it stands, and what leaves a full side for
+-- it.
 use Rattle.std.specs.Prelude.{ℕ, ◌-◌, ◌*◌, ◌/◌, List, [], ◌∷◌, Option, Some, None, Bool, IsTrue, true, false, nat_lt, ◌==◌, min, length, take, if◌then◌else◌}
 use Rattle.dex_types.specs.declared.orders.Order.{Order}
 use Rattle.dex_types.specs.declared.terms.Lots.{Lots}

@@ -13,9 +13,9 @@ pub data EventKind : Type 0 where
   PlainOut : Side → EventKind
   ReleasingOut : Side → EventKind
 
--- a pending event, with native amounts. Of a fill, the order's owner receives `released` and pays `paid`, a taker at once and a maker
--- when the event is consumed, and the last amount is the fee or the rebate; of an out, `released` is unlocked, `paid` stays
--- locked, and the last amount is 0
+-- a pending event, with native amounts. Of a fill, the order's owner receives `released` and pays `paid`, a taker at
+-- once and a maker when the event is consumed, and the last amount is the fee or the rebate; of an out, `released` is
+-- unlocked, `paid` stays locked, and the last amount is 0
 pub record QueuedEvent : Type 0 where
   pub kind : EventKind
   pub slot : ℕ

@@ -1,4 +1,5 @@
--- What an instruction can be refused for, each reason by itself: over what it reads, and of a market over what it reads there.
+-- What an instruction can be refused for, each reason by itself: over what it reads, and of a market over what it reads
+-- there.
 use Rattle.std.specs.Prelude.{ℕ, ℤ, ◌+◌, ◌-◌, ◌*◌, ◌^◌, List, [], ◌∷◌, Option, Some, None, Result, Ok, Err, Bool, false, not, ◌||◌, nat_lt, nat_le, int_lt, ◌==◌, length, if◌then◌else◌}
 use Rattle.dex_types.specs.declared.addresses.Address.{Address}
 use Rattle.dex_types.specs.declared.orders.Order.{Order}
@@ -150,7 +151,7 @@ abbrev pub would_self_trade : Option ℕ → Option Refusal
 would_self_trade None = None
 would_self_trade (Some order) = Some (refusal.WouldSelfTrade order)
 
--- a take filled too little, which is told
+-- a take filled too little, which is reported
 abbrev pub below_minimum : Option ℕ → Option Refusal
 below_minimum None = None
 below_minimum (Some got) = Some (refusal.BelowMinimum got)
@@ -159,11 +160,11 @@ below_minimum (Some got) = Some (refusal.BelowMinimum got)
 abbrev pub event_room : Market → ℕ
 event_room m = m.listing.event_capacity - length m.events
 
--- so many events are more than this room of the event queue
+-- this many events are more than this room of the event queue
 abbrev pub no_room : ℕ → ℕ → Option Refusal
 no_room needed room = refused_where (nat_lt room needed) (refusal.EventQueueFull needed room)
 
--- so many events are more than the free places of the market's queue
+-- this many events are more than the free places of the market's queue
 abbrev pub queue_full : ℕ → Market → Option Refusal
 queue_full needed m = no_room needed (event_room m)
 

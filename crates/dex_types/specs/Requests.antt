@@ -6,8 +6,8 @@ use Rattle.dex_types.specs.declared.instructions.Ix.{Ix}
 use Rattle.dex_types.specs.declared.instructions.Ix.TheVariants.{NewOrderV3, SendTake}
 use Rattle.dex_types.specs.Trader.{Account, Trader, Open, Traders, trader_at}
 
--- what a row asks of its market, beside the wallets that it names: the instruction, or the rule that its data breaks; the
--- signer; the open-orders accounts that it names; and the clock
+-- what a row asks of its market, beside the wallets that it names: the instruction, or the rule that its data breaks;
+-- the signer; the open-orders accounts that it names; and the clock
 pub record Request : Type 0 where
   pub instruction : Result Ix BadData
   pub signer : Address

@@ -14,7 +14,8 @@ pub record Settlement : Type 0 where
   pub referrer : ℕ
   pub to_fees : ℕ
 
--- all free funds are paid out; the referrer part goes to the referrer's wallet, or to the market's fees where none is named
+-- all free funds are paid out; the referrer part goes to the referrer's wallet, or to the market's fees where none is
+-- named
 abbrev pub settlement : Bool → Account → Settlement
 settlement has_referrer account = record {
   coin = account.coin.free;

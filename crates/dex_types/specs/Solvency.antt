@@ -43,8 +43,8 @@ all_owed token events = total (owed token) events
 abbrev pub earned : Token → Market → ℕ
 earned token m = by_token token m.coin_fees (m.pc_fees + m.referrer_rebates)
 
--- each vault holds what traders have free, what resting orders lock, what pending events owe and what the market earned; and
--- the referrer rebates are the referrer parts of the accounts and of pending fills
+-- each vault holds what traders have free, what resting orders lock, what pending events owe and what the market
+-- earned; and the referrer rebates are the referrer parts of the accounts and of pending fills
 pub record IsSolvent (m : Market) : Type 0 where
   pub vaults : (token : Token) → vault token m ≡ all_free token m.traders + all_locked token m + all_owed token m.events + earned token m
   pub referrers : m.referrer_rebates ≡ all_referrers m.traders + total referred m.events

@@ -32,8 +32,8 @@ AreDistinct (entry ∷ others) = (trader_at entry.0 others ≡ None) × AreDisti
 abbrev pub HasSlots : Traders → Type 0
 HasSlots traders = (owner : Address) (account : Account) → trader_at owner traders ≡ Some (Open account) → length account.slots ≡ 128
 
--- each part of a market by itself is as it can be: two mints, sizes and capacities, the order and the room of the sides, the
--- orders, the tiers of events, the two counters, and the accounts' addresses and slots
+-- each part of a market by itself is as it can be: two mints, sizes and capacities, the order and the room of the
+-- sides, the orders, the tiers of events, the two counters, and the accounts' addresses and slots
 pub record IsWellFormed (m : Market) : Type 0 where
   pub mints : is_same m.listing.coin_mint m.listing.pc_mint ≡ false
   pub coin_lot : 1 ≤ m.listing.sizes.coin
@@ -108,7 +108,8 @@ abbrev pub AreOfOthers : Holding → List QueuedEvent → Type 0
 AreOfOthers held [] = Unit {0}
 AreOfOthers held (event ∷ events) = (is_one_order held (event_holding event) ≡ false) × AreOfOthers held events
 
--- each pending event is of an order that its owner's slot holds, and no event of the order comes behind a final out of it
+-- each pending event is of an order that its owner's slot holds, and no event of the order comes after a final out of
+-- it
 abbrev pub AreHeld : Traders → List QueuedEvent → Type 0
 AreHeld traders [] = Unit {0}
 AreHeld traders (event ∷ events) =
@@ -116,8 +117,9 @@ AreHeld traders (event ∷ events) =
     × (is_final event ≡ true → AreOfOthers (event_holding event) events)
     × AreHeld traders events
 
--- the slots and what they stand for: a resting order is held by its owner's slot; a held order rests and has no final out, or
--- does not rest and has exactly one; pending events are held; and the sequence numbers of held orders were given out, each once
+-- the slots and what they stand for: a resting order is held by its owner's slot; a held order rests and has no final
+-- out, or does not rest and has exactly one; pending events are held; and the sequence numbers of held orders were
+-- given out, each once
 pub record SlotsAgree (m : Market) : Type 0 where
   pub resting : (side : Side) → All (λ (order : Order). held_at order.owner order.slot m.traders ≡ Some (order_holding side order)) (orders side m)
   pub taken : (owner : Address) (slot : ℕ) (held : Holding) → held_at owner slot m.traders ≡ Some held → resting_of held m + finals_of held m.events ≡ 1

@@ -75,7 +75,7 @@ cancelled_all gone m = record { market = after_cancels gone m; reply = Cancelled
 abbrev pub act_cancel : CancelBy → Market → Party → Step
 act_cancel by m party = cancelled_all (cancelled by party.address m.bids m.asks) m
 
--- so many events consumed from the front
+-- this many events consumed from the front
 abbrev pub consumed : ℕ → Market → Step
 consumed count m = record { market = after_crank count m; reply = Consumed count; transfers = no_transfers }
 

@@ -16,8 +16,8 @@ use Rattle.dex_types.specs.Meeting.{TakerTerms, Demand, Meeting, meet}
 use Rattle.dex_types.specs.Side.{locked_token}
 use Rattle.dex_types.specs.Transfers.{Transfers, exchange, with_transfers}
 
--- a take, apart from its side. `max_pc` is the native quote that a bid may use, fee included; `min_lots` and `min_pc` are
--- what it has to fill at least, in base lots and in native quote
+-- a take, apart from its side. `max_pc` is the native quote that a bid may use, fee included; `min_lots` and `min_pc`
+-- are what it has to fill at least, in base lots and in native quote
 pub record Take : Type 0 where
   pub program : Program
   pub tier : Tier

@@ -10,8 +10,8 @@ moved_balance Probe amount balance = balance
 moved_balance Debit amount balance = balance - amount
 moved_balance Credit amount balance = balance + amount
 
--- the movement is possible at the balance: a probe moves nothing, a debit moves something that is there, and a credit moves
--- something and leaves a balance below 2^64
+-- the movement is possible at the balance: a probe moves nothing, a debit moves something that is there, and a credit
+-- moves something and leaves a balance below 2^64
 abbrev pub CanMove : MoveKind → ℕ → ℕ → Type 0
 CanMove Probe amount balance = amount ≡ 0
 CanMove Debit amount balance = (1 ≤ amount) × (amount ≤ balance)

@@ -1,5 +1,6 @@
--- Why a row is refused, if it is: for each instruction its reasons in order, of which the first that holds is given. Each is said
--- over what it reads, which a call that is handed parts of a market can cite, and of a market over what it reads there.
+-- Why a row is refused, if it is: for each instruction its reasons in order, of which the first that holds is given.
+-- Each is said over what it reads, which a call that is handed parts of a market can cite, and of a market over what it
+-- reads there.
 use Rattle.std.specs.Prelude.{ℕ, List, [], ◌∷◌, Option, Some, None, Result, Ok, Err, Bool, is_some, length, take}
 use Rattle.dex_types.specs.declared.addresses.Address.{Address}
 use Rattle.dex_types.specs.declared.instructions.BadData.{BadData}
@@ -65,8 +66,8 @@ pub record TokenSum : Type 0 where
   pub vault : ℕ
   pub leaving : ℕ
 
--- what the reasons read that ask whether an order or a take can be done: the free places of the event queue, the balance of
--- the wallet that pays, and for each token the sum that the row would leave
+-- what the reasons read that ask whether an order or a take can be done: the free places of the event queue, the
+-- balance of the wallet that pays, and for each token the sum that the row would leave
 pub record Limits : Type 0 where
   pub room : ℕ
   pub balance : Option ℕ
@@ -81,8 +82,8 @@ sum_of token m = record { vault = vault token m; leaving = all_leaving token m.e
 abbrev pub limits_of : Side → Seen → Market → Market → Limits
 limits_of side seen m after = record { room = event_room m; balance = balance_of (payer side seen); coin = sum_of Coin after; pc = sum_of Pc after }
 
--- the reasons against a new order that ask for wallets, mints and who signs alone: the signer, the mint of what is paid, and
--- the account's owning person
+-- the reasons against a new order that ask for wallets, mints and who signs alone: the signer, the mint of what is
+-- paid, and the account's owning person
 abbrev pub asking_reasons : Side → Seen → Address → Address → Address → List (Option Refusal)
 asking_reasons side seen signer mint person =
     missing (payer side seen)
@@ -97,8 +98,8 @@ asking_reasons side seen signer mint person =
 abbrev pub why_order_early : Side → Request → Seen → Market → Party → Option Refusal
 why_order_early side request seen m party = first_of (asking_reasons side seen request.signer (payer_mint side m) party.account.person)
 
--- what the other reasons against a new order read: lot sizes, next sequence number and account before it meets anything, what it
--- would do, and the limits for that
+-- what the other reasons against a new order read: lot sizes, next sequence number and account before it meets
+-- anything, what it would do, and the limits for that
 pub record OrderReading : Type 0 where
   pub sizes : Lots
   pub next_sequence : ℕ

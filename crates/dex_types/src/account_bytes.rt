@@ -7,8 +7,9 @@ pub struct OrdersAccount {
     pub bytes: Vec<u8>,
 }
 
-/// All accounts of one market as bytes: the market, its two vaults, its queues and sides, and its open-orders accounts in
-/// declared order. `address` is the market's own; `authority` is the person who signs for it, and stands in no account.
+/// All accounts of one market as bytes: the market, its two vaults, its queues and sides, and its open-orders accounts
+/// in declared order. `address` is the market's own; `authority` is the person who signs for it, and stands in no
+/// account.
 #[derive(Debug, Drop, PartialEq, Eq)]
 pub struct MarketAccounts {
     pub address: Address,

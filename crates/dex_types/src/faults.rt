@@ -28,7 +28,7 @@ impl AccountFault {
     }
 
     /// Kind 3: a byte differs from the text that stands at the front or at the end. A place above the largest u32 is
-    /// told as that.
+    /// reported as that.
     pub fn text(place: usize, found: u8, wanted: u8) -> Self
         ensures { result ≡ text_fault place found wanted }
     {

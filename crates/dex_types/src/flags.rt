@@ -103,8 +103,8 @@ const _: () = prove!(AccountFlags::BIDS_ACCOUNT.0 == 33);
 
 const _: () = prove!(AccountFlags::ASKS_ACCOUNT.0 == 65);
 
-/// The byte of flags of an event (Serum DEX v3, `EventFlag`). The constants whose names tell an event are whole bytes, and
-/// only these eight stand in a market's event queue; the others are single bits.
+/// The byte of flags of an event (Serum DEX v3, `EventFlag`). The constants whose names tell an event are whole bytes,
+/// and only these eight stand in a market's event queue; the others are single bits.
 #[derive(Clone, Copy, Debug, PartialEq, Eq, Hash)]
 pub struct EventFlags(pub u8);
 

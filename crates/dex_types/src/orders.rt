@@ -2,8 +2,8 @@ use crate::addresses::Address;
 
 /// A resting order, as a leaf of a book side holds it (Serum DEX v3, `critbit::LeafNode`).
 ///
-/// `id` is the price, in quote lots per base lot, above 64 bits that order equal prices by age; `slot`
-/// is the owner's slot, below 128; `tier` the fee tier, from 0 to 6, with which it was placed; `lots` the base lots left.
+/// `id` is the price, in quote lots per base lot, above 64 bits that order equal prices by age; `slot` is the owner's
+/// slot, below 128; `tier` the fee tier, from 0 to 6, with which it was placed; `lots` the base lots left.
 #[derive(Clone, Copy, Debug, PartialEq, Eq)]
 pub struct Order {
     pub id: u128,

@@ -4,7 +4,8 @@ use crate::terms::Program;
 /// An instruction row of a script: the instruction data in `bytes`, for one market, signed by one person.
 ///
 /// `lane` is the lane that submits it, `number` its place among the script's records, counted from 1. `named` are the
-/// open-orders accounts that it names, and the four wallets are named by their roles. `now` is the clock at which it runs.
+/// open-orders accounts that it names, and the four wallets are named by their roles. `now` is the clock at which it
+/// runs.
 #[derive(Debug, Drop, PartialEq, Eq)]
 pub struct Row {
     pub lane: u32,
@@ -20,8 +21,9 @@ pub struct Row {
     pub now: i64,
 }
 
-/// What a walk over all rows asks of each, kept beside it: its number, its lane, and where its market and its wallets stand in the
-/// lists of those with which its script starts. The place of a role that names no wallet is `u16::MAX`, at which none stands.
+/// What a walk over all rows asks of each, kept beside it: its number, its lane, and where its market and its wallets
+/// stand in the lists of those with which its script starts. The place of a role that names no wallet is `u16::MAX`, at
+/// which none stands.
 #[derive(Clone, Copy, Debug, PartialEq, Eq)]
 pub struct RowPlaces {
     pub number: u32,
@@ -33,7 +35,8 @@ pub struct RowPlaces {
     pub referrer: u16,
 }
 
-/// A wallet as a row sees it: its address, the mint of its token, its owning person, and its native balance before the row.
+/// A wallet as a row sees it: its address, the mint of its token, its owning person, and its native balance before the
+/// row.
 #[derive(Clone, Copy, Debug, PartialEq, Eq)]
 pub struct WalletSeen {
     pub address: Address,

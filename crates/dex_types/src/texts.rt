@@ -1,4 +1,4 @@
-//! What replies and refusals print: a name and what stands behind it, a space before each.
+//! What replies and refusals print: a name and what stands after it, a space before each.
 
 ghost use Rattle.std.specs.Fmt.{DisplaysOnOk, decimal};
 ghost use Rattle.std.specs.Prelude.{◌++◌, Some};
@@ -8,7 +8,7 @@ use crate::addresses::Address;
 use itoa::Buffer;
 use std::fmt;
 
-/// A name, and a number behind it.
+/// A name, and a number after it.
 pub(crate) fn with_one<W: fmt::Write>(
     f: &mut fmt::Formatter<W>,
     name: &str,
@@ -21,7 +21,7 @@ pub(crate) fn with_one<W: fmt::Write>(
     write!(f, "{name} {number}")
 }
 
-/// A name, and two numbers behind it.
+/// A name, and two numbers after it.
 pub(crate) fn with_two<W: fmt::Write>(
     f: &mut fmt::Formatter<W>,
     name: &str,
@@ -37,7 +37,7 @@ pub(crate) fn with_two<W: fmt::Write>(
     write!(f, "{name} {first} {second}")
 }
 
-/// A name, and an address behind it.
+/// A name, and an address after it.
 pub(crate) fn with_address<W: fmt::Write>(
     f: &mut fmt::Formatter<W>,
     name: &str,
@@ -49,7 +49,7 @@ pub(crate) fn with_address<W: fmt::Write>(
     write!(f, "{name} {address}")
 }
 
-/// A name, and three numbers behind it.
+/// A name, and three numbers after it.
 pub(crate) fn with_three<W: fmt::Write>(
     f: &mut fmt::Formatter<W>,
     name: &str,

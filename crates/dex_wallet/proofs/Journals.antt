@@ -16,7 +16,7 @@ pub balance_after-append : (balance : ℕ) (entries : List WalletEntry) (entry :
 balance_after-append balance [] entry = refl
 balance_after-append balance (first ∷ entries) entry = balance_after-append (moved_balance first.kind first.amount balance) entries entry
 
--- a movement at the balance behind the others
+-- a movement at the balance after the others
 pub IsWalletLegal-append : (balance : ℕ) (entries : List WalletEntry) (entry : WalletEntry) → IsWalletLegal balance entries
     → entry.before ≡ balance_after balance entries → CanMove entry.kind entry.amount (balance_after balance entries)
     → IsWalletLegal balance (entries ++ entry ∷ [])

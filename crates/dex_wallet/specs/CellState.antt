@@ -61,7 +61,7 @@ movement cell market lane row kind amount = record {
   before = balance_of cell.bytes;
 }
 
--- the cell after a movement: it stands behind the others, and the token account and the parcel have the amount after it
+-- the cell after a movement: it stands after the others, and the token account and the parcel have the amount after it
 abbrev pub with_entry : CellState → WalletEntry → CellState
 with_entry cell entry = record cell {
   bytes = with_amount cell.bytes (moved_balance entry.kind entry.amount (balance_of cell.bytes));

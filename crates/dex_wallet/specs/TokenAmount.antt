@@ -3,7 +3,7 @@ use Rattle.std.specs.Prelude.{ℕ, List}
 use Rattle.dex_types.specs.declared.addresses.Address.{Address}
 use Rattle.dex_token.specs.TokenAccount.{wallet_words}
 
--- so many native units of this mint
+-- this many native units of this mint
 pub record TokenAmount : Type 0 where
   pub mint : Address
   pub amount : ℕ

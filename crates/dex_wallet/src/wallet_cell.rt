@@ -41,7 +41,7 @@ impl WalletCell {
     ghost use Rattle.dex_wallet.specs.CellState.{HasSpare, IsWalletCell, balance_of, movement, new_cell};
     ghost use Rattle.dex_wallet.specs.CellState.{moved_by, seen_of};
 
-    /// The cell of a token account and of the parcel that its amount is, with room for so many movements. Where there
+    /// The cell of a token account and of the parcel that its amount is, with room for this many movements. Where there
     /// is no memory for them, both are given up.
     pub fn new(
         alloc: Global,

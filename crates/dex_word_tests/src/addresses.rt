@@ -3,7 +3,8 @@
 use dex_rows::addresses::address_word;
 use std::test::Fail;
 
-// Labels; and addresses that are none: all zeros, a part of a market, 25 characters, a capital, and a zero between characters.
+// Labels; and addresses that are none: all zeros, a part of a market, 25 characters, a capital, and a zero between
+// characters.
 const WORDS: &str = "m
 ann_usd
 0x12

@@ -29,7 +29,8 @@ fn each_read_fails_in_turn(rt: HostRuntime) -> Result<(), Fail> {
     Ok(())
 }
 
-// How writing five bytes ends, and how many the sink took, where the write of this number fails and there is so much room.
+// How writing five bytes ends, and how many the sink took, where the write of this number fails and there is so much
+// room.
 fn writing(alloc: Global, call: u64, room: usize) -> Result<(Option<WriteStop>, usize), Fail> {
     let mut sink = MemSink::with_room(alloc, room, vec![in alloc; call]?)?;
     let stop = write_all(&mut sink, b"order").err();

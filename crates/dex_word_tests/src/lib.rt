@@ -1,5 +1,5 @@
-//! Tests of texts and words: addresses as they are printed and read, rows of scripts with one fault, words after the program's
-//! name, reads and writes that fail, and amounts of fees.
+//! Tests of texts and words: addresses as they are printed and read, rows of scripts with one fault, words after the
+//! program's name, reads and writes that fail, and amounts of fees.
 #![tactic(auto)]
 
 #[cfg(test)]

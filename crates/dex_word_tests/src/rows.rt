@@ -20,7 +20,7 @@ fn fault_of(alloc: Global, text: &[u8]) -> Result<u8, NoMemory> {
     }
 }
 
-// The number of the lowest fault, 0 where there is none, and the row behind it. A sign stands between the rows.
+// The number of the lowest fault, 0 where there is none, and the row after it. A sign stands between the rows.
 const ROWS: &str = "1:mint,coin,6\x7f;1:mint,co\x1fin,6;1:\u{feff}mint,co\u{e9}n,6
 ;2:grant,amy,1,1;2:dump,x;2:program,solana;2:do,0,m,ann,amy,-,-,-,-,new foo 50;2:do,0,m,ann,amy,-,-,-,-,buy
 ;3:program,solana,2;3:do,0,m,ann,amy,-,-,-,-,new bid 50

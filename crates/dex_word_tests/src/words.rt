@@ -1,4 +1,4 @@
-//! Words behind the program's name, with one space between them.
+//! Words after the program's name, with one space between them.
 
 use dex_words::{WordsError, read_words};
 use std::alloc::{AllocError, Global};

@@ -70,7 +70,7 @@ turn-plain : (s : Shape) (h : Held) (position : ℕ) (word : Text) → begins_wi
     → turn_fault s [] (at h position) word ≡ step_fault s position h value
 turn-plain s h position word none = rw (met-plain s.rules position word h none, fault-plain s word h none) refl
 
--- what is held behind one, two and three words
+-- what is held after one, two and three words
 abbrev held1 : Text → Held
 held1 a = (to_positional rules (arg_by_index rules 1) a (at nothing_held 1) nothing_held).held
 
@@ -100,7 +100,7 @@ walk-3 : (a b c : Text) → begins_with_hyphen a ≡ false → begins_with_hyphe
     → walk rules [] nothing_held (a ∷ b ∷ c ∷ []) ≡ at (held3 a b c) 4
 walk-3 a b c none-a none-b none-c = ap (λ (w : Walk). walked rules [] w c) (walk-2 a b none-a none-b) ∙ walked-3 a b c none-c
 
--- one more word is at fault where its place is, and else the words behind it
+-- one more word is at fault where its place is, and else the words after it
 fault-more : (h : Held) (position : ℕ) (word : Text) (rest : List Text) (next : Walk) → begins_with_hyphen word ≡ false
     → walked rules [] (at h position) word ≡ next
     → walk_fault shape [] (at h position) (word ∷ rest) ≡ or_else (step_fault shape position h value) (walk_fault shape [] next rest)
@@ -258,7 +258,7 @@ placed-words words m none free has =
       | inr q ↦ cc (sym free ∙ q.fault)
     ]
 
--- an error that is no want of memory says that the words are out of places
+-- an error that is no lack of memory says that the words are out of places
 pub refused-words : (words : List Text) (e : Error) → list_any begins_with_hyphen words ≡ false → HasKind (fault_of line words) e
     → error_of (kind_of e) ≡ Usage → IsOutOfPlaces words
 refused-words words e none kind usage =

@@ -21,7 +21,7 @@ bare_line =
     on_top (λ s. record s { disable_help_flag = true })
     (on_top (λ s. record s { no_binary_name = true }) (new_app (codes "dex")))
 
--- the line that the parser reads: a command's name, and up to two words behind it
+-- the line that the parser reads: a command's name, and up to two words after it
 abbrev pub line : App
 line = with_rule (with_rule (with_rule bare_line name_rule) (new_rule (codes "first"))) (new_rule (codes "second"))
 
@@ -42,7 +42,7 @@ abbrev pub error_of : ErrorKind → WordsError
 error_of kind.OutOfMemory = NoMemory
 error_of _ = Usage
 
--- the command of a name and the two words behind it, where they are there
+-- the command of a name and the two words after it, where they are there
 abbrev pub given_command : Option (List ℕ) → Option (List ℕ) → Option (List ℕ) → Option Command
 given_command (Some name) None None = plain_command name
 given_command (Some name) (Some first) None = single_command name first

@@ -1,4 +1,4 @@
-//! The words by their places: a command's name, and up to two words behind it.
+//! The words by their places: a command's name, and up to two words after it.
 
 ghost use Rattle.std.specs.Prelude.{◌≡◌, IfOk, IsErrOf, false, map};
 ghost use Rattle.std.specs.List.{list_any};
@@ -13,9 +13,9 @@ use std::alloc::{AllocError, Global};
 
 /// The id of the command's name.
 pub(crate) const NAME: &str = "command";
-/// The id of the first word behind the name.
+/// The id of the first word after the name.
 pub(crate) const FIRST: &str = "first";
-/// The id of the second word behind the name.
+/// The id of the second word after the name.
 pub(crate) const SECOND: &str = "second";
 
 // A line of one required and two optional positional words.

@@ -50,7 +50,7 @@ fn begins_with_hyphen(word: &str) -> bool
     word.as_bytes().first() == Some(&b'-')
 }
 
-// The command of a name and the two words behind it, where they are there.
+// The command of a name and the two words after it, where they are there.
 fn given_command(name: Option<&str>, first: Option<&str>, second: Option<&str>) -> Option<Command>
     ensures { result ≡ given_command (option_map (λ word. word.now) name.entry)
         (option_map (λ word. word.now) first.entry) (option_map (λ word. word.now) second.entry) }

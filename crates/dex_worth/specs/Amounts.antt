@@ -16,7 +16,7 @@ none = record { coin = 0; pc = 0 }
 abbrev pub both : Amounts → Amounts → Amounts
 both one other = record { coin = one.coin + other.coin; pc = one.pc + other.pc }
 
--- as sums are told: from 2^128 on as 2^128 - 1
+-- as sums are reported: from 2^128 on as 2^128 - 1
 abbrev pub capped_amounts : Amounts → Amounts
 capped_amounts amounts = record { coin = capped amounts.coin; pc = capped amounts.pc }
 

@@ -47,8 +47,8 @@ all_taken token m (call ∷ calls) =
 abbrev pub market_part : Token → Market → List Call → ℕ
 market_part token m calls = by_token token (market_after m calls).coin_fees (takings_of (market_after m calls) (moves_of m calls))
 
--- of a token nothing was made or lost: what all accounts are worth where makers are paid at once, what the market has taken, and what
--- takes took away, is what stood in the vault at the start and what takes brought
+-- of a token nothing was made or lost: what all accounts are worth where makers are paid at once, what the market has
+-- taken, and what takes took away, is what stood in the vault at the start and what takes brought
 abbrev pub AddUp : Token → Market → List Call → Type 0
 AddUp token m calls =
     (sum_of token (eager_end m calls).worths +ℤ pos (market_part token m calls)) +ℤ pos (all_taken token m calls)

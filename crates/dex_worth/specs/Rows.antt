@@ -24,7 +24,7 @@ worth_by held deposited settled = record {
   pc = (pos held.pc -ℤ pos deposited.pc) +ℤ pos settled.pc;
 }
 
--- sums of which a worth is told exactly
+-- sums of which a worth is reported exactly
 pub record AreSmall (held deposited settled : Amounts) : Type 0 where
   pub coin_plus : held.coin + settled.coin < 2 ^ 127
   pub coin_less : deposited.coin < 2 ^ 127

@@ -17,8 +17,8 @@ use Rattle.dex_eager.specs.Slots.{without_slots}
 use Rattle.dex_eager.specs.Worth.{Worth, takings_of, worth_of}
 use Rattle.dex_worth.specs.Flows.{AddUp}
 
--- what the trades of each market do goes by, as its journal tells them: the requests of its accepted rows but cranks, with their tiers and
--- program, whatever lanes, numbers and wallets the rows have
+-- what the trades of each market do goes by, as its journal tells them: the requests of its accepted rows but cranks,
+-- with their tiers and program, whatever lanes, numbers and wallets the rows have
 abbrev pub deals_told : PlainScript → List PlainMarketJournal → List (List Deal)
 deals_told script journals = map (λ (journal : PlainMarketJournal). deals (calls_of script journal)) journals
 
@@ -41,10 +41,10 @@ AreToldHere script lasts journals = (k : ℕ) (last : PlainMarketAccounts) (jour
 abbrev pub worth_in_row : PlainWorthRow → Address × Worth
 worth_in_row row = (row.account, row.worth)
 
--- what a market left is what one leaves that pays each fill at once: the worth of each account, which is also the sum of what is free,
--- resting and owed at the end, less deposits, plus settlements, over the steps of the calls that the journal tells; both sides but for
--- slots; the fills of resting orders; and what the market took, with what was swept and paid to referrers. And of each token nothing was made
--- or lost
+-- what a market left is what one leaves that pays each fill at once: the worth of each account, which is also the sum
+-- of what is free, resting and owed at the end, less deposits, plus settlements, over the steps of the calls that the
+-- journal tells; both sides but for slots; the fills of resting orders; and what the market took, with what was swept
+-- and paid to referrers. And of each token nothing was made or lost
 pub record PaysAtOnce (script : PlainScript) (first last : PlainMarketAccounts) (journal : PlainMarketJournal) : Type 0 where
   pub calls : List Call
   pub told : calls_told script journal.address journal.entries ≡ Some calls

@@ -171,7 +171,8 @@ fn add_moved(
     }
 }
 
-/// What the entries of a market's journal tell of each of these accounts: what it deposited, and what was settled out to it.
+/// What the entries of a market's journal tell of each of these accounts: what it deposited, and what was settled out
+/// to it.
 #[derive(Drop)]
 pub struct Ledger {
     pub deposited: Vec<Amounts>,

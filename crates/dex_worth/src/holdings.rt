@@ -151,8 +151,8 @@ fn sizes_of(market: &MarketAccounts) -> Lots
     }
 }
 
-/// What a market's last accounts hold for each of these owners: what is free, what resting orders lock, and what pending
-/// events owe.
+/// What a market's last accounts hold for each of these owners: what is free, what resting orders lock, and what
+/// pending events owe.
 pub fn held_of(
     alloc: Global,
     market: &MarketAccounts,

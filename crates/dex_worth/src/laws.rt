@@ -55,16 +55,17 @@ pub fn a_table_tells_what_a_market_pays_at_once()
     an_entry_tells_its_call();
 }
 
-/// Nothing is made or lost: of each token of a market, what all accounts are worth at the end of a history, what the market
-/// has taken, and what takes took away, is what stood in the vault at the start and what takes brought.
+/// Nothing is made or lost: of each token of a market, what all accounts are worth at the end of a history, what the
+/// market has taken, and what takes took away, is what stood in the vault at the start and what takes brought.
 pub fn nothing_is_made_or_lost()
     ensures { (token : Token) (m : Market) (calls : List Call)
         → IsSound m → IsLegal m calls → AddUp token m calls }
 {}
 
-/// However late cranks come, and in whatever order lanes act: where the journals of a market in two lawful outcomes tell the
-/// same requests of accepted rows but cranks, in one order, with the same tiers and program, its rows are the same. Where
-/// this is so of each market, the two outcomes have one table. The rows may have other lanes, numbers and wallets.
+/// However late cranks come, and in whatever order lanes act: where the journals of a market in two lawful outcomes
+/// tell the same requests of accepted rows but cranks, in one order, with the same tiers and program, its rows are the
+/// same. Where this is so of each market, the two outcomes have one table. The rows may have other lanes, numbers and
+/// wallets.
 pub fn equal_trades_give_one_table()
     ensures market { (script other : PlainScript) (first last late : PlainMarketAccounts)
         (journal second : PlainMarketJournal) → (one : PaysAtOnce script first last journal)

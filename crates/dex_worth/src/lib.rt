@@ -1,5 +1,5 @@
-//! What every trader's account is worth, fills that are not yet consumed included: a ledger that is read off journals and
-//! last accounts, and the law that a market that pays each fill at once has the same.
+//! What every trader's account is worth, fills that are not yet consumed included: a ledger that is read off journals
+//! and last accounts, and the law that a market that pays each fill at once has the same.
 #![tactic(auto)]
 
 pub mod amounts;

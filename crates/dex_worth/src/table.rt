@@ -70,7 +70,7 @@ fn worth_of(held: Amounts, deposited: Amounts, settled: Amounts) -> Worth
     }
 }
 
-/// Puts a row behind the others.
+/// Puts a row after the others.
 fn push_row(table: &mut Vec<WorthRow>, row: WorthRow) -> Result<(), NoMemory>
     ensures { OnOk result (map shown.plain_row table.new.items
         ≡ map shown.plain_row table.old.items ++ shown.plain_row row ∷ []) }
@@ -187,8 +187,9 @@ fn all_rows(
     Ok(table)
 }
 
-/// What each account of each market is worth at the end of a lawful outcome: markets and accounts in declared order. The
-/// rows are those of the outcome's script, by numbers that never fall. It answers otherwise for want of memory alone.
+/// What each account of each market is worth at the end of a lawful outcome: markets and accounts in declared order.
+/// The rows are those of the outcome's script, by numbers that never fall. It answers otherwise for lack of memory
+/// alone.
 pub fn worth_table(
     alloc: Global,
     rows: &[Row],

@@ -40,7 +40,7 @@ fn write_traders(text: &mut String, table: &[WorthRow]) -> Result<(), AllocError
     Ok(())
 }
 
-/// The lines of a table of so many markets.
+/// The lines of a table of this many markets.
 fn lines_of(alloc: Global, markets: usize, table: &[WorthRow]) -> Result<String, AllocError>
     ensures { IfOk result (λ text. string_bytes text ≡ held.lines_text markets table.now) }
 {
@@ -51,8 +51,8 @@ fn lines_of(alloc: Global, markets: usize, table: &[WorthRow]) -> Result<String,
     Ok(text)
 }
 
-/// The text of a table of so many markets: `worth MARKETS`, a line for each account, and `end`. It answers otherwise only
-/// for want of memory.
+/// The text of a table of this many markets: `worth MARKETS`, a line for each account, and `end`. It answers otherwise
+/// only for lack of memory.
 pub fn worth_text(alloc: Global, markets: usize, table: &[WorthRow]) -> Result<String, AllocError>
     ensures { IfOk result (λ text. string_bytes text ≡ lines.worth_text markets (map plain_row table.now)) }
 {

@@ -17,7 +17,7 @@ item-init c = λ script is made same.
     (subst (λ (rows : List Row). ArePlacedIn c.args.cells (map row_of rows) c.args.places.items)
     (sym (ap reverse c.reverse-2.ensures.items ∙ reverse-reverse c.args.rows.items)) c.requires.places))
 
--- the last row in front, and the others behind it
+-- the last row in front, and the others after it
 in-front : (rows others : List Row) (row : Row) → rows ≡ others ++ row ∷ [] → reverse rows ≡ row ∷ reverse others
 in-front rows others row is = ap reverse is ∙ reverse-append others (row ∷ [])
 

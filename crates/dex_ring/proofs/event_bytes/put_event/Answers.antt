@@ -22,7 +22,7 @@ fits c = record {
   client = search rules;
 }
 
--- the parts behind the first `k`
+-- the parts after the first `k`
 abbrev behind : (c : goal.After-slice_known-12-1) → ℕ → List ℕ
 behind c k = concat (drop k (event_parts c.args.event.now))
 

@@ -8,7 +8,7 @@ use Rattle.dex_statement.specs.Stated.{PlainInstruction}
 use Rattle.dex_script.specs.Rows.{instruction_row}
 use Rattle.dex_script.proofs.instruction.push_placed.Goals as goal
 
--- a row more behind those before
+-- a row more after those before
 pushed : (front : List PlainRow) (before after : List Row) (one : Row) (row : PlainRow) → after ≡ before ++ one ∷ [] → row_of one ≡ row
     → front ++ map row_of after ≡ (front ++ map row_of before) ++ row ∷ []
 pushed front before after one row is told =

@@ -23,7 +23,7 @@ of-fault : (error : RowError) (kind : FaultKind) (old new : PlainDraft) (meant :
     → TellsAdded (Err error) old new meant → (meant ≡ Err kind) × (new ≡ old)
 of-fault error kind old new meant is told = subst (λ (e : RowError). TellsAdded (Err e) old new meant) is told
 
--- behind a fault the draft is as it was, and so is what is known of it
+-- after a fault the draft is as it was, and so is what is known of it
 pub invariant_of-drop-in-Err-Fault : goal.invariant_of-drop-in-Err-Fault
 invariant_of-drop-in-Err-Fault c =
     let before = draft_of c.before-2.inside.draft in

@@ -8,7 +8,7 @@ use Rattle.dex_script.specs.Telling.{draft_of}
 use Rattle.dex_script.proofs.PieceLaws.{joined-reading}
 use Rattle.dex_script.proofs.reader.Reader.join.Goals as goal
 
--- the rows of both, the pieces of the one behind the rows of the other
+-- the rows of both, the pieces of the one after the rows of the other
 rows-joined : (before rows others more : List Row) → map row_of (((before ++ rows) ++ others) ++ more) ≡ map row_of (before ++ rows) ++ map row_of (others ++ more)
 rows-joined before rows others more = ap (map row_of) (append_assoc (before ++ rows) others more) ∙ map-append row_of (before ++ rows) (others ++ more)
 
