@@ -17,5 +17,5 @@ open-from_flags bytes is flags =
       | inr (inr closed) ↦ absurd (omega (arith, closed.flags))
     ]
 
-pub returns-then-get_u64-eq-OPEN_FLAGS : goal.returns-then-get_u64-eq-OPEN_FLAGS
-returns-then-get_u64-eq-OPEN_FLAGS c = open-from_flags c.args.bytes.now c.requires (omega (arith, c.get_u64.ensures))
+pub returns-then-get_u64 : goal.returns-then-get_u64
+returns-then-get_u64 c = open-from_flags c.args.bytes.now c.requires (omega (arith, c.get_u64.ensures))
