@@ -116,6 +116,18 @@ fn two_threads_take_three_turns_each(rt: HostRuntime) -> Result<(), Fail> {
     Ok(())
 }
 
+#[test]
+fn one_pass_takes_three_turns(rt: HostRuntime) -> Result<(), Fail> {
+    let alloc = rt.alloc();
+    let lanes = Vec::new(alloc);
+    let mut passes = Vec::with_capacity(alloc, 1)?;
+    let (gate, pass) = Gate::open(alloc, Lanes { lanes }, 1)?;
+    passes.push(take_turns(&rt, &gate, pass, 0, 3))?;
+    let all = gate.close(passes).lanes;
+    assert_eq!(rt; all.as_slice(), [0, 0, 0].as_slice());
+    Ok(())
+}
+
 // More threads than processors take many turns, and give way in each, so that those who wait are parked. Where the end of a turn
 // wakes nobody, or another than who is next, or who waits does not park at all, this does not end in time.
 #[test]

@@ -1,0 +1,50 @@
+-- Addresses that rise; so do the wallets that a row names, and those of two legs.
+use Rattle.std.proofs.Common.{◌≡◌, true, false, Bool, ◌||◌, List, [], ◌∷◌, ◌++◌, None, Option, Some, refl, ap, ◌∙◌}
+use Rattle.dex_fold.proofs.Common.{Address, All-head, All-tail, PlainRow, is_same, list_any, row_wallets}
+use Rattle.std.specs.List.{All}
+use Rattle.dex_types.specs.Wallets.{is_lower, with_role}
+use Rattle.dex_history.proofs.AddressOrder.{is_lower-apart, with_address-rising}
+use Rattle.dex_history.proofs.AddressOrder as order
+use Rattle.dex_turns.specs.Turns.{AreRising, leg_wallets}
+
+-- addresses of which each stands once
+abbrev pub AreOnce : List Address → Type 0
+AreOnce [] = Unit {0}
+AreOnce (address ∷ others) = (list_any (is_same address) others ≡ false) × AreOnce others
+
+abbrev pub IsAbove : Address → Address → Type 0
+IsAbove address other = is_lower address other ≡ true
+
+not-among : (address : Address) (others : List Address) → All (IsAbove address) others → list_any (is_same address) others ≡ false
+not-among address [] above = refl
+not-among address (first ∷ others) above =
+    ap (λ (b : Bool). b || list_any (is_same address) others) (is_lower-apart address first (All-head (IsAbove address) first others above))
+    ∙ not-among address others (All-tail (IsAbove address) first others above)
+
+-- each stands once
+pub rising-once : (addresses : List Address) → AreRising addresses → AreOnce addresses
+rising-once [] rising = tt
+rising-once (address ∷ others) rising = (not-among address others rising.0, rising-once others rising.1)
+
+pub rising-behind : (front behind : List Address) → AreRising (front ++ behind) → AreRising behind
+rising-behind [] behind rising = rising
+rising-behind (first ∷ front) behind rising = rising-behind front behind rising.1
+
+-- ---- those that are named
+
+rising-of : (addresses : List Address) → order.AreRising addresses → AreRising addresses
+rising-of [] rising = tt
+rising-of (first ∷ others) rising = (rising.0, rising-of others rising.1)
+
+role-rising : (role : Option Address) (addresses : List Address) → order.AreRising addresses → order.AreRising (with_role role addresses)
+role-rising None addresses rising = rising
+role-rising (Some address) addresses rising = with_address-rising address addresses rising
+
+roles-rising : (one two three four : Option Address) → AreRising (with_role one (with_role two (with_role three (with_role four []))))
+roles-rising one two three four = rising-of _ (role-rising one _ (role-rising two _ (role-rising three _ (role-rising four [] tt))))
+
+pub row-rising : (row : PlainRow) → AreRising (row_wallets row)
+row-rising row = roles-rising row.coin row.pc row.discount row.referrer
+
+pub legs-rising : (first second : PlainRow) → AreRising (leg_wallets first second)
+legs-rising first second = roles-rising first.coin first.pc second.coin second.pc
