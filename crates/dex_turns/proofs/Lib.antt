@@ -1,6 +1,7 @@
 pub mod Common
 mod FewLanes
 mod Placed
+mod Rising
 mod Counts
 mod Growing
 mod Distinct
