@@ -55,6 +55,12 @@ def move(path, to):
     os.replace(path, to)
 
 
+def say(text):
+    """Says a line on standard error, where that can be written."""
+    with contextlib.suppress(OSError):
+        os.write(2, f"{text}\n".encode(errors="surrogateescape"))
+
+
 def in_minutes(seconds):
     return f"about {round(seconds / 60)} minutes" if seconds > 90 else "a minute or so"
 
@@ -82,10 +88,8 @@ class Build:
         self.turn = self.kit = None
         self.start, self.most, self.whole = time.monotonic(), 1, 0
 
-    def tell(self, text, name=True):
-        """Says a line on standard error, where that can be written."""
-        with contextlib.suppress(OSError):
-            os.write(2, f"{self.name}: {text}\n".encode(errors="surrogateescape") if name else f"{text}\n".encode(errors="surrogateescape"))
+    def tell(self, text):
+        say(f"{self.name}: {text}")
 
     def tell_time(self, text):
         self.tell(f"{time.strftime('%T')} {text}")
@@ -236,7 +240,7 @@ class Build:
         line = read(f"{out_of(name)}/build.log").partition("\n")[0]
         if " another copy of the repository " in line and line not in self.waits:
             self.waits.add(line)
-            self.tell(line, name=False)
+            say(line)
 
     def is_changed(self):
         return is_old(f"{out_of(self.top)}/begun", self.order)
@@ -325,7 +329,7 @@ class Build:
             raise SystemExit(signalled.args[0]) from None
         except Failure as why:
             for it in read(f"{ROOT}/{why.log}").splitlines()[-20:] if why.log else []:
-                self.tell(it, name=False)
+                say(it)
             if shutil.disk_usage(ROOT).free < LEAST:
                 self.tell("the disk is full")
             self.tell(f"{why}{f' (above: the end of {why.log})' if why.log else ''}; {self.nothing}")

@@ -2,6 +2,7 @@ pub mod Common
 mod FewLanes
 mod Placed
 mod Rising
+mod Examples
 mod Counts
 mod Growing
 mod Distinct
