@@ -13,7 +13,7 @@ ghost use Rattle.dex_slab.specs.Slab.{IsSlab, resting, room_in};
 ghost use Rattle.dex_take.specs.TakeGiven as taking;
 ghost use Rattle.dex_types.specs.Accounts.{market_accounts_of};
 ghost use Rattle.dex_types.specs.Side as book;
-ghost use Rattle.std.specs.Prelude.{◌≡◌, ◌≤◌, OnOk, true};
+ghost use Rattle.std.specs.Prelude.{◌≡◌, ◌≤◌, IfOk, true};
 
 use crate::calls::open_at;
 use dex_market::{MarketRef, MarketView, RequestRef, RequestView};
@@ -47,7 +47,7 @@ fn order_plan(
         (resting taker.now.id_side own.now) (room_in own.now) (resting (book.opposite taker.now.id_side) opposite.now)) }
     ensures { let given : OrderGiven = given_by market.now requests.now events.now account.now
         (resting taker.now.id_side own.now) (room_in own.now) (resting (book.opposite taker.now.id_side) opposite.now) in
-        OnOk result (λ plan. IsDecided plan taker.entry.now.id_side (order_of taker.entry.now) (parts_of given)) }
+        IfOk result (λ plan. IsDecided plan taker.entry.now.id_side (order_of taker.entry.now) (parts_of given)) }
 {
     let side = taker.id_side;
     decide_order(

@@ -124,11 +124,11 @@ take_from_hand-cell-requires g t c =
 
 -- ---- behind them
 
-pub index_mut-requires-in-Some : goal.index_mut-requires-in-Some
-index_mut-requires-in-Some g t c =
+pub index_mut-requires : goal.index_mut-requires
+index_mut-requires g t c =
     omega (
       arith,
-      (facts-mid (facts g t (goal.at.index_mut-requires-in-Some g t c).After-take_wallet_at-cell) (g.A.Acts.written c.args.item.now c.with_wallets-made.result) c.with_wallets-made.new.wallets.passes.items c.with_wallets-made.ensures.written.of_lane c.with_wallets-made.ensures.passes),
+      (facts-mid (facts g t (goal.at.index_mut-requires g t c).After-take_wallet_at-cell) (g.A.Acts.written c.args.item.now c.with_wallets-made.result) c.with_wallets-made.new.wallets.passes.items c.with_wallets-made.ensures.written.of_lane c.with_wallets-made.ensures.passes),
     )
 
 pub leave_wallet-requires-clause-entry : goal.leave_wallet-requires-clause-entry
@@ -138,14 +138,14 @@ leave_wallet-requires-clause-entry g t c =
     (subst (AllZip (HasEntry (g.A.Acts.written c.args.item.now c.with_wallets-made.result)) c.push_reserved.new.self.items) c.take_from_hand-cell.ensures.items c.with_wallets-made.ensures.hands)) in (
       g.A.Acts.written c.args.item.now c.with_wallets-made.result,
       sym c.stamp-own.ensures,
-      facts-leave (facts g t (goal.at.leave_wallet-requires-clause-entry g t c).After-take_wallet_at-cell) (g.A.Acts.written c.args.item.now c.with_wallets-made.result) c.with_wallets-made.new.wallets.passes.items c.with_wallets-made.ensures.written.of_lane c.with_wallets-made.ensures.passes c.index_mut-in-Some.result.now c.index_mut-in-Some.ensures.value c.take_from_hand-cell.result
+      facts-leave (facts g t (goal.at.leave_wallet-requires-clause-entry g t c).After-take_wallet_at-cell) (g.A.Acts.written c.args.item.now c.with_wallets-made.result) c.with_wallets-made.new.wallets.passes.items c.with_wallets-made.ensures.written.of_lane c.with_wallets-made.ensures.passes c.index_mut.result.now c.index_mut.ensures.value c.take_from_hand-cell.result
           (subst (λ (x : CellState). HasEntry (g.A.Acts.written c.args.item.now c.with_wallets-made.result) x c.take_from_hand-cell.result) c.take_wallet_at-cell.ensures.cell entry.1)
           (omega (arith, c.with_wallets-made.ensures.written.later, c.later-later.ensures, le-max_left c.take_wallet_at-cell.result.1.last c.args.stamp.now.number)),
     )
 
 pub leave_wallet-requires-clause-away : goal.leave_wallet-requires-clause-away
 leave_wallet-requires-clause-away g t c =
-    let number = facts-number (facts g t (goal.at.leave_wallet-requires-clause-away g t c).After-take_wallet_at-cell) (g.A.Acts.written c.args.item.now c.with_wallets-made.result) c.with_wallets-made.new.wallets.passes.items c.with_wallets-made.ensures.written.of_lane c.with_wallets-made.ensures.passes c.index_mut-in-Some.result.now c.index_mut-in-Some.ensures.value in
+    let number = facts-number (facts g t (goal.at.leave_wallet-requires-clause-away g t c).After-take_wallet_at-cell) (g.A.Acts.written c.args.item.now c.with_wallets-made.result) c.with_wallets-made.new.wallets.passes.items c.with_wallets-made.ensures.written.of_lane c.with_wallets-made.ensures.passes c.index_mut.result.now c.index_mut.ensures.value in
     c.take_wallet_at-cell.ensures.away c.take_wallet_at-cell.ensures.out.out
     ∙ ap (λ (n : ℕ). record { gate = Some c.wallet_gate-gate.result.now; number = n; start = wallet_entries (left_by c.take_wallet_at-cell.result.1) }) (sym number)
 
@@ -156,9 +156,9 @@ returns-in-Some-clause-passes g t c =
     (subst (AllZip (HasEntry (g.A.Acts.written c.args.item.now c.with_wallets-made.result)) c.push_reserved.new.self.items) c.take_from_hand-cell.ensures.items c.with_wallets-made.ensures.hands)) in
     subst (λ (l : List Address). HaveGrown c.args.self.now.bank.now l (g.A.Acts.written c.args.item.now c.with_wallets-made.result) c.args.wallets.now.passes.items
     (set c.with_wallets-made.new.wallets.passes.items c.place-place.result c.leave_wallet.new.pass)) (sym (front-some c.args.others.now c.in-Some.address (sym c.first_of.ensures ∙ c.in-Some.is)))
-    (facts-grown (facts g t (goal.at.returns-in-Some-clause-passes g t c).After-take_wallet_at-cell) (g.A.Acts.written c.args.item.now c.with_wallets-made.result) c.with_wallets-made.new.wallets.passes.items c.with_wallets-made.ensures.written.of_lane c.with_wallets-made.ensures.passes c.index_mut-in-Some.result.now c.index_mut-in-Some.ensures.value c.leave_wallet.new.pass
+    (facts-grown (facts g t (goal.at.returns-in-Some-clause-passes g t c).After-take_wallet_at-cell) (g.A.Acts.written c.args.item.now c.with_wallets-made.result) c.with_wallets-made.new.wallets.passes.items c.with_wallets-made.ensures.written.of_lane c.with_wallets-made.ensures.passes c.index_mut.result.now c.index_mut.ensures.value c.leave_wallet.new.pass
     (c.leave_wallet.ensures (g.A.Acts.written c.args.item.now c.with_wallets-made.result) (sym c.stamp-own.ensures)
-    (facts-leave (facts g t (goal.at.returns-in-Some-clause-passes g t c).After-take_wallet_at-cell) (g.A.Acts.written c.args.item.now c.with_wallets-made.result) c.with_wallets-made.new.wallets.passes.items c.with_wallets-made.ensures.written.of_lane c.with_wallets-made.ensures.passes c.index_mut-in-Some.result.now c.index_mut-in-Some.ensures.value c.take_from_hand-cell.result
+    (facts-leave (facts g t (goal.at.returns-in-Some-clause-passes g t c).After-take_wallet_at-cell) (g.A.Acts.written c.args.item.now c.with_wallets-made.result) c.with_wallets-made.new.wallets.passes.items c.with_wallets-made.ensures.written.of_lane c.with_wallets-made.ensures.passes c.index_mut.result.now c.index_mut.ensures.value c.take_from_hand-cell.result
     (subst (λ (x : CellState). HasEntry (g.A.Acts.written c.args.item.now c.with_wallets-made.result) x c.take_from_hand-cell.result) c.take_wallet_at-cell.ensures.cell entry.1)
     (omega (arith, c.with_wallets-made.ensures.written.later, c.later-later.ensures, le-max_left c.take_wallet_at-cell.result.1.last c.args.stamp.now.number)))))
 
