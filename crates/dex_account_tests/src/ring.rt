@@ -3,7 +3,7 @@
 ghost use Rattle.std.specs.Prelude.{◌<◌};
 ghost use Rattle.dex_ring.specs.EventBytes.{IsQueued};
 
-use dex_orders::{OrdersRef, OrdersState, check_orders, init, state_of};
+use dex_orders::{OrdersRef, OrdersState, check_orders, state_of};
 use dex_ring::{RingRef, RingView, check_events};
 use dex_types::{Address, Event};
 use std::test::Fail;
@@ -67,7 +67,9 @@ fn events_go_round_the_end_of_the_ring(rt: HostRuntime) -> Result<(), Fail> {
 /// its id.
 fn lowest_free(bits: [u8; 16]) -> Result<Option<u8>, Fail> {
     let mut bytes = [0; 3228];
-    init(&mut bytes, Address([1; 32]), Address([2; 32]));
+    bytes[..5].copy_from_slice(b"serum");
+    bytes[5] = 5;
+    bytes[3221..].copy_from_slice(b"padding");
     bytes[109..125].copy_from_slice(&bits);
     for slot in 0..128usize {
         bytes[141 + 16 * slot] = slot as u8;

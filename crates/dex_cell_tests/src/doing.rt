@@ -18,7 +18,7 @@ ghost use Rattle.std.specs.Prelude.{◌≡◌, ◌≤◌, IfOk, true};
 use crate::calls::open_at;
 use dex_market::{MarketRef, MarketView, RequestRef, RequestView};
 use dex_match::{OrderPlan, Taker, apply_order, decide_order};
-use dex_orders::{OrdersRef, OrdersView, close, init};
+use dex_orders::{OrdersRef, OrdersView, check_orders, close, init};
 use dex_ring::{RingRef, RingView};
 use dex_settle::{
     SettlePlan, apply_disable, apply_settle, apply_sweep, decide_close, decide_disable,
@@ -333,16 +333,17 @@ fn close_on(account: &mut [u8], signer: Address) -> Result<(), Refusal>
 }
 
 /// An account of a market is opened for a person; then it is opened again, and another signs its closing; then it is
-/// closed, and then opened and closed again. What each is answered, and the bytes when it is opened and when
-/// it is closed.
+/// closed, and then opened and closed again. What each is answered, and the bytes when it is opened and when it is
+/// closed.
 pub(crate) fn open_and_close(
     accounts: &MarketAccounts,
     person: Address,
     other: Address,
-) -> ([Result<(), Refusal>; 6], [u8; 3228], [u8; 3228])
+) -> Result<([Result<(), Refusal>; 6], [u8; 3228], [u8; 3228]), Fail>
     requires { AreSound (market_accounts_of accounts.now) }
 {
     let mut bytes = [0; 3228];
+    check_orders(&bytes)?;
     let first = open_on(&accounts.market, &mut bytes, accounts.address, person);
     let opened = bytes;
     let again = open_on(&accounts.market, &mut bytes, accounts.address, person);
@@ -351,9 +352,6 @@ pub(crate) fn open_and_close(
     let closed = bytes;
     let reopened = open_on(&accounts.market, &mut bytes, accounts.address, person);
     let twice = close_on(&mut bytes, person);
-    (
-        [first, again, by_other, ended, reopened, twice],
-        opened,
-        closed,
-    )
+    let told = [first, again, by_other, ended, reopened, twice];
+    Ok((told, opened, closed))
 }

@@ -133,7 +133,8 @@ fn a_market_is_disabled(rt: HostRuntime) -> Result<(), Fail> {
 fn an_account_is_opened_and_closed(rt: HostRuntime) -> Result<(), Fail> {
     let ann = labelled(*b"ann\0\0");
     let mut exchange = Exchange::open(rt.alloc())?;
-    let (told, opened, closed) = open_and_close(&Exchange::open(rt.alloc())?.into_accounts(), ann, ben());
+    let accounts = Exchange::open(rt.alloc())?.into_accounts();
+    let (told, opened, closed) = open_and_close(&accounts, ann, ben())?;
     let exists = Err(Refusal::AccountExists);
     let other = Err(Refusal::NotOwner { owner: ann });
     let none = Err(Refusal::NoAccount);

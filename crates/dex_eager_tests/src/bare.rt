@@ -63,7 +63,9 @@ fn left(alloc: Global) -> Result<(Outcome, Option<Reply>), Fail> {
 fn entries(outcome: &Outcome) -> u64 {
     let mut digits = 0u64;
     for wallet in &outcome.wallets {
-        digits = digits.wrapping_mul(10).wrapping_add(wallet.entries.len() as u64);
+        digits = digits
+            .wrapping_mul(10)
+            .wrapping_add(wallet.entries.len() as u64);
     }
     digits
 }

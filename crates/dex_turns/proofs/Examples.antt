@@ -1,21 +1,20 @@
 -- Worked examples of items, of takes that are held back, of what lanes make, and of the order of turns.
-use Rattle.std.proofs.Common.{◌≡◌, ℕ, ◌<◌, ◌||◌, ◌&&◌, not, Bool, true, false, cond, eqb, List, [], ◌∷◌, Option, None, Some, Ok, refl, sym, ap, ◌∙◌, arith, subst}
-use Rattle.std.proofs.lemmas.Bool.{cond-false, cond-true, false≢true}
+use Rattle.std.proofs.Common.{◌≡◌, ℕ, ◌<◌, true, false, eqb, List, [], ◌∷◌, None, Some, Ok, refl, sym, ap, ◌∙◌, arith}
+use Rattle.std.proofs.lemmas.Bool.{cond-false, false≢true}
 use Rattle.dex_types.specs.declared.addresses.Address.{Address}
 use Rattle.dex_types.specs.declared.instructions.Ix.TheVariants.{MatchOrders, SendTake}
 use Rattle.dex_types.specs.declared.movements.Movement.{Movement}
 use Rattle.dex_types.specs.declared.refusals.Refusal.{Refusal}
 use Rattle.dex_types.specs.declared.replies.Reply.{Reply}
 use Rattle.dex_types.specs.declared.replies.Reply.TheVariants.{Done, Refused, Took}
-use Rattle.dex_types.specs.declared.rows.Seen.{Seen}
 use Rattle.dex_types.specs.declared.terms.Side.TheVariants.{Bid}
 use Rattle.dex_types.specs.Addresses.{is_same}
 use Rattle.dex_types.specs.Market.{Market}
 use Rattle.dex_types.specs.Rows.{PlainRow}
 use Rattle.dex_types.specs.Why.{why}
-use Rattle.dex_history.specs.Journal.{Call, Stands, acted_of, is_done, is_held, is_refused, is_took}
+use Rattle.dex_history.specs.Journal.{Call, Stands, acted_of, is_held, is_refused}
 use Rattle.dex_fold.specs.Fold.{act, fold, names}
-use Rattle.dex_fold.specs.Groups.{Group, alone}
+use Rattle.dex_fold.specs.Groups.{alone}
 use Rattle.dex_fold.specs.Items.{Item, ShareNothing, act_item, chosen, doing, fold_items, idle_row, items_of, items_of_lane, pair_of, rows_of_lane, why_in}
 use Rattle.dex_fold.specs.World.{World}
 use Rattle.dex_script_facts.specs.PlainScript.{PlainScript}

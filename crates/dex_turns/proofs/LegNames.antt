@@ -1,5 +1,5 @@
 -- The wallets of two legs are those that the two name, each once.
-use Rattle.std.proofs.Common.{◌≡◌, Bool, true, false, ◌||◌, List, [], ◌∷◌, map, None, Option, refl, sym, ap, ◌∙◌, subst}
+use Rattle.std.proofs.Common.{◌≡◌, Bool, true, false, ◌||◌, List, [], map, None, Option, refl, sym, ap, ◌∙◌, subst}
 use Rattle.dex_fold.proofs.Common.{Address, All-weaker, PlainRow, is_same, list_any, names}
 use Rattle.dex_turns.proofs.Common.{All-unmap, CellState, IsRowOf, PlainScript, has_account, roles-all}
 use Rattle.std.specs.List.{All}

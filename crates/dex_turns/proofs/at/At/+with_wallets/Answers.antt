@@ -5,7 +5,6 @@ use Rattle.std.proofs.lemmas.List.{length-append}
 use Rattle.std.proofs.Math.Nat.{le-max_right}
 use Rattle.dex_locks.specs.Places.{front}
 use Rattle.dex_fold.proofs.MappedLists.{AllZip-last}
-use Rattle.dex_turns.proofs.Growing.{WalletPass}
 use Rattle.dex_turns.proofs.Taking.{Facts, facts-grown, facts-hand, facts-leave, facts-mid, facts-number, facts-of, facts-ready, front-none, front-some, grown-none, rest-long, rest_of}
 use Rattle.dex_script_facts.proofs.PlacedLaws.{wallet-placed}
 use Rattle.dex_turns.proofs.Taking as taking
