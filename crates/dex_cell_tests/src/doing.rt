@@ -46,7 +46,7 @@ fn order_plan(
     requires given { IsGiven taker.now.id_side taker.now.account (given_by market.now requests.now events.now account.now
         (resting taker.now.id_side own.now) (room_in own.now) (resting (book.opposite taker.now.id_side) opposite.now)) }
     ensures { let given : OrderGiven = given_by market.now requests.now events.now account.now
-        (resting taker.now.id_side own.now) (room_in own.now) (resting (book.opposite taker.now.id_side) opposite.now) in
+        (resting taker.entry.now.id_side own.now) (room_in own.now) (resting (book.opposite taker.entry.now.id_side) opposite.now) in
         IfOk result (λ plan. IsDecided plan taker.entry.now.id_side (order_of taker.entry.now) (parts_of given)) }
 {
     let side = taker.id_side;

@@ -22,7 +22,14 @@ use Rattle.dex_stamps.specs.Stamped.{Stamped}
 use Rattle.dex_journals.specs.Lanes.{AreAllOrNone, IsBefore, IsLane, number_in}
 use Rattle.dex_journals.specs.StampedCalls.{calls_on, entry_made}
 use Rattle.dex_turns.specs.Submitted.{AreLegReplies}
-use Rattle.dex_turns.specs.Turns.{leg_markets, leg_wallets}
+use Rattle.dex_fold.proofs.Common.{All-head, WalletEntry}
+use Rattle.dex_gate.specs.GateView.{GateView}
+use Rattle.dex_gate.specs.declared.stage.Stage.TheVariants.{Idle, Out}
+use Rattle.dex_journals.specs.Journals.{MarketOrigin, WalletOrigin}
+use Rattle.dex_turns.proofs.Entering.{MarketPass}
+use Rattle.dex_turns.proofs.Growing.{WalletPass}
+use Rattle.dex_types.specs.Wallets.{is_lower}
+use Rattle.dex_turns.specs.Turns.{AreRising, HoldsTurn, IsAboveMarkets, IsAboveWallets, leg_markets, leg_wallets}
 
 -- ---- items
 
@@ -181,3 +188,23 @@ held-beside-filled lots pc fee replies = let refused = replies.other_done refl i
 
 both-held : AreLegReplies Done Done → ⊥
 both-held replies = let refused = replies.done refl in absurd (cc)
+
+-- ---- the order of turns
+
+-- a lane that holds the turn of a market may not take that of a lower one
+higher-market-first : (lower higher : GateView (Stamped Call) MarketOrigin) (pass : MarketPass) (calls : List (Stamped Call)) → lower.origin.start.address ≡ address 1
+    → higher.origin.start.address ≡ address 2 → pass.gate ≡ Some higher → pass.stage ≡ Out calls → IsAboveMarkets lower (pass ∷ []) → ⊥
+higher-market-first lower higher pass calls low high at out above =
+    let holds : HoldsTurn pass = λ idle. let both : Out calls ≡ Idle = sym out ∙ idle in absurd (cc) in
+    false≢true (ap (λ (a : Address). is_lower a (address 1)) (sym high) ∙ ap (is_lower higher.origin.start.address) (sym low) ∙ above 0 pass (omega arith) holds higher at)
+
+-- and not of a wallet below one whose turn it holds
+higher-wallet-first : (lower higher : GateView (Stamped WalletEntry) WalletOrigin) (pass : WalletPass) (entries : List (Stamped WalletEntry)) → lower.origin.start.address ≡ address 1
+    → higher.origin.start.address ≡ address 2 → pass.gate ≡ Some higher → pass.stage ≡ Out entries → IsAboveWallets lower (pass ∷ []) → ⊥
+higher-wallet-first lower higher pass entries low high at out above =
+    let holds : HoldsTurn pass = λ idle. let both : Out entries ≡ Idle = sym out ∙ idle in absurd (cc) in
+    false≢true (ap (λ (a : Address). is_lower a (address 1)) (sym high) ∙ ap (is_lower higher.origin.start.address) (sym low) ∙ above 0 pass (omega arith) holds higher at)
+
+-- wallets that a row names rise
+wallets-fall : AreRising (address 2 ∷ address 1 ∷ []) → ⊥
+wallets-fall rising = false≢true (All-head (λ (other : Address). is_lower (address 2) other ≡ true) (address 1) [] rising.0)
