@@ -37,7 +37,7 @@ fn take_turns<R: Wait + Abort>(
 }
 
 /// How many turns each of eight threads takes.
-const MANY_TURNS: u32 = 5_000;
+const MANY_TURNS: u32 = 1_000;
 
 // Two passes of neighbouring numbers take many turns, each on a thread of its own.
 fn two_take_many<R: Wait + Abort + Threads + Sync>(
