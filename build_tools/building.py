@@ -1,6 +1,8 @@
-"""Proves crates side by side, those with the longest chain above them first, each in a room of its own."""
+"""Proves crates side by side, those with the longest chain above them first. Each is proved in a room of its own, which has further names of
+its files and of what is built below it, since a command of the toolchain keeps others out of all folders that it reads."""
 
-import graphlib
+import contextlib
+import fcntl
 import os
 import re
 import shutil
@@ -9,27 +11,67 @@ import subprocess
 import time
 
 from build_tools.crates import ROOT, UNKNOWN, chains, is_old, read_lines, read_rows, read_uses, time_of
-from build_tools.locks import take_lock, tell
-from build_tools.rooms import ROOMS, Failure, in_crate, leave_room, leave_rooms, make_room, move, out_of, read, write
 
+ROOMS = f"{ROOT}/crates/dex_program/out/rooms"
+TURN = f"{ROOT}/crates/dex_program/out/turn"  # who has the turn of this folder: the command's process, and those of its proofs
 SECONDS = f"{ROOT}/tests/data/first_seconds"  # what the first proof of each crate took on a quick machine
 LEAST = 1_000_000  # bytes, below which a disk is full
 SLOWEST = 3  # how many times as long a machine was seen to take
+SIGNALS = signal.SIGINT, signal.SIGTERM, signal.SIGHUP
+
+
+class Failure(Exception):
+    """Why a build ends without a program, and the log of which the last lines tell more."""
+
+    def __init__(self, why, log=None):
+        super().__init__(why)
+        self.log = log
 
 
 class Stopped(Exception):
     """A signal came; its status."""
 
 
-def at_once():
-    """How many crates to work on at once: a processor for each, and 2 GB."""
-    wanted = int(subprocess.run(["nproc"], stdout=subprocess.PIPE, check=True).stdout)
-    memory = re.search(r"^MemAvailable: *(\d+) kB$", read("/proc/meminfo"), re.M)
-    return max(1, min(wanted, int(memory[1] if memory else 4_000_000) // 2_000_000))
+def out_of(name):
+    return f"{ROOT}/crates/{name}/out"
+
+
+def read(path):
+    """The text of a file, nothing where it is missing."""
+    with contextlib.suppress(FileNotFoundError), open(path, encoding="utf-8", errors="replace") as file:
+        return file.read()
+    return ""
+
+
+def write(path, text, mode="w"):
+    with open(path, mode, encoding="utf-8") as file:
+        file.write(text)
+
+
+def move(path, to):
+    """Moves a folder or file to where another may stand."""
+    if os.path.isdir(to):
+        shutil.rmtree(to)
+    os.replace(path, to)
+
+
+def say(text):
+    """Says a line on standard error, where that can be written."""
+    with contextlib.suppress(OSError):
+        os.write(2, f"{text}\n".encode(errors="surrogateescape"))
 
 
 def in_minutes(seconds):
     return f"about {round(seconds / 60)} minutes" if seconds > 90 else "a minute or so"
+
+
+def told_holders():
+    """Who has the turn of this folder, and how to go on without it, in words."""
+    own, *proofs = read(TURN).split() or [""]
+    left = " ".join(it for it in proofs if os.path.exists(f"/proc/{it}"))
+    if own and os.path.exists(f"/proc/{own}"):
+        return f" (process {own})"
+    return f" (it was killed, and its proofs go on: processes {left}; what they prove is kept; kill {left} ends them)" if left else ""
 
 
 class Build:
@@ -47,7 +89,7 @@ class Build:
         self.start, self.most, self.whole = time.monotonic(), 1, 0
 
     def tell(self, text):
-        tell(f"{self.name}: {text}")
+        say(f"{self.name}: {text}")
 
     def tell_time(self, text):
         self.tell(f"{time.strftime('%T')} {text}")
@@ -58,7 +100,7 @@ class Build:
         """Notes the crates that need no proof, so far as the times of files tell; rt decides of the others."""
         made = f"{out_of('dex_program')}/dex_program"
         for name in self.order:
-            if all(it in self.built for it in self.uses[name]) and os.path.isfile(f"{out_of(name)}/rlib/stamp"):
+            if self.built.issuperset(self.uses[name]) and os.path.isfile(f"{out_of(name)}/rlib/stamp"):
                 is_kits = read(f"{out_of(name)}/kit").strip() == self.kit
                 if is_kits and not (is_old(f"{out_of(name)}/kit", [name]) and is_old(made, [name])):
                     self.built.add(name)
@@ -71,9 +113,8 @@ class Build:
     def told_start(self):
         """How long all may take here: by the pace of proofs of before, or from that of a quick machine to that of a slow one."""
         file = f"{out_of(self.top)}/seconds"
-        told = read_rows(file) if os.path.exists(file) else {}
-        known = {it: words[-1] for it, words in told.items() if it in self.seconds and words[-1].isdigit()}
-        paces = sorted(int(took) / self.seconds[it] for it, took in known.items())
+        known = {it: words[-1] for it, words in (read_rows(file) if os.path.exists(file) else {}).items() if it in self.seconds}
+        paces = sorted(int(took) / self.seconds[it] for it, took in known.items() if took.isdigit())
         if len(paces) > 4:
             return f"{in_minutes(self.whole * paces[len(paces) // 2])} at this machine's pace"
         most = round(SLOWEST * self.whole / 60)
@@ -86,90 +127,145 @@ class Build:
         done = self.whole - left
         return in_minutes(left * took / done if min(done, took) > 60 else left)
 
-    # The proofs
+    # Turns and rooms
+
+    def lock(self, folder, what):
+        """Takes the lock of a folder, and says so where it has to wait. The lock ends with the number that it gives."""
+        turn = os.open(folder, os.O_RDONLY)
+        try:
+            fcntl.flock(turn, fcntl.LOCK_EX | fcntl.LOCK_NB)
+        except BlockingIOError:
+            self.tell(f"{what()}; waiting for it")
+            fcntl.flock(turn, fcntl.LOCK_EX)
+        return turn
+
+    @contextlib.contextmanager
+    def alone_in(self, name):
+        """No other command is at work in a crate meanwhile."""
+        turn = self.lock(f"{ROOT}/crates/{name}", lambda: f"a command is at work in {name}")
+        try:
+            yield out_of(name)
+        finally:
+            os.close(turn)
 
     def take_turn(self):
         """Takes the turn of this folder, and what a build that was killed here left."""
-        self.turn = take_lock(f"{ROOT}/crates", "another ./dex is at work in this folder", self.tell)
-        leave_rooms(self.tell)
+        self.turn = self.lock(f"{ROOT}/crates", lambda: f"another ./dex is at work in this folder{told_holders()}")
+        os.makedirs(os.path.dirname(TURN), exist_ok=True)
+        write(TURN, f"{os.getpid()}\n")
+        self.leave_rooms()
+
+    def make_room(self, name):
+        """Makes a crate's room, with the crates that are proved, and moves into it what the crate keeps for its next proof."""
+        room, lines, parts = f"{ROOMS}/{name}", read_lines(), ["HANDLES"]
+        names = [it for it in self.order if it == name or it in self.built]
+        os.makedirs(room)
+        write(f"{room}/kit", f"{self.kit}\n")
+        write(f"{room}/crates.txt", "".join(f"{lines[it]}\n" for it in names))
+        for it in names:
+            own = [f"crates/{it}/{part}" for part in ("src", "specs", "proofs", "out/rlib")]
+            parts += [part for part in own if os.path.isdir(f"{ROOT}/{part}")]
+        for how in ("-al", "-a"):  # further names of the files; copies, where the file system has no such names
+            words = ["cp", how, "--parents", *parts, room]
+            copied = subprocess.run(words, cwd=ROOT, stderr=subprocess.PIPE, text=True, errors="replace", check=False)
+            if not copied.returncode:
+                break
+            shutil.rmtree(f"{room}/crates", ignore_errors=True)
+        else:
+            why = "".join(copied.stderr.splitlines()[-1:])
+            raise Failure(f"{name} cannot be copied into crates/dex_program/out/rooms, where it would be proved ({why})")
+        os.makedirs(out_of(name), exist_ok=True)
+        os.makedirs(f"{room}/crates/{name}/out", exist_ok=True)
+        with self.alone_in(name) as own:
+            if os.path.isdir(f"{own}/incremental"):
+                move(f"{own}/incremental", f"{room}/crates/{name}/out/incremental")
+
+    def leave_room(self, name):
+        """Moves what a crate's room holds of its proof to the crate, and ends the room."""
+        room, out = f"{ROOMS}/{name}", f"{ROOMS}/{name}/crates/{name}/out"
+        if os.path.isdir(out_of(name)):
+            with self.alone_in(name) as own:
+                if time_of(f"{out}/rlib/stamp") > time_of(f"{own}/rlib/stamp"):
+                    move(f"{out}/rlib", f"{own}/rlib")
+                    move(f"{room}/kit", f"{own}/kit")
+                if os.path.isdir(f"{out}/incremental"):
+                    move(f"{out}/incremental", f"{own}/incremental")
+        shutil.rmtree(room)
+
+    def leave_rooms(self):
+        for name in os.listdir(ROOMS) if os.path.isdir(ROOMS) else ():
+            self.leave_room(name)
+
+    # The proofs
 
     def run(self, words, folder, log):
         """Begins a command, which has the turn too, and which no key of the terminal ends but through this process."""
         with open(log, "wb") as said:
             how = {"cwd": folder, "stdin": subprocess.DEVNULL, "stdout": said, "stderr": subprocess.STDOUT}
-            return subprocess.Popen(words, **how, pass_fds=[self.turn], preexec_fn=without_keys)
+            process = subprocess.Popen(words, **how, pass_fds=[self.turn], preexec_fn=without_keys)
+        write(TURN, f"{process.pid}\n", "a")
+        return process
 
-    def begin_ready(self, ready):
-        """Begins the proofs of crates that stand on proved ones, the longest chain first, as many at once as there are processors. Those
-        that stand on no other share the processors that are free; the others, which load many libraries, gain nothing by further jobs."""
-        ready.sort(key=lambda it: -self.chains[it])
+    def begin(self, ready):
+        """Begins the proofs of crates that stand on proved ones, as many at once as there are processors. Those that stand on no other share
+        the processors that are free; the others, which load many libraries, gain nothing by further jobs."""
         while ready and len(self.work) < self.most:
             free = self.most - sum(jobs for _, jobs, _ in self.work.values())
             jobs = 1 if self.uses[ready[0]] else max(1, free // len(ready))
             name = ready.pop(0)
-            make_room(name, [it for it in self.order if it == name or it in self.built], self.kit, self.tell)
-            words = ["rt", "lib", "--jobs", str(jobs)]
-            self.work[name] = self.run(words, f"{ROOMS}/{name}/crates/{name}", f"{out_of(name)}/build.log"), jobs, time.monotonic()
+            self.make_room(name)
+            process = self.run(["rt", "lib", "--jobs", str(jobs)], f"{ROOMS}/{name}/crates/{name}", f"{out_of(name)}/build.log")
+            self.work[name] = process, jobs, time.monotonic()
 
-    def end_crate(self, name):
-        """Takes note of a crate whose proof ended, and says whether it is proved."""
+    def end(self, name):
+        """Takes note of a crate whose proof ended."""
         process, _, begun = self.work.pop(name)
         stamp, own, room = f"{ROOMS}/{name}/crates/{name}/out/rlib/stamp", f"{out_of(name)}/rlib/stamp", f"{ROOMS}/{name}"
         is_proved = process.returncode == 0 and os.path.isfile(stamp)
         if is_proved and time_of(stamp) <= time_of(own):
             move(f"{room}/kit", f"{out_of(name)}/kit")  # rt found the library as it should be
-        leave_room(name, self.tell)
+        self.leave_room(name)
         if not is_proved:
             self.failed = self.failed or name
             if self.work:
                 self.tell(f"{name} is not proved; what is at work beside it ends first")
-            return False
+            return
         self.built.add(name)
         if re.search(r"^logic=proved", read(f"{out_of(name)}/build.log"), re.M):
-            with open(f"{out_of(self.top)}/seconds", "a", encoding="utf-8") as seconds:
-                seconds.write(f"{name} {round(time.monotonic() - begun)}\n")
+            write(f"{out_of(self.top)}/seconds", f"{name} {round(time.monotonic() - begun)}\n", "a")
             self.tell_time(f"{name} is proved; {len(self.left()[0])} of {len(self.order)} left, {self.told_left()}")
-        return True
 
     def tell_wait(self, name):
         """Says once that a crate's proof waits for that of another folder."""
-        with open(f"{out_of(name)}/build.log", encoding="utf-8", errors="replace") as log:
-            line = log.readline().rstrip("\n")
+        line = read(f"{out_of(name)}/build.log").partition("\n")[0]
         if " another copy of the repository " in line and line not in self.waits:
             self.waits.add(line)
-            self.tell(line)
+            say(line)
 
     def is_changed(self):
         return is_old(f"{out_of(self.top)}/begun", self.order)
 
     def prove_all(self):
         """Proves all crates but the top one. Once one is not proved, or a source changes, no other is begun."""
-        graph = graphlib.TopologicalSorter({it: self.uses[it] for it in self.uses if it != self.top})
-        ready, is_open = [], True
-        graph.prepare()
-        while graph.is_active():
-            for name in graph.get_ready():
-                graph.done(name) if name in self.built else ready.append(name)
+        is_open = True
+        while True:
+            asked = [it for it in self.order if it not in self.built and it not in self.work and it != self.top]
+            ready = [it for it in asked if self.built.issuperset(self.uses[it])]
             if is_open and ready and len(self.work) < self.most:
                 is_open = not self.failed and not self.is_changed()
-                self.begin_ready(ready if is_open else [])
-            if not self.work and (self.failed or ready):
+                self.begin(ready if is_open else [])
+            if not self.work:
                 break
-            for name in self.ended():
-                if self.end_crate(name):
-                    graph.done(name)
+            for name in list(self.work):
+                self.tell_wait(name)
+            ended = [it for it in self.work if self.work[it][0].poll() is not None]
+            for name in ended:
+                self.end(name)
+            if not ended:
+                time.sleep(0.2)
         self.stop_on_change()
         if self.failed:
             raise Failure(f"{self.failed} was not proved", f"crates/{self.failed}/out/build.log")
-
-    def ended(self):
-        """The crates whose proofs ended; it waits a moment where there is none."""
-        found = [it for it in self.work if self.work[it][0].poll() is not None]
-        for name in self.work:
-            self.tell_wait(name)
-        if self.work and not found:
-            time.sleep(0.2)
-        return found
 
     def stop_on_change(self):
         if self.is_changed():
@@ -180,12 +276,15 @@ class Build:
         if not shutil.which("rt"):
             raise Failure("there is no command rt: it comes with the Rattle toolchain whose version README.md names; "
                           "put its folder bin on PATH")
-        for it in (signal.SIGINT, signal.SIGTERM, signal.SIGHUP):
+        for it in SIGNALS:
             signal.signal(it, stopped)
         os.makedirs(out_of(self.top), exist_ok=True)
         write(f"{out_of(self.top)}/begun", "")
         self.kit = subprocess.run(["rt", "version"], stdout=subprocess.PIPE, text=True, check=False).stdout.strip()
-        self.most, self.start = at_once(), time.monotonic()
+        processors = int(subprocess.run(["nproc"], stdout=subprocess.PIPE, check=True).stdout)
+        memory = re.search(r"^MemAvailable: *(\d+) kB$", read("/proc/meminfo"), re.M)
+        self.most = max(1, min(processors, int(memory[1] if memory else 4_000_000) // 2_000_000))  # 2 GB for each
+        self.start = time.monotonic()
         self.guess_built()
         names, self.whole = self.left()
         self.tell(f"proving {len(names)} of {len(self.order)} crates: {self.told_start()}; later only what changed")
@@ -207,7 +306,7 @@ class Build:
 
     def stop(self):
         """Ends all that is at work. A second signal ends this too."""
-        for it in (signal.SIGINT, signal.SIGTERM, signal.SIGHUP):
+        for it in SIGNALS:
             signal.signal(it, signal.SIG_DFL)
         for process, *_ in self.work.values():
             process.terminate()
@@ -215,7 +314,7 @@ class Build:
             process.wait()
         self.work.clear()
         if self.turn is not None:
-            leave_rooms(self.tell)
+            self.leave_rooms()
 
     def ends_of(self, does):
         """Does a build, and ends with status 70, or that of a signal, where it comes to nothing; it says why."""
@@ -229,9 +328,8 @@ class Build:
             self.tell(f"stopped, and {self.nothing}; what is proved is kept, and the next {self.command} goes on from there")
             raise SystemExit(signalled.args[0]) from None
         except Failure as why:
-            lines = read(f"{ROOT}/{why.log}").splitlines()[-20:] if why.log else []
-            for it in lines:
-                tell(it)
+            for it in read(f"{ROOT}/{why.log}").splitlines()[-20:] if why.log else []:
+                say(it)
             if shutil.disk_usage(ROOT).free < LEAST:
                 self.tell("the disk is full")
             self.tell(f"{why}{f' (above: the end of {why.log})' if why.log else ''}; {self.nothing}")
@@ -245,20 +343,14 @@ class Build:
         self.take_turn()
         if not is_built():
             raise Failure("nothing was removed: the program is not built, and what the crates keep makes its build shorter")
-        freed = []
+        freed = 0
         for name in read_lines():
             if os.path.isdir(f"{out_of(name)}/incremental"):
-                in_crate(name, lambda _, own: freed.append(remove(f"{own}/incremental")), self.tell)
-        self.tell(f"removed {sum(freed) // 1_048_576} MB: what the crates kept of their proofs (crates/*/out/incremental)")
+                with self.alone_in(name) as own:
+                    freed += sum(os.lstat(f"{at}/{it}").st_blocks for at, _, files in os.walk(f"{own}/incremental") for it in files)
+                    shutil.rmtree(f"{own}/incremental")
+        self.tell(f"removed {freed * 512 // 1_048_576} MB: what the crates kept of their proofs (crates/*/out/incremental)")
         self.tell("the program and the libraries stay; a crate that changes is proved from nothing the next time")
-
-
-def remove(folder):
-    """Removes a folder, and gives the bytes that it took."""
-    files = [f"{at}/{it}" for at, _, names in os.walk(folder) for it in names]
-    took = sum(os.lstat(it).st_blocks * 512 for it in files)
-    shutil.rmtree(folder)
-    return took
 
 
 def without_keys():

@@ -26,7 +26,7 @@ use dex_take::{TakePlan, decide_take};
 use dex_types::{Address, Lots, MarketAccounts, OrdersAccount, Refusal, Seen, Side};
 
 /// The bytes of the account of an address, where it is open.
-fn open_at(accounts: &MarketAccounts, owner: Address) -> Option<&[u8]>
+pub(crate) fn open_at(accounts: &MarketAccounts, owner: Address) -> Option<&[u8]>
     ensures { IfSome result (λ held. HasOpen owner held.now (parts_of (market_accounts_of accounts.now))) }
 {
     let bytes = find_bytes(&accounts.orders, owner)?;

@@ -24,22 +24,22 @@ do,1,m,bob,ben,-,bob_usd,-,-,new bid 60 3 2000 decrement ioc 8 10
 const ASK: u128 = 922337203685477580800;
 
 /// An exchange after the rows.
-fn opened(alloc: Global) -> Result<Exchange, Fail> {
+pub(crate) fn opened(alloc: Global) -> Result<Exchange, Fail> {
     let mut exchange = Exchange::open(alloc)?;
     exchange.run(ROWS)?;
     Ok(exchange)
 }
 
-fn amy() -> Address {
+pub(crate) fn amy() -> Address {
     labelled(*b"amy\0\0")
 }
 
-fn ben() -> Address {
+pub(crate) fn ben() -> Address {
     labelled(*b"ben\0\0")
 }
 
 /// An order of one lot.
-fn taker(account: Address, id_side: Side, price: u64) -> Taker {
+pub(crate) fn taker(account: Address, id_side: Side, price: u64) -> Taker {
     Taker {
         id_side,
         price,
@@ -110,7 +110,7 @@ fn an_ask_is_decided(rt: HostRuntime) -> Result<(), Fail> {
 }
 
 /// A wallet of `bob`, and what it holds.
-fn wallet(address: &[u8; 5], mint: &[u8; 5], balance: u64) -> Option<WalletSeen> {
+pub(crate) fn wallet(address: &[u8; 5], mint: &[u8; 5], balance: u64) -> Option<WalletSeen> {
     Some(WalletSeen {
         address: labelled(*address),
         mint: labelled(*mint),
@@ -120,7 +120,7 @@ fn wallet(address: &[u8; 5], mint: &[u8; 5], balance: u64) -> Option<WalletSeen>
 }
 
 /// Wallets with so much quote and no base.
-fn seen(balance: u64) -> Seen {
+pub(crate) fn seen(balance: u64) -> Seen {
     Seen {
         coin: wallet(b"base\0", b"coin\0", 0),
         pc: wallet(b"quote", b"usd\0\0", balance),

@@ -9,12 +9,20 @@ mod calls;
 #[cfg(test)]
 mod direct;
 #[cfg(test)]
+mod doing;
+#[cfg(test)]
+mod done;
+#[cfg(test)]
 mod exchange;
 #[cfg(test)]
 mod making;
 #[cfg(test)]
 mod nodes;
 #[cfg(test)]
+mod posting;
+#[cfg(test)]
 mod refused;
+#[cfg(test)]
+mod wallets;
 #[cfg(test)]
 mod words;

@@ -37,7 +37,7 @@ fn take_turns<R: Wait + Abort>(
 }
 
 /// How many turns each of eight threads takes.
-const MANY_TURNS: u32 = 5_000;
+const MANY_TURNS: u32 = 1_000;
 
 // Two passes of neighbouring numbers take many turns, each on a thread of its own.
 fn two_take_many<R: Wait + Abort + Threads + Sync>(
@@ -113,6 +113,18 @@ fn two_threads_take_three_turns_each(rt: HostRuntime) -> Result<(), Fail> {
     assert_eq!(rt; all.len(), 6);
     assert_eq!(rt; count_of(all.as_slice(), 0), 3);
     assert_eq!(rt; count_of(all.as_slice(), 1), 3);
+    Ok(())
+}
+
+#[test]
+fn one_pass_takes_three_turns(rt: HostRuntime) -> Result<(), Fail> {
+    let alloc = rt.alloc();
+    let lanes = Vec::new(alloc);
+    let mut passes = Vec::with_capacity(alloc, 1)?;
+    let (gate, pass) = Gate::open(alloc, Lanes { lanes }, 1)?;
+    passes.push(take_turns(&rt, &gate, pass, 0, 3))?;
+    let all = gate.close(passes).lanes;
+    assert_eq!(rt; all.as_slice(), [0, 0, 0].as_slice());
     Ok(())
 }
 

@@ -1,11 +1,13 @@
 -- The turns of two markets, taken in the one order and told in the other; and which order it is.
-use Rattle.std.proofs.Common.{◌≡◌, ℕ, Bool, true, false, cond, List, [], ◌∷◌, get_or, sym, ap, ◌∙◌, subst, ⊎_elim}
+use Rattle.std.proofs.Common.{◌≡◌, ℕ, Bool, true, false, cond, List, [], ◌∷◌, Some, get_or, sym, ap, ◌∙◌, subst, ⊎_elim}
 use Rattle.std.specs.List.{All}
 use Rattle.std.proofs.lemmas.Bool.{cond-false, cond-true}
-use Rattle.dex_fold.proofs.Common.{Address, All-head, All-nil, Call, cases_Bool, is_same, is_same-refl, is_same-sym}
+use Rattle.dex_fold.proofs.Common.{Address, All-head, All-nil, All-weaker, Call, cases_Bool, is_same, is_same-refl, is_same-sym}
 use Rattle.dex_types.specs.Wallets.{is_lower, with_address}
 use Rattle.dex_history.proofs.AddressOrder.{AreRising, with_address-rising}
-use Rattle.dex_turns.proofs.Common.{GateView, MarketOrigin, Stamped}
+use Rattle.dex_turns.proofs.Common.{BankMarketState, GateView, Idle, MarketOrigin, Stamped}
+use Rattle.std.proofs.lemmas.List.Elements.{All-set}
+use Rattle.dex_turns.specs.Turns.{AreIdle, HoldsTurn, IsAboveMarkets, IsBelow, IsHomeAt, IsOutAt}
 use Rattle.dex_turns.specs.declared.two_turns.TwoTurns.{TwoTurns}
 use Rattle.dex_turns.specs.Submitted.{Where}
 use Rattle.dex_turns.specs.TwoTurns.{HaveTaken, exchanged}
@@ -28,6 +30,27 @@ exchanged-taken one two place next before after last turns apart taken = record 
   market_next = taken.market;
   stamp = taken.stamp;
 }
+
+abbrev pub IsHeldBelow : GateView (Stamped Call) MarketOrigin → MarketPass → Type 0
+IsHeldBelow gate pass = HoldsTurn pass → (other : GateView (Stamped Call) MarketOrigin) → pass.gate ≡ Some other → IsBelow other gate
+
+-- where no turn of a market is out, each is above all
+pub idle-below : (gate : GateView (Stamped Call) MarketOrigin) (passes : List MarketPass) → AreIdle passes → IsAboveMarkets gate passes
+idle-below gate passes idle =
+    All-weaker (λ (pass : MarketPass). pass.stage ≡ Idle) (IsHeldBelow gate) (λ pass is holds other at. absurd (holds is)) passes idle
+
+-- where the lower market's turn alone is out, the higher one is above all whose turns the lane has
+pub taken-below : (lower higher : GateView (Stamped Call) MarketOrigin) (place : ℕ) (before after : List MarketPass) (market : BankMarketState) → IsBelow lower higher
+    → AreIdle before → IsHomeAt lower place before → IsOutAt lower place before after market → IsAboveMarkets higher after
+taken-below lower higher place before after market order idle home out =
+    subst (All (IsHeldBelow higher)) (sym out.is)
+    (All-set (IsHeldBelow higher) before place out.out one (idle-below higher before idle))
+  where
+    one : IsHeldBelow higher out.out
+    one holds other at =
+        let both : Some lower ≡ Some other = sym (ap (λ (p : MarketPass). p.gate) (out.taken out.out).pass ∙ home.home out.out) ∙ at in
+        let other_is : other ≡ lower = (cc) in
+        subst (λ (gate : GateView (Stamped Call) MarketOrigin). IsBelow gate higher) (sym other_is) order
 
 -- ---- which of two addresses is the lower
 

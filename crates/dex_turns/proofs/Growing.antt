@@ -1,7 +1,10 @@
 -- Passes in declared order, one of which takes a turn.
 use Rattle.std.proofs.Common.{◌≡◌, ℕ, zero, suc, ◌<◌, ◌≤◌, Bool, true, false, ◌||◌, List, [], ◌∷◌, ◌++◌, length, set, get_or, Some, refl, sym, ap, ◌∙◌, subst, arith}
-use Rattle.dex_fold.proofs.Common.{Address, AllZip, PlainAccount, WalletEntry, false≢true, is_same, is_same-refl, is_same-sym, list_any, or_parts, or_right}
+use Rattle.dex_fold.proofs.Common.{Address, All-tail, AllZip, PlainAccount, WalletEntry, false≢true, is_same, is_same-refl, is_same-sym, list_any, or_parts, or_right}
 use Rattle.dex_turns.proofs.Common.{AllThree, GateView, IsPass, MayDraw, OneGrows, PassView, PlainScript, Stamped, WalletOrigin, Where}
+use Rattle.std.specs.List.{All}
+use Rattle.dex_turns.proofs.Rising.{IsAbove, rising-once}
+use Rattle.dex_turns.specs.Turns.{AreRising}
 use Rattle.dex_turns.specs.Submitted.{HasMade}
 use Rattle.dex_turns.specs.Submitted.{HasWritten, Written}
 
@@ -66,31 +69,34 @@ module _ (address : Address) (others : List Address) where
       number = each.0.number;
       idle = λ among. each.0.idle (or_right (is_same start.address address) (list_any (is_same start.address) others) among);
       left = λ among. each.0.left (or_right (is_same start.address address) (list_any (is_same start.address) others) among);
+      below = λ holds. All-tail (IsAbove start.address) address others (each.0.below holds);
     },
     drawn-weaker script lane starts passes each.1,
   )
 
   pub drawn-ready : (script : PlainScript) (lane : ℕ) (starts : List PlainAccount) (passes : List WalletPass) (place : ℕ) (out : WalletPass)
-      → AllZip (MayDraw script lane (address ∷ others)) starts passes → list_any (is_same address) others ≡ false → place < length starts
+      → AllZip (MayDraw script lane (address ∷ others)) starts passes → AreRising (address ∷ others) → place < length starts
       → ((d : PlainAccount) → (get_or starts place d).address ≡ address) → ((d : WalletPass) → out.number ≡ (get_or passes place d).number)
       → AllZip (MayDraw script lane others) starts (set passes place out)
-  drawn-ready script lane [] passes place out each none within here same = absurd (omega (arith, within))
-  drawn-ready script lane (start ∷ starts) [] place out each none within here same = absurd each
-  drawn-ready script lane (start ∷ starts) (pass ∷ passes) zero out each none within here same = (
+  drawn-ready script lane [] passes place out each rising within here same = absurd (omega (arith, within))
+  drawn-ready script lane (start ∷ starts) [] place out each rising within here same = absurd each
+  drawn-ready script lane (start ∷ starts) (pass ∷ passes) zero out each rising within here same = (
     record {
       number = same pass ∙ each.0.number;
-      idle = λ among. absurd (false≢true (sym none ∙ ap (λ (a : Address). list_any (is_same a) others) (sym (here start)) ∙ among));
-      left = λ among. absurd (false≢true (sym none ∙ ap (λ (a : Address). list_any (is_same a) others) (sym (here start)) ∙ among));
+      idle = λ among. absurd (false≢true (sym (rising-once (address ∷ others) rising).0 ∙ ap (λ (a : Address). list_any (is_same a) others) (sym (here start)) ∙ among));
+      left = λ among. absurd (false≢true (sym (rising-once (address ∷ others) rising).0 ∙ ap (λ (a : Address). list_any (is_same a) others) (sym (here start)) ∙ among));
+      below = λ holds. subst (λ (a : Address). All (IsAbove a) others) (sym (here start)) rising.0;
     },
     drawn-weaker script lane starts passes each.1,
   )
-  drawn-ready script lane (start ∷ starts) (pass ∷ passes) (suc place) out each none within here same = (
+  drawn-ready script lane (start ∷ starts) (pass ∷ passes) (suc place) out each rising within here same = (
     record {
       number = each.0.number;
       idle = λ among. each.0.idle (or_right (is_same start.address address) (list_any (is_same start.address) others) among);
       left = λ among. each.0.left (or_right (is_same start.address address) (list_any (is_same start.address) others) among);
+      below = λ holds. All-tail (IsAbove start.address) address others (each.0.below holds);
     },
-    drawn-ready script lane starts passes place out each.1 none (omega (arith, within)) here same,
+    drawn-ready script lane starts passes place out each.1 rising (omega (arith, within)) here same,
   )
 
   -- another wallet's pass grows as it did

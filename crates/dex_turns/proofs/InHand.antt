@@ -11,7 +11,8 @@ use Rattle.dex_act.proofs.Sights.{row-sees, sees-cells}
 use Rattle.dex_act.proofs.CellLists.{is_among-any}
 use Rattle.dex_fold.proofs.KeptMoves.{moves-kept}
 use Rattle.dex_turns.specs.Submitted.{written_by}
-use Rattle.dex_turns.specs.Turns.{AreOnce, IsOfStart}
+use Rattle.dex_turns.specs.Turns.{IsOfStart}
+use Rattle.dex_turns.proofs.Rising.{AreOnce}
 
 abbrev address_in : CellState → Address
 address_in cell = cell.address

@@ -1,5 +1,5 @@
 -- The wallets of two legs are those that the two name, each once.
-use Rattle.std.proofs.Common.{◌≡◌, Bool, true, false, ◌||◌, List, [], ◌∷◌, map, None, Option, refl, sym, ap, ◌∙◌, subst}
+use Rattle.std.proofs.Common.{◌≡◌, Bool, true, false, ◌||◌, List, [], map, None, Option, refl, sym, ap, ◌∙◌, subst}
 use Rattle.dex_fold.proofs.Common.{Address, All-weaker, PlainRow, is_same, list_any, names}
 use Rattle.dex_turns.proofs.Common.{All-unmap, CellState, IsRowOf, PlainScript, has_account, roles-all}
 use Rattle.std.specs.List.{All}
@@ -7,11 +7,10 @@ use Rattle.std.proofs.lemmas.List.{append-nil}
 use Rattle.dex_types.specs.Wallets.{row_wallets, with_role}
 use Rattle.dex_fold.specs.Fold.{is_role}
 use Rattle.dex_fold.proofs.NameLaws.{any-with_role, names-roles}
-use Rattle.dex_fold.proofs.OnceLaws as once
-use Rattle.dex_history.specs.Journal.{asked_of}
 use Rattle.dex_script_facts.specs.Facts.{AreLegs}
-use Rattle.dex_turns.specs.Turns.{AreInHand, AreOnce, MayName, leg_wallets}
+use Rattle.dex_turns.specs.Turns.{AreInHand, MayName, leg_wallets}
 use Rattle.dex_turns.proofs.InHand.{each-any}
+use Rattle.dex_turns.proofs.Rising.{AreOnce, legs-rising, rising-once, row-rising}
 
 -- a wallet is one of these just where one of the legs names it
 pub leg-named : (first second : PlainRow) → first.discount ≡ None → first.referrer ≡ None → second.discount ≡ None → second.referrer ≡ None
@@ -38,18 +37,14 @@ leg-named first second first_discount first_referrer second_discount second_refe
 
 -- ---- once
 
-pub once-of : (addresses : List Address) → once.AreOnce addresses → AreOnce addresses
-once-of [] is = tt
-once-of (first ∷ others) is = (once.once-head first others is, once-of others (once.once-tail first others is))
-
 pub row-once : (row : PlainRow) → AreOnce (row_wallets row)
-row-once row = once-of (row_wallets row) (once.asked-once (asked_of row))
+row-once row = rising-once (row_wallets row) (row-rising row)
 
 -- the wallets of a row may be named
 pub row-names : (script : PlainScript) (row : PlainRow) → IsRowOf script.start row → MayName script (row_wallets row)
 row-names script row fits = record {
   known = roles-all (λ (address : Address). has_account address script.start.wallets ≡ true) script.start (λ address is. is) row fits;
-  once = row-once row;
+  rising = row-rising row;
 }
 
 -- a row that names the wallets of both legs
@@ -71,7 +66,7 @@ module _ (first second : PlainRow) (legs : AreLegs first second) where
       or-true false = refl
 
   pub leg-once : AreOnce (leg_wallets first second)
-  leg-once = once-of (leg_wallets first second) (once.roles-once first.coin first.pc second.coin second.pc)
+  leg-once = rising-once (leg_wallets first second) (legs-rising first second)
 
   -- each cell in hand is named by one of them
   pub each-named : (script : PlainScript) (cells : List CellState) → AreInHand script (leg_wallets first second) [] cells
@@ -95,5 +90,5 @@ module _ (first second : PlainRow) (legs : AreLegs first second) where
       named = first_fits.named;
       bytes = first_fits.bytes;
     });
-    once = leg-once;
+    rising = legs-rising first second;
   }

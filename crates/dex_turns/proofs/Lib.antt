@@ -1,6 +1,8 @@
 pub mod Common
 mod FewLanes
 mod Placed
+mod Rising
+mod Examples
 mod Counts
 mod Growing
 mod Distinct

@@ -32,6 +32,7 @@ draws script lane other calls others (start ∷ starts) (p ∷ passes) same free
     idle = λ among. all.0.idle;
     left = λ among.
         subst (λ (made : List (Stamped WalletEntry)). length made < length (rows_of_wallet other start.address script.rows)) (sym all.0.mine) (free start.address among);
+    below = λ holds. absurd (holds all.0.idle);
   },
   draws script lane other calls others starts passes same free all.1,
 )

@@ -12,7 +12,9 @@ use Rattle.dex_journals.specs.Journals.{wallet_origin}
 use Rattle.dex_journals.proofs.WalletLaws.{spare-wallet}
 use Rattle.dex_script_facts.proofs.PlacedLaws.{wallet-placed}
 use Rattle.dex_script_facts.specs.Places.{wallet_place}
-use Rattle.dex_turns.specs.Turns.{AreOnce, IsOut, MayName, first_in}
+use Rattle.dex_turns.specs.Turns.{AreRising, IsAboveWallets, IsOut, IsWalletOutAt, MayName, first_in}
+use Rattle.dex_types.specs.Wallets.{is_lower}
+use Rattle.dex_turns.proofs.Rising.{IsAbove, rising-behind, rising-once}
 use Rattle.dex_turns.proofs.Counts.{length-stamped}
 use Rattle.dex_turns.proofs.Distinct.{wallets-differ}
 use Rattle.dex_turns.proofs.Growing.{Differ, IsAtGate, WalletPass, drawn-ready, gates-set, one-grows, still-out}
@@ -60,10 +62,6 @@ all-midst P (y ∷ before) x behind all = all-midst P before x behind (All-tail 
 
 -- ---- the wallets of an item
 
-once-behind : (front behind : List Address) → AreOnce (front ++ behind) → AreOnce behind
-once-behind [] behind once = once
-once-behind (first ∷ front) behind once = once-behind front behind once.1
-
 abbrev address_in : CellState → Address
 address_in cell = cell.address
 
@@ -80,9 +78,12 @@ module _ (bank : BankState) (named : List Address) (lane : ℕ) (address : Addre
       all-midst (λ (a : Address). list_any (is_same a) named ≡ true) (map address_in hands) address others
       (subst (All (λ (a : Address). list_any (is_same a) named ≡ true)) (sym hand.are) (each-any named))
 
-  -- and none of those behind it
+  -- and lower than those behind it, so none of them
+  rising : AreRising (address ∷ others)
+  rising = rising-behind (map address_in hands) (address ∷ others) (subst AreRising (sym hand.are) may.rising)
+
   pub none : list_any (is_same address) others ≡ false
-  none = (once-behind (map address_in hands) (address ∷ others) (subst AreOnce (sym hand.are) may.once)).0
+  none = (rising-once (address ∷ others) rising).0
 
   module _ (kept : IsBank bank) (place : ℕ) (at : IsPlace address (wallet_addresses bank.script) place) where
     pub within : place < length starts
@@ -104,6 +105,26 @@ module _ (bank : BankState) (named : List Address) (lane : ℕ) (address : Addre
     idle-at d p =
         (zip-at (MayDraw bank.script lane (address ∷ others)) starts passes place d p ready.each within).idle
         (ap (λ (a : Address). list_any (is_same a) (address ∷ others)) (here d) ∙ or_left (is_same address address) (list_any (is_same address) others) (is_same-refl address))
+
+    -- the wallets whose turns are out are below it
+    pub above : (gate : GateView (Stamped WalletEntry) WalletOrigin) → gate ≡ get_or bank.wallets place gate → IsAboveWallets gate passes
+    above gate gate_is k p behind holds other at =
+        let account : PlainAccount = record { address = address; bytes = [] } in
+        let behind_starts : k < length starts = omega (arith, behind, AllZip-long (MayDraw bank.script lane (address ∷ others)) starts passes ready.each) in
+        let behind_gates : k < length bank.wallets = omega (arith, behind_starts, AllZip-long (IsWalletGate bank.script) starts bank.wallets kept.wallets) in
+        let may_draw = zip-at (MayDraw bank.script lane (address ∷ others)) starts passes k account p ready.each behind_starts in
+        let both : Some (get_or bank.wallets k other) ≡ Some other = sym (zip-at IsAtGate bank.wallets passes k other p ready.gates behind_gates) ∙ at in
+        let other_is : other ≡ get_or bank.wallets k other = (cc) in
+        let other_start : other.origin.start.address ≡ (get_or starts k account).address =
+        ap (λ (g : GateView (Stamped WalletEntry) WalletOrigin). g.origin.start.address) other_is
+        ∙ ap (λ (o : WalletOrigin). o.start.address) (zip-at (IsWalletGate bank.script) starts bank.wallets k account other kept.wallets behind_starts).origin in
+        let own_start : gate.origin.start.address ≡ address =
+        ap (λ (g : GateView (Stamped WalletEntry) WalletOrigin). g.origin.start.address) gate_is
+        ∙ ap (λ (o : WalletOrigin). o.start.address) (zip-at (IsWalletGate bank.script) starts bank.wallets place account gate kept.wallets within).origin
+        ∙ here account in
+        subst (λ (a : Address). is_lower a gate.origin.start.address ≡ true) (sym other_start)
+        (subst (λ (a : Address). is_lower (get_or starts k account).address a ≡ true) (sym own_start)
+        (All-head (IsAbove (get_or starts k account).address) address others (may_draw.below holds)))
 
     -- its turn is out
     module _ (d : PlainAccount) (gate : GateView (Stamped WalletEntry) WalletOrigin) (before out : WalletPass) (trail : TrailState)
@@ -189,7 +210,7 @@ module _ (bank : BankState) (named : List Address) (lane : ℕ) (address : Addre
                 gates-set bank.wallets passes place out ready.gates
                 (λ p. ap (λ (x : Pass). x.gate) is_out.pass ∙ ap (λ (x : Pass). x.gate) before_is ∙ ap (λ (x : Pass). x.gate) (same-get passes place before p within-passes));
             each =
-                drawn-ready address others bank.script lane starts passes place out ready.each none within here
+                drawn-ready address others bank.script lane starts passes place out ready.each rising within here
                 (λ p. ap (λ (x : Pass). x.number) is_out.pass ∙ ap (λ (x : Pass). x.number) (before_is ∙ same-get passes place before p within-passes));
           }
 
@@ -234,7 +255,8 @@ module _ (bank : BankState) (named : List Address) (lane : ℕ) (address : Addre
 
 -- what was known before it, and what was taken
 pub record Facts (bank : BankState) (named : List Address) (lane : ℕ) (address : Address) (others : List Address) (hands : List CellState)
-    (passes : List WalletPass) (place : ℕ) (gate : GateView (Stamped WalletEntry) WalletOrigin) (before out : WalletPass) (trail : TrailState) : Type 0 where
+    (passes taken : List WalletPass) (place : ℕ) (gate : GateView (Stamped WalletEntry) WalletOrigin) (before out : WalletPass) (trail : TrailState) : Type 0 where
+  pub taken_is : taken ≡ set passes place out
   pub may : MayName bank.script named
   pub hand : AreInHand bank.script named (address ∷ others) hands
   pub ready : AreReady bank lane (address ∷ others) passes
@@ -245,8 +267,8 @@ pub record Facts (bank : BankState) (named : List Address) (lane : ℕ) (address
   pub is_out : IsOut gate before out trail
 
 module _ {bank : BankState} {named : List Address} {lane : ℕ} {address : Address} {others : List Address} {hands : List CellState}
-    {passes : List WalletPass} {place : ℕ} {gate : GateView (Stamped WalletEntry) WalletOrigin} {before out : WalletPass} {trail : TrailState}
-    (f : Facts bank named lane address others hands passes place gate before out trail) where
+    {passes taken : List WalletPass} {place : ℕ} {gate : GateView (Stamped WalletEntry) WalletOrigin} {before out : WalletPass} {trail : TrailState}
+    (f : Facts bank named lane address others hands passes taken place gate before out trail) where
   abbrev any_start : PlainAccount
   any_start = record { address = address; bytes = [] }
 
@@ -254,11 +276,15 @@ module _ {bank : BankState} {named : List Address} {lane : ℕ} {address : Addre
   facts-hand =
       in-hand bank named lane address others hands passes f.may f.hand f.ready f.kept place f.at any_start gate before out trail f.gate_is f.before_is f.is_out
 
-  pub facts-ready : AreReady bank lane others (set passes place out)
+  pub facts-ready : AreReady bank lane others taken
   facts-ready =
-      ready-others bank named lane address others hands passes f.may f.hand f.ready f.kept place f.at any_start gate before out trail f.gate_is f.before_is f.is_out
+      subst (AreReady bank lane others) (sym f.taken_is)
+      (ready-others bank named lane address others hands passes f.may f.hand f.ready f.kept place f.at any_start gate before out trail f.gate_is f.before_is f.is_out)
 
-  module _ (written : Written) (mid : List WalletPass) (asked : written.lane ≡ lane) (grown : HaveGrown bank others written (set passes place out) mid) where
+  module _ (written : Written) (mid : List WalletPass) (asked : written.lane ≡ lane) (have_grown : HaveGrown bank others written taken mid) where
+    grown : HaveGrown bank others written (set passes place out) mid
+    grown = subst (λ (l : List WalletPass). HaveGrown bank others written l mid) f.taken_is have_grown
+
     pub facts-mid : place < length mid
     facts-mid =
         within-mid bank named lane address others hands passes f.may f.hand f.ready f.kept place f.at any_start gate before out trail f.gate_is f.before_is f.is_out written mid asked
@@ -316,18 +342,19 @@ grown-none written (start ∷ starts) (p ∷ passes) long = (refl, grown-none wr
 
 -- ---- all that is known, as it is known before the turn
 
-pub facts-of : (bank : BankState) (named : List Address) (lane : ℕ) (address : Address) (others : List (Option Address)) (hands : List CellState) (passes : List WalletPass) (place : ℕ)
-    (gate : GateView (Stamped WalletEntry) WalletOrigin) (before out : WalletPass) (trail : TrailState) → first_in others ≡ Some address → MayName bank.script named
+pub facts-of : (bank : BankState) (named : List Address) (lane : ℕ) (address : Address) (others : List (Option Address)) (hands : List CellState) (passes taken : List WalletPass)
+    (place : ℕ) (gate : GateView (Stamped WalletEntry) WalletOrigin) (trail : TrailState) → first_in others ≡ Some address → MayName bank.script named
     → AreInHand bank.script named (front others) hands → AreReady bank lane (front others) passes → IsBank bank → wallet_place address bank.script.start.wallets ≡ Some place
-    → gate ≡ get_or bank.wallets place gate → before ≡ get_or passes place before → IsOut gate before out trail
-    → Facts bank named lane address (front (rest_of others)) hands passes place gate before out trail
-facts-of bank named lane address others hands passes place gate before out trail first may hand ready kept at gate_is before_is is_out = record {
+    → gate ≡ get_or bank.wallets place gate → place < length passes → (out : IsWalletOutAt gate place passes taken trail)
+    → Facts bank named lane address (front (rest_of others)) hands passes taken place gate (get_or passes place out.out) out.out trail
+facts-of bank named lane address others hands passes taken place gate trail first may hand ready kept at gate_is within out = record {
+  taken_is = out.is;
   may = may;
   hand = subst (λ (l : List Address). AreInHand bank.script named l hands) (front-some others address first) hand;
   ready = subst (λ (l : List Address). AreReady bank lane l passes) (front-some others address first) ready;
   kept = kept;
   at = wallet-placed bank.script address place at;
   gate_is = gate_is;
-  before_is = before_is;
-  is_out = is_out;
+  before_is = same-get passes place out.out (get_or passes place out.out) within;
+  is_out = out.taken out.out;
 }

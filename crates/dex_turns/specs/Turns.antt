@@ -37,6 +37,37 @@ use Rattle.dex_turns.specs.declared.legs.TwoMarkets.{TwoMarkets}
 use Rattle.dex_turns.specs.Bank.{BankState}
 use Rattle.dex_turns.specs.Submitted.{AreLegReplies, HasWritten, Where, Written}
 
+-- ---- the order of turns
+
+-- a pass holds a ticket, or its turn is out
+abbrev pub HoldsTurn : {E O : Type 0} → PassView E O → Type 0
+HoldsTurn pass = pass.stage ≡ Idle → ⊥
+
+-- the market of a gate has a lower address than that of another
+abbrev pub IsBelow : GateView (Stamped Call) MarketOrigin → GateView (Stamped Call) MarketOrigin → Type 0
+IsBelow one two = is_lower one.origin.start.address two.origin.start.address ≡ true
+
+-- a market's gate is above all of these passes that hold turns: theirs are of markets of lower addresses
+abbrev pub IsAboveMarkets : GateView (Stamped Call) MarketOrigin → List (PassView (Stamped Call) MarketOrigin) → Type 0
+IsAboveMarkets gate passes =
+    All (λ (pass : PassView (Stamped Call) MarketOrigin). HoldsTurn pass → (other : GateView (Stamped Call) MarketOrigin)
+    → pass.gate ≡ Some other → IsBelow other gate) passes
+
+-- a wallet's gate, likewise
+abbrev pub IsAboveWallets : GateView (Stamped WalletEntry) WalletOrigin → List (PassView (Stamped WalletEntry) WalletOrigin) → Type 0
+IsAboveWallets gate passes =
+    All (λ (pass : PassView (Stamped WalletEntry) WalletOrigin). HoldsTurn pass → (other : GateView (Stamped WalletEntry) WalletOrigin)
+    → pass.gate ≡ Some other → is_lower other.origin.start.address gate.origin.start.address ≡ true) passes
+
+-- none of these passes holds a turn
+abbrev pub AreIdle : List (PassView (Stamped Call) MarketOrigin) → Type 0
+AreIdle passes = All (λ (pass : PassView (Stamped Call) MarketOrigin). pass.stage ≡ Idle) passes
+
+-- addresses that rise
+abbrev pub AreRising : List Address → Type 0
+AreRising [] = Unit {0}
+AreRising (address ∷ others) = All (λ (other : Address). is_lower address other ≡ true) others × AreRising others
+
 -- ---- its market
 
 -- the market is the row's, and its lane may call once more
@@ -87,11 +118,10 @@ pub record MayEnterAt (bank : BankState) (row : PlainRow) (passes : List (PassVi
       → MayEnter bank.script row (slice_index_or bank.markets place gate) (slice_index_or passes place pass)
 
 -- the pass at a place is of this gate, and holds no ticket
-pub record IsHomeAt (gate : GateView (Stamped Call) MarketOrigin) (place : ℕ) (passes : List (PassView (Stamped Call) MarketOrigin))
-    : Type 0 where
+pub record IsHomeAt {E O : Type 0} (gate : GateView E O) (place : ℕ) (passes : List (PassView E O)) : Type 0 where
   pub within : place < length passes
-  pub home : (pass : PassView (Stamped Call) MarketOrigin) → (slice_index_or passes place pass).gate ≡ Some gate
-  pub idle : (pass : PassView (Stamped Call) MarketOrigin) → (slice_index_or passes place pass).stage ≡ Idle
+  pub home : (pass : PassView E O) → (slice_index_or passes place pass).gate ≡ Some gate
+  pub idle : (pass : PassView E O) → (slice_index_or passes place pass).stage ≡ Idle
 
 -- what stays behind of the turn of the pass at a place
 abbrev pub IsAwayFor : GateView (Stamped Call) MarketOrigin → ℕ → List (PassView (Stamped Call) MarketOrigin) → BankMarketState
@@ -121,10 +151,6 @@ abbrev pub HasSeenAt : ℕ → List (PassView (Stamped Call) MarketOrigin) → L
 HasSeenAt place passes calls =
     (pass : PassView (Stamped Call) MarketOrigin) → Extends (slice_index_or passes place pass).seen calls
 
--- the market of a gate has a lower address than that of another
-abbrev pub IsBelow : GateView (Stamped Call) MarketOrigin → GateView (Stamped Call) MarketOrigin → Type 0
-IsBelow one two = is_lower one.origin.start.address two.origin.start.address ≡ true
-
 -- the turn of the market at a place is out, and the other passes are as they were
 pub record IsOutAt (gate : GateView (Stamped Call) MarketOrigin) (place : ℕ)
     (before after : List (PassView (Stamped Call) MarketOrigin)) (market : BankMarketState) : Type 0 where
@@ -144,15 +170,10 @@ pub record AreOutAt (one two : GateView (Stamped Call) MarketOrigin) (place next
 
 -- ---- its wallets
 
--- addresses of which each stands once
-abbrev pub AreOnce : List Address → Type 0
-AreOnce [] = Unit {0}
-AreOnce (address ∷ others) = (list_any (is_same address) others ≡ false) × AreOnce others
-
--- the rows of an item may name these wallets: each is one of the script's, and stands once
+-- the rows of an item may name these wallets: each is one of the script's, and they rise
 pub record MayName (script : PlainScript) (named : List Address) : Type 0 where
   pub known : All (λ (address : Address). has_account address script.start.wallets ≡ true) named
-  pub once : AreOnce named
+  pub rising : AreRising named
 
 -- the markets of two legs, by rising address
 abbrev pub leg_markets : PlainRow → PlainRow → List Address
@@ -207,13 +228,14 @@ pub record HasEntry (written : Written) (before after : CellState) : Type 0 wher
 -- ---- the passes for its wallets
 
 -- a pass is of the lane, and where its wallet is still to come it holds no ticket, and its lane has made fewer entries there than it
--- has rows that name the wallet
+-- has rows that name the wallet; where it holds a turn its wallet is below all that are still to come
 pub record MayDraw (script : PlainScript) (lane : ℕ) (others : List Address) (start : PlainAccount)
     (pass : PassView (Stamped WalletEntry) WalletOrigin) : Type 0 where
   pub number : pass.number ≡ lane
   pub idle : list_any (is_same start.address) others ≡ true → pass.stage ≡ Idle
   pub left : list_any (is_same start.address) others ≡ true
       → length pass.mine < length (rows_of_wallet lane start.address script.rows)
+  pub below : HoldsTurn pass → All (λ (other : Address). is_lower start.address other ≡ true) others
 
 -- the passes are those of this bank's gates, and may draw
 pub record AreReady (bank : BankState) (lane : ℕ) (others : List Address)
@@ -244,6 +266,20 @@ pub record IsOut (gate : GateView (Stamped WalletEntry) WalletOrigin)
   pub mine : of_lane (λ (entry : Stamped WalletEntry). entry.item.lane) before.number
       (added gate.opening (wallet_entries (left_by trail))) ≡ before.mine
   pub kept : IsBankWallet (left_by trail)
+
+-- the turn of the wallet at a place is out, and the other passes are as they were
+pub record IsWalletOutAt (gate : GateView (Stamped WalletEntry) WalletOrigin) (place : ℕ)
+    (before after : List (PassView (Stamped WalletEntry) WalletOrigin)) (trail : TrailState) : Type 0 where
+  pub out : PassView (Stamped WalletEntry) WalletOrigin
+  pub is : after ≡ slice_set before place out
+  pub taken : (pass : PassView (Stamped WalletEntry) WalletOrigin) → IsOut gate (slice_index_or before place pass) out trail
+
+-- what stays behind of it
+abbrev pub IsWalletAwayFor : GateView (Stamped WalletEntry) WalletOrigin → ℕ → List (PassView (Stamped WalletEntry) WalletOrigin)
+    → TrailState → AwayView (Stamped WalletEntry) WalletOrigin → Type 0
+IsWalletAwayFor gate place passes trail away =
+    (pass : PassView (Stamped WalletEntry) WalletOrigin)
+    → away ≡ record { gate = Some gate; number = (slice_index_or passes place pass).number; start = wallet_entries (left_by trail) }
 
 -- the item's entry may be given back with the cell
 pub record MayLeave (written : Written) (gate : GateView (Stamped WalletEntry) WalletOrigin)

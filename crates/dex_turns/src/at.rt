@@ -13,8 +13,8 @@ ghost use Rattle.dex_turns.specs.Bank.{IsBank};
 ghost use Rattle.dex_turns.specs.Inside.{call_made, written_of};
 ghost use Rattle.dex_turns.specs.Legs.{legs_written, one_made, two_made};
 ghost use Rattle.dex_turns.specs.Submitted.{HasCalled, LegMarketGrows};
-ghost use Rattle.dex_turns.specs.Turns.{AreInHand, AreLegsPlaced, AreReady, HasEntry, HaveGrown, IsTold, IsWritten};
-ghost use Rattle.dex_turns.specs.Turns.{HaveLegsTold, MayEnter, MayEnterAt, MayName, leg_wallets};
+ghost use Rattle.dex_turns.specs.Turns.{AreIdle, AreInHand, AreLegsPlaced, AreReady, HasEntry, HaveGrown};
+ghost use Rattle.dex_turns.specs.Turns.{HaveLegsTold, IsTold, IsWritten, MayEnter, MayEnterAt, MayName, leg_wallets};
 
 use crate::acts::Acts;
 use crate::alone::RowAlone;
@@ -23,7 +23,7 @@ use crate::legs::{SwapLegs, TwoMarkets, TwoRecords};
 use crate::pair::plan_pair;
 use crate::seat::WalletPasses;
 use crate::stamped_record::StampedRecord;
-use crate::turns::{first_of, leave_wallet, take_from_hand, take_market, take_wallet};
+use crate::turns::{first_of, leave_wallet, take_from_hand, take_market, take_wallet_at};
 use crate::two_turns::{Entrance, TwoTurns, leave_at, take_two};
 use dex_gate::{Gate, Pass};
 use dex_io::Pace;
@@ -91,6 +91,7 @@ impl<'a, R: Wait> At<'a, R> {
         requires second { MayEnterAt self.now.bank.now (row_of legs.now.second.now) markets.old.items
             legs.now.second_places.now.market }
         requires markets { length markets.old.items ≡ length self.now.bank.now.script.start.markets }
+        requires idle { AreIdle markets.old.items }
         requires named { MayName self.now.bank.now.script
             (leg_wallets (row_of legs.now.first.now) (row_of legs.now.second.now)) }
         requires passes { AreReady self.now.bank.now legs.now.first.now.lane
@@ -160,7 +161,7 @@ impl<'a, R: Wait> At<'a, R> {
             Some(address) => {
                 let place = item.place(address);
                 let gate = self.bank.wallet_gate(place);
-                let (cell, trail, away) = take_wallet(self.rt, gate, &mut wallets.passes[place]);
+                let (cell, trail, away) = take_wallet_at(self.rt, gate, &mut wallets.passes, place);
                 let later = trail.later(stamp);
                 wallets.hands.push_reserved(cell);
                 let rest = &others[1..];

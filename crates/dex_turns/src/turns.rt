@@ -5,7 +5,8 @@ ghost use Rattle.dex_gate.specs.declared.stage.Stage.TheVariants.{Idle, Out};
 ghost use Rattle.dex_gate.specs.History.{Extends, added, of_lane};
 ghost use Rattle.dex_journals.specs.Journals.{left_by, market_calls, wallet_entries};
 ghost use Rattle.dex_turns.specs.Submitted.{Written};
-ghost use Rattle.dex_turns.specs.Turns.{HasLeft, IsMarketOut, IsOut, MayLeave, first_in};
+ghost use Rattle.dex_turns.specs.Turns.{HasLeft, IsAboveWallets, IsHomeAt, IsMarketOut, IsOut, IsWalletAwayFor};
+ghost use Rattle.dex_turns.specs.Turns.{IsWalletOutAt, MayLeave, first_in};
 
 use dex_gate::{Away, Gate, Journaled, Pass, Turn};
 use dex_journals::{BankMarket, BankWallet, WalletTrail};
@@ -53,7 +54,7 @@ pub(crate) fn take_market<R: Wait>(
 }
 
 /// Waits for the turn of a wallet, and takes its cell out.
-pub(crate) fn take_wallet<R: Wait>(
+fn take_wallet<R: Wait>(
     rt: &R,
     gate: &Gate<BankWallet>,
     pass: &mut Pass<BankWallet>,
@@ -71,6 +72,23 @@ pub(crate) fn take_wallet<R: Wait>(
     let (wallet, away) = turn_at(rt, gate, pass).take();
     let (cell, trail) = wallet.into_parts();
     (cell, trail, away)
+}
+
+/// Waits for the turn of the wallet at a place, which is above all wallets whose turns the lane has, and takes its cell
+/// out.
+pub(crate) fn take_wallet_at<R: Wait>(
+    rt: &R,
+    gate: &Gate<BankWallet>,
+    passes: &mut Vec<Pass<BankWallet>>,
+    place: usize,
+) -> (WalletCell, WalletTrail, Away<BankWallet>)
+    requires home { IsHomeAt gate.now place passes.old.items }
+    requires rising { IsAboveWallets gate.now passes.old.items }
+    ensures cell { result.0 ≡ result.1.before }
+    ensures out { IsWalletOutAt gate.now place passes.old.items passes.new.items result.1 }
+    ensures away { IsWalletAwayFor gate.now place passes.old.items result.1 result.2 }
+{
+    take_wallet(rt, gate, &mut passes[place])
 }
 
 /// Puts the cell of a wallet back with an item's entry, and leaves the turn.

@@ -9,7 +9,8 @@ ghost use Rattle.dex_stamps.specs.Stamped.{Stamped};
 ghost use Rattle.dex_gate.specs.GateView.{GateView};
 ghost use Rattle.dex_turns.specs.Submitted.{Where};
 ghost use Rattle.dex_turns.specs.TwoTurns.{HaveTaken, exchanged};
-ghost use Rattle.dex_turns.specs.Turns.{HasSeenAt, IsAwayFor, IsBelow, IsHomeAt, IsOutAt, MayLeaveAt, left_with};
+ghost use Rattle.dex_turns.specs.Turns.{AreIdle, HasSeenAt, IsAboveMarkets, IsAwayFor, IsBelow, IsHomeAt, IsOutAt};
+ghost use Rattle.dex_turns.specs.Turns.{MayLeaveAt, left_with};
 
 use crate::bank::Bank;
 use crate::legs::TwoMarkets;
@@ -28,8 +29,8 @@ pub(crate) struct TwoTurns {
     pub(crate) stamp: Stamp,
 }
 
-/// Waits for the turn of the market at a place, and takes it out. The stamp is the later of this one and the market's
-/// last.
+/// Waits for the turn of the market at a place, which is above all markets whose turns the lane has, and takes it out.
+/// The stamp is the later of this one and the market's last.
 fn take_at<R: Wait>(
     rt: &R,
     gate: &Gate<BankMarket>,
@@ -38,6 +39,7 @@ fn take_at<R: Wait>(
     last: &Stamp,
 ) -> (BankMarket, Away<BankMarket>, Stamp)
     requires home { IsHomeAt gate.now place passes.old.items }
+    requires rising { IsAboveMarkets gate.now passes.old.items }
     ensures out { IsOutAt gate.now place passes.old.items passes.new.items result.0 }
     ensures away { IsAwayFor gate.now place passes.old.items result.0 result.1 }
     ensures market { result.0.last ≤ result.2.number }
@@ -69,7 +71,7 @@ impl<'a> Entrance<'a> {
     }
 }
 
-/// Waits for the turns of two markets, the lower address first, and takes them out.
+/// Waits for the turns of two markets, the lower address first, and takes them out. The lane has no turn of a market.
 fn take_rising<R: Wait>(
     rt: &R,
     lower: Entrance<'_>,
@@ -78,6 +80,7 @@ fn take_rising<R: Wait>(
     last: &Stamp,
 ) -> TwoTurns
     requires order { IsBelow lower.gate.now higher.gate.now }
+    requires idle { AreIdle passes.old.items }
     requires apart { lower.place ≡ higher.place → ⊥ }
     requires home { IsHomeAt lower.gate.now lower.place passes.old.items }
     requires home_next { IsHomeAt higher.gate.now higher.place passes.old.items }
@@ -108,6 +111,7 @@ pub(crate) fn take_two<R: Wait>(
     last: &Stamp,
 ) -> TwoTurns
     requires order { Where in_order (IsBelow one.gate.now two.gate.now) (IsBelow two.gate.now one.gate.now) }
+    requires idle { AreIdle passes.old.items }
     requires apart { one.place ≡ two.place → ⊥ }
     requires home { IsHomeAt one.gate.now one.place passes.old.items }
     requires home_next { IsHomeAt two.gate.now two.place passes.old.items }

@@ -3,7 +3,17 @@ use Rattle.dex_turns.proofs.Common.{market_calls}
 use Rattle.std.proofs.lemmas.List.{get_or-set_other}
 use Rattle.dex_turns.specs.Turns.{IsMarketOut}
 use Rattle.dex_turns.proofs.Entering.{MarketPass}
+use Rattle.dex_turns.proofs.Exchanging.{idle-below, taken-below}
 use Rattle.dex_turns.proofs.two_turns.take_rising.Goals as goal
+
+pub take_at-market-requires-clause-rising : goal.take_at-market-requires-clause-rising
+take_at-market-requires-clause-rising g c =
+    idle-below c.args.lower.gate.now c.args.passes.now.items c.requires.idle
+
+pub take_at-market_next-requires-clause-rising : goal.take_at-market_next-requires-clause-rising
+take_at-market_next-requires-clause-rising g c =
+    taken-below c.args.lower.gate.now c.args.higher.gate.now c.args.lower.place c.args.passes.now.items c.take_at-market.new.passes.items c.take_at-market.result.0
+    c.requires.order c.requires.idle c.requires.home c.take_at-market.ensures.out
 
 pub returns : goal.returns
 returns g c =

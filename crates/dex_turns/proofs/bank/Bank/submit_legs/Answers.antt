@@ -1,9 +1,10 @@
-use Rattle.std.proofs.Common.{[], ◌∷◌, ◌++◌, List, map, refl, sym, ap, ◌∙◌, subst, arith}
+use Rattle.std.proofs.Common.{◌≡◌, [], ◌∷◌, ◌++◌, List, map, refl, sym, ap, ◌∙◌, subst, arith}
 use Rattle.dex_fold.proofs.Common.{AllZip-long, Row, row_of}
-use Rattle.dex_turns.proofs.Common.{AreNext, HaveSubmitted, IsBank, IsMarketPass, IsSeatOf, call_made}
+use Rattle.dex_turns.proofs.Common.{AreNext, HaveSubmitted, IsBank, IsMarketPass, IsSeatOf, Idle, call_made}
 use Rattle.std.proofs.lemmas.List.{append_assoc, map-append}
 use Rattle.dex_turns.specs.Inside.{seat_inside}
 use Rattle.dex_turns.specs.declared.stamped_record.StampedRecord.{StampedRecord}
+use Rattle.dex_fold.proofs.MappedLists.{All-second}
 use Rattle.dex_turns.proofs.LegSeat as legs
 use Rattle.dex_turns.proofs.LegNames.{legs-name}
 use Rattle.dex_turns.proofs.LegReady.{legs-ready}
@@ -26,6 +27,12 @@ in_markets-made-requires-clause-second g c =
 pub in_markets-made-requires-clause-markets : goal.in_markets-made-requires-clause-markets
 in_markets-made-requires-clause-markets g c =
     AllZip-long (IsMarketPass c.seat.inside.lane (map call_made c.seat.inside.calls.items)) c.args.self.now.script.start.markets c.seat.inside.markets.items
+    (passes-kept c.args.self.now (row_of c.args.legs.now.first.now) (seat_inside c.seat.inside) (first-ahead (row_of c.args.legs.now.first.now) (row_of c.args.legs.now.second.now) (seat_inside c.seat.inside) (subst (AreNext (row_of c.args.legs.now.first.now) (row_of c.args.legs.now.second.now)) (sym c.seat.view_is) c.requires.legs)) (subst IsBank c.self.view_is c.self.invariant.bank) (subst (IsSeatOf c.args.self.now) (sym c.seat.view_is) c.requires.seat) c.seat.invariant.seat c.args.legs.now.first_places.now.market
+    (market-placed c.args.self.now.script c.args.legs.now.first.now.market c.args.legs.now.first_places.now.market c.requires.first.market))
+
+pub in_markets-made-requires-clause-idle : goal.in_markets-made-requires-clause-idle
+in_markets-made-requires-clause-idle g c =
+    All-second (IsMarketPass c.seat.inside.lane (map call_made c.seat.inside.calls.items)) (λ pass. pass.stage ≡ Idle) (λ start pass is. is.idle) c.args.self.now.script.start.markets c.seat.inside.markets.items
     (passes-kept c.args.self.now (row_of c.args.legs.now.first.now) (seat_inside c.seat.inside) (first-ahead (row_of c.args.legs.now.first.now) (row_of c.args.legs.now.second.now) (seat_inside c.seat.inside) (subst (AreNext (row_of c.args.legs.now.first.now) (row_of c.args.legs.now.second.now)) (sym c.seat.view_is) c.requires.legs)) (subst IsBank c.self.view_is c.self.invariant.bank) (subst (IsSeatOf c.args.self.now) (sym c.seat.view_is) c.requires.seat) c.seat.invariant.seat c.args.legs.now.first_places.now.market
     (market-placed c.args.self.now.script c.args.legs.now.first.now.market c.args.legs.now.first_places.now.market c.requires.first.market))
 

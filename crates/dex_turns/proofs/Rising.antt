@@ -1,0 +1,66 @@
+-- Addresses that rise; so do the wallets that a row names, and those of two legs.
+use Rattle.std.proofs.Common.{◌≡◌, ℕ, true, false, Bool, ◌||◌, ◌&&◌, eqb, List, [], ◌∷◌, ◌++◌, None, Option, Some, refl, sym, ap, ◌∙◌, arith, ⊎_elim}
+use Rattle.std.proofs.lemmas.Bool.{le-ltb}
+use Rattle.dex_fold.proofs.Common.{Address, All-head, All-tail, PlainRow, cases_Bool, eq-eqb, false≢true, is_same, is_same-true, list_any, row_wallets}
+use Rattle.std.specs.List.{All}
+use Rattle.dex_types.specs.Wallets.{is_less, is_lower, with_role}
+use Rattle.dex_history.proofs.AddressOrder.{with_address-rising}
+use Rattle.dex_history.proofs.AddressOrder as order
+use Rattle.dex_turns.specs.Turns.{AreRising, leg_wallets}
+
+-- addresses of which each stands once
+abbrev pub AreOnce : List Address → Type 0
+AreOnce [] = Unit {0}
+AreOnce (address ∷ others) = (list_any (is_same address) others ≡ false) × AreOnce others
+
+abbrev pub IsAbove : Address → Address → Type 0
+IsAbove address other = is_lower address other ≡ true
+
+is_less-itself : (bytes : List ℕ) → is_less bytes bytes ≡ false
+is_less-itself [] = refl
+is_less-itself (byte ∷ bytes) =
+    ap (λ (b : Bool). b || (eqb byte byte && is_less bytes bytes)) (le-ltb byte byte (omega arith))
+    ∙ ap (λ (b : Bool). b && is_less bytes bytes) (eq-eqb byte byte refl)
+    ∙ is_less-itself bytes
+
+is_lower-apart : (address other : Address) → is_lower address other ≡ true → is_same address other ≡ false
+is_lower-apart address other lower =
+    ⊎_elim
+    (λ (same : is_same address other ≡ true).
+    absurd (false≢true (sym (is_less-itself address.0) ∙ ap (λ (a : Address). is_less address.0 a.0) (is_same-true address other same) ∙ lower)))
+    (λ (apart : is_same address other ≡ false). apart)
+    (cases_Bool (is_same address other))
+
+not-among : (address : Address) (others : List Address) → All (IsAbove address) others → list_any (is_same address) others ≡ false
+not-among address [] above = refl
+not-among address (first ∷ others) above =
+    ap (λ (b : Bool). b || list_any (is_same address) others) (is_lower-apart address first (All-head (IsAbove address) first others above))
+    ∙ not-among address others (All-tail (IsAbove address) first others above)
+
+-- each stands once
+pub rising-once : (addresses : List Address) → AreRising addresses → AreOnce addresses
+rising-once [] rising = tt
+rising-once (address ∷ others) rising = (not-among address others rising.0, rising-once others rising.1)
+
+pub rising-behind : (front behind : List Address) → AreRising (front ++ behind) → AreRising behind
+rising-behind [] behind rising = rising
+rising-behind (first ∷ front) behind rising = rising-behind front behind rising.1
+
+-- ---- those that are named
+
+rising-of : (addresses : List Address) → order.AreRising addresses → AreRising addresses
+rising-of [] rising = tt
+rising-of (first ∷ others) rising = (rising.0, rising-of others rising.1)
+
+role-rising : (role : Option Address) (addresses : List Address) → order.AreRising addresses → order.AreRising (with_role role addresses)
+role-rising None addresses rising = rising
+role-rising (Some address) addresses rising = with_address-rising address addresses rising
+
+roles-rising : (one two three four : Option Address) → AreRising (with_role one (with_role two (with_role three (with_role four []))))
+roles-rising one two three four = rising-of _ (role-rising one _ (role-rising two _ (role-rising three _ (role-rising four [] tt))))
+
+pub row-rising : (row : PlainRow) → AreRising (row_wallets row)
+row-rising row = roles-rising row.coin row.pc row.discount row.referrer
+
+pub legs-rising : (first second : PlainRow) → AreRising (leg_wallets first second)
+legs-rising first second = roles-rising first.coin first.pc second.coin second.pc
