@@ -42,7 +42,8 @@ behind-told tell one other same (x ∷ xs) (y ∷ ys) =
 -- what only the first tells, and what only the second
 behind-first : {A B : Type 0} (tell : A → B) (one : A → A → A) → ((x y : A) → tell (one x y) ≡ tell x) → (xs ys : List A) → length xs ≡ length ys
     → map tell (each_behind one xs ys) ≡ map tell xs
-behind-first tell one same [] ys long = refl
+behind-first tell one same [] [] long = refl
+behind-first tell one same [] (y ∷ ys) long = absurd (cc)
 behind-first tell one same (x ∷ xs) [] long = absurd (cc)
 behind-first tell one same (x ∷ xs) (y ∷ ys) long =
     ap (λ z. z ∷ map tell (each_behind one xs ys)) (same x y) ∙ ap (λ zs. tell x ∷ zs) (behind-first tell one same xs ys (cc long))
@@ -56,7 +57,7 @@ behind-second tell one same (x ∷ xs) (y ∷ ys) long =
     ap (λ z. z ∷ map tell (each_behind one xs ys)) (same x y) ∙ ap (λ zs. tell y ∷ zs) (behind-second tell one same xs ys (cc long))
 
 same-long : {A B C : Type 0} (f : A → C) (g : B → C) (xs : List A) (ys : List B) → map f xs ≡ map g ys → length xs ≡ length ys
-same-long f g xs ys same = sym (length-map xs f) ∙ ap (λ (zs : List C). length zs) same ∙ length-map ys g
+same-long {C = C} f g xs ys same = sym (length-map xs f) ∙ ap (λ (zs : List C). length zs) same ∙ length-map ys g
 
 stand-behind : (all : List PlainMarketAccounts) (before states : List MarketState) → length before ≡ length states → AllZip StandIn all states
     → AllZip StandIn all (each_behind market_behind before states)
@@ -66,15 +67,16 @@ stand-behind all (one ∷ before) [] long stand = absurd (cc)
 stand-behind [] (one ∷ before) (state ∷ states) long stand = absurd stand
 stand-behind (accounts ∷ all) (one ∷ before) (state ∷ states) long stand = (stand.0, stand-behind all before states (cc long) stand.1)
 
-amounts-again : (accounts : List PlainAccount) (before states : List WalletState)
+amounts-again : (accounts : List PlainAccount) (before states : List WalletState) → length before ≡ length states
     → with_amounts (with_amounts accounts before) states ≡ with_amounts accounts (each_behind wallet_behind before states)
-amounts-again [] before states = refl
-amounts-again (account ∷ accounts) [] states = refl
-amounts-again (account ∷ accounts) (one ∷ before) [] = refl
-amounts-again (account ∷ accounts) (one ∷ before) (state ∷ states) =
+amounts-again [] before states long = refl
+amounts-again (account ∷ accounts) [] [] long = refl
+amounts-again (account ∷ accounts) [] (state ∷ states) long = absurd (cc)
+amounts-again (account ∷ accounts) (one ∷ before) [] long = absurd (cc)
+amounts-again (account ∷ accounts) (one ∷ before) (state ∷ states) long =
     ap (λ (bytes : List ℕ). record account { bytes = bytes } ∷ with_amounts (with_amounts accounts before) states)
     (with_amount-again account.bytes one.seen.balance state.seen.balance)
-    ∙ ap (λ (rest : List PlainAccount). record account { bytes = with_amount account.bytes state.seen.balance } ∷ rest) (amounts-again accounts before states)
+    ∙ ap (λ (rest : List PlainAccount). record account { bytes = with_amount account.bytes state.seen.balance } ∷ rest) (amounts-again accounts before states (cc long))
 
 of-one-market : (first next last : List PlainMarketAccounts) → AllZip AreOfOneMarket first next → AllZip AreOfOneMarket next last → AllZip AreOfOneMarket first last
 of-one-market [] [] [] one other = tt
@@ -201,7 +203,7 @@ module _ (script first second : PlainScript) (one two : PlainOutcome) (are : Are
     amounts = then.amounts
         ∙ ap (λ (start : PlainAccounts). with_amounts start.wallets late.wallets) are.goes_on
         ∙ ap (λ (wallets : List PlainAccount). with_amounts wallets late.wallets) left.amounts
-        ∙ amounts-again first.start.wallets early.wallets late.wallets;
+        ∙ amounts-again first.start.wallets early.wallets late.wallets wallets-long;
     balances = then.balances
         ∙ sym (behind-second (λ (state : WalletState). state.seen.balance) wallet_behind (λ x y. refl) early.wallets late.wallets wallets-long);
   }

@@ -164,6 +164,7 @@ module _ (script : PlainScript) (items : List Item) (outcome : PlainOutcome) (le
 -- accounts that stand for the markets of one world stand for one market, place by place
 pub stand-for-one : (one other : List PlainMarketAccounts) (states : List MarketState) → AllZip StandIn one states → AllZip StandIn other states → AllZip StandForOne one other
 stand-for-one [] [] [] first second = tt
+stand-for-one [] [] (state ∷ states) first second = absurd first
 stand-for-one [] (y ∷ ys) [] first second = absurd second
 stand-for-one [] (y ∷ ys) (state ∷ states) first second = absurd first
 stand-for-one (x ∷ xs) [] [] first second = absurd first
