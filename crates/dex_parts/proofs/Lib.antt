@@ -1,0 +1,14 @@
+pub mod TogetherLaws
+pub mod ListLaws
+pub mod KeptLaws
+pub mod LeftLaws
+pub mod ChainLaws
+pub mod NumberLaws
+pub mod ShardWorlds
+pub mod ShardLaws
+pub mod ShardWorths
+pub mod ShardSums
+pub mod JoinLaws
+pub mod ShardedLaws
+pub mod CutLaws
+pub mod AuditLaws
