@@ -1,0 +1,9 @@
+mod BlockLaws
+mod KeptNames
+mod StepLaws
+mod AnswerLaws
+mod AskLaws
+mod TalkLaws
+mod LineLaws
+mod SessionLaws
+mod TogetherLaws
