@@ -3,6 +3,7 @@ mod KeptNames
 mod StepLaws
 mod AnswerLaws
 mod AskLaws
+mod BookLaws
 mod TalkLaws
 mod LineLaws
 mod SessionLaws

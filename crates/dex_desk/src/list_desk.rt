@@ -3,7 +3,7 @@
 ghost use Rattle.std.specs.Prelude.{◌≡◌, ◌≤◌, ◌++◌, [], ◌∷◌, IfOk, OnErr, OnOk, map};
 ghost use Rattle.dex_io.specs.Faults.{Rose};
 ghost use Rattle.dex_desk.specs.Calls.{turn_of};
-ghost use Rattle.dex_desk.specs.Turns.Turn as turn;
+ghost use Rattle.dex_desk.specs.Turns.Turn.{Heard, Said};
 
 use crate::desk::Desk;
 use dex_io::Failed;
@@ -86,7 +86,7 @@ fn copy_of(alloc: Global, bytes: &[u8]) -> Result<Vec<u8>, AllocError>
 
 /// Keeps that bytes were heard.
 fn keep_heard(alloc: Global, calls: &mut Vec<Call>, bytes: &[u8]) -> Result<(), AllocError>
-    ensures kept { OnOk result (map turn_of calls.new.items ≡ map turn_of calls.old.items ++ (turn.Heard bytes.now ∷ [])) }
+    ensures kept { OnOk result (map turn_of calls.new.items ≡ map turn_of calls.old.items ++ (Heard bytes.now ∷ [])) }
     ensures same { OnErr result (calls.new.items ≡ calls.old.items) }
 {
     let copy = copy_of(alloc, bytes)?;
@@ -98,7 +98,7 @@ fn keep_heard(alloc: Global, calls: &mut Vec<Call>, bytes: &[u8]) -> Result<(), 
 
 /// Keeps that bytes were said.
 fn keep_said(alloc: Global, calls: &mut Vec<Call>, bytes: &[u8]) -> Result<(), AllocError>
-    ensures kept { OnOk result (map turn_of calls.new.items ≡ map turn_of calls.old.items ++ (turn.Said bytes.now ∷ [])) }
+    ensures kept { OnOk result (map turn_of calls.new.items ≡ map turn_of calls.old.items ++ (Said bytes.now ∷ [])) }
     ensures same { OnErr result (calls.new.items ≡ calls.old.items) }
 {
     let copy = copy_of(alloc, bytes)?;
