@@ -1,5 +1,5 @@
 -- Blocks with one row more, and the script that a block is.
-use Rattle.std.proofs.Common.{◌≡◌, ◌∙◌, ℕ, ℤ, get_or, map, ◌+◌, ◌-◌, ◌^◌, ◌≤◌, ◌<◌, ◌||◌, ◌==◌, Bool, true, false, max, nat_le, List, [], ◌∷◌, ◌++◌, All, Option, Some, None, Result, Ok, Err, ap, arith, length, refl, subst, sym}
+use Rattle.std.proofs.Common.{◌≡◌, ◌∙◌, ℕ, ℤ, get_or, map, ◌+◌, ◌-◌, ◌^◌, ◌≤◌, ◌<◌, ◌||◌, ◌==◌, Bool, true, false, max, nat_le, List, [], ◌∷◌, ◌++◌, All, Option, Some, None, Result, Ok, Err, ap, append_assoc, arith, length, refl, subst, sym}
 use Rattle.std.specs.List.{AllPairs, position}
 use Rattle.std.proofs.lemmas.Option.{none-some}
 use Rattle.dex_types.specs.declared.account_bytes.MarketAccounts.{MarketAccounts}
@@ -282,6 +282,17 @@ module _ (block : PlainBlock) (words : PlainSwap) (at other : Stand) (here : Are
         apart,
       ) refl in
       block-more block (grown_both block words).draft row is more refl refl
+
+-- the rows behind those that are there, one after the other
+pub both-behind : (block : PlainBlock) (words : PlainSwap) (rows mid new : List PlainRow) (first second : PlainInstruction) (time : ℤ)
+    → first ≡ first_leg words → second ≡ second_leg words → time ≡ block.draft.clock → rows ≡ block.draft.script.rows
+    → mid ≡ rows ++ instruction_row block.number time first ∷ [] → new ≡ mid ++ instruction_row block.number time second ∷ []
+    → new ≡ block.draft.script.rows ++ both_rows block words
+both-behind block words rows mid new first second time one two at is here more =
+    more
+    ∙ rw (here, is, one, two, at)
+    (append_assoc block.draft.script.rows (instruction_row block.number block.draft.clock (first_leg words) ∷ [])
+    (instruction_row block.number block.draft.clock (second_leg words) ∷ []))
 
 pub grown-both-is : (block : PlainBlock) (words : PlainSwap) (rows : List PlainRow) (lanes number : ℕ)
     → rows ≡ block.draft.script.rows ++ both_rows block words → lanes ≡ max block.draft.script.lanes (words.lane + 1)

@@ -15,6 +15,7 @@ ghost use Rattle.dex_accounts.specs.Accepted.{IsAccepted};
 ghost use Rattle.dex_desk.specs.Books.{found_market};
 ghost use Rattle.dex_desk.specs.Blocks.{IsBlock, TellsRow};
 ghost use Rattle.dex_script.specs.Names.{AreNames};
+ghost use Rattle.dex_script.specs.Rows as rules;
 
 use dex_script::{Names, exceeds_row, is_bad_swap, make_room, push_placed};
 use dex_script_facts::{RowList, Script};
@@ -164,7 +165,7 @@ impl Block {
         let Some(second_at) = self.names.places_of(&second.parties) else {
             return Err(RowError::Fault(FaultKind::UnknownLabel));
         };
-        if is_full(self.items, self.number) || exceeds_row(&first) || exceeds_row(&second) {
+        if exceeds_swap(self.items, self.number, &first, &second) {
             return Err(RowError::Fault(FaultKind::OverLimit));
         }
         if is_bad_swap(&first, &second) {
@@ -255,4 +256,17 @@ fn is_full(items: u32, number: u32) -> bool
     ensures { result ≡ (nat_le 100000 items || (number == 2 ^ 32 - 1)) }
 {
     100_000 <= items || number == u32::MAX
+}
+
+/// Whether no swap of this number finds room behind so many items, or one of its legs passes a limit.
+fn exceeds_swap(
+    items: u32,
+    number: u32,
+    first: &InstructionWords,
+    second: &InstructionWords,
+) -> bool
+    ensures { result
+        ≡ (nat_le 100000 items || (number == 2 ^ 32 - 1) || rules.exceeds_row first.now || rules.exceeds_row second.now) }
+{
+    is_full(items, number) || exceeds_row(first) || exceeds_row(second)
 }

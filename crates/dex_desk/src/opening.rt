@@ -2,7 +2,7 @@
 
 ghost use Rattle.std.specs.Prelude.{◌≡◌, ◌+◌, ◌<◌, ◌++◌, [], IfErr, IfOk, OnOk, drop, length, take};
 ghost use Rattle.std.specs.List.{flat_map};
-ghost use Rattle.dex_dump.specs.Pieces.{piece_text};
+ghost use Rattle.dex_dump.specs.Pieces.{piece_text, zeros_text};
 ghost use Rattle.dex_desk.specs.Serving as spec;
 ghost use Rattle.dex_desk.specs.Serving.{AreLater, StoppedFor};
 ghost use Rattle.dex_desk.specs.Talks as talks;
@@ -196,11 +196,7 @@ fn take_set_up_line(
 }
 
 /// Opens a desk over a set-up, and says so; or says why it is none.
-fn open_or_refuse(
-    alloc: Global,
-    kept: &[u8],
-    text: &mut Vec<u8>,
-) -> Result<Option<Block>, NoMemory>
+fn open_or_refuse(alloc: Global, kept: &[u8], text: &mut Vec<u8>) -> Result<Option<Block>, NoMemory>
     ensures { IfOk result (λ found. spec.OpensOrRefuses found kept.now text.old.items text.new.items) }
 {
     match open_desk(alloc, kept)? {
@@ -232,23 +228,27 @@ pub fn append(text: &mut Vec<u8>, more: &[u8]) -> Result<(), NoMemory>
     }
 }
 
+/// The text of a piece of zeros. It stands in the program itself.
+const ZEROS: [u8; 65_536] = [b'A'; 65_536];
+
 /// Puts a text in pieces behind another.
+#[tactic(auto, unfolding(dex_dump::specs::Pieces::zeros_text))]
 fn append_pieces(text: &mut Vec<u8>, pieces: &[Piece]) -> Result<(), NoMemory>
     ensures { OnOk result (text.new.items ≡ text.old.items ++ flat_map piece_text pieces.now) }
 {
     for piece in pieces {
-        append_piece(text, piece)?;
+        append(text, bytes_of(piece, &ZEROS))?;
     }
     Ok(())
 }
 
-/// Puts a piece of a text behind another.
-#[tactic(auto, unfolding(dex_dump::specs::Pieces::zeros_text))]
-fn append_piece(text: &mut Vec<u8>, piece: &Piece) -> Result<(), NoMemory>
-    ensures { OnOk result (text.new.items ≡ text.old.items ++ piece_text piece.now) }
+/// The bytes of a piece, where these are those of a piece of zeros.
+fn bytes_of<'a>(piece: &'a Piece, zeros: &'a [u8]) -> &'a [u8]
+    requires { zeros.now ≡ zeros_text }
+    ensures { result.now ≡ piece_text piece.now }
 {
     match piece {
-        Piece::Bytes(bytes) => append(text, bytes),
-        Piece::Zeros => append(text, &[b'A'; 65_536]),
+        Piece::Bytes(bytes) => bytes,
+        Piece::Zeros => zeros,
     }
 }

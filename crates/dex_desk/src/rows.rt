@@ -24,10 +24,7 @@ pub enum Asked {
     /// The clock of the instruction rows that follow.
     Clock(i64),
     /// The prices of a market, so many on each side, from the best on.
-    Book {
-        market: Address,
-        depth: u32,
-    },
+    Book { market: Address, depth: u32 },
     /// All accounts, as a dump.
     Dump,
 }
@@ -80,11 +77,7 @@ fn dump_row(row: &Fields<'_>) -> Result<Asked, RowError>
 }
 
 /// Any other row.
-fn stated(
-    alloc: Global,
-    row: &Fields<'_>,
-    words: &mut InstructionWords,
-) -> Result<Asked, RowError>
+fn stated(alloc: Global, row: &Fields<'_>, words: &mut InstructionWords) -> Result<Asked, RowError>
     ensures { TellsAsked result words.new (asked_by row.now) }
 {
     if read_instruction(alloc, row, words)? {
@@ -96,11 +89,7 @@ fn stated(
 
 /// Any row that is no `do` row.
 #[inline(never)]
-fn other(
-    alloc: Global,
-    row: &Fields<'_>,
-    words: &mut InstructionWords,
-) -> Result<Asked, RowError>
+fn other(alloc: Global, row: &Fields<'_>, words: &mut InstructionWords) -> Result<Asked, RowError>
     ensures { TellsAsked result words.new (asked_by row.now) }
 {
     match statement_of(alloc, row)? {

@@ -38,14 +38,7 @@ pub fn open_desk(alloc: Global, text: &[u8]) -> Result<Opened, NoMemory>
             let program = script.program;
             let outcome = replay(alloc, script)?;
             let names = names_of(alloc, &outcome.accounts)?;
-            Ok(Opened::Desk(Block::of(
-                alloc,
-                outcome.accounts,
-                names,
-                program,
-                clock,
-                number,
-            )))
+            Ok(Opened::Desk(Block::of(alloc, outcome.accounts, names, program, clock, number)))
         }
         Err(error) => Ok(Opened::Refused(no_script(alloc, error)?)),
     }

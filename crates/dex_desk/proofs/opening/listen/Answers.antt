@@ -29,7 +29,7 @@ pub returns-in-Ok-More-clause-found : goal.returns-in-Ok-More-clause-found
 returns-in-Ok-More-clause-found g c =
     let told = rw c.in-Ok-More.field-0-is at c.in-Ok-More.ensures.heard in (
       more-of-set-up (g.D.Desk.turns c.args.desk.now) (g.D.Desk.turns c.hear_more.new.desk) c.args.kept.now.items c.close_up.new.self c.args.inbox.now c.hear_more.new.inbox told
-      c.close_up.ensures c.requires.listening,
+          c.close_up.ensures c.requires.listening,
       c.requires.text,
     )
 

@@ -26,7 +26,7 @@ pub returns-in-Ok-More-clause-goes : goal.returns-in-Ok-More-clause-goes
 returns-in-Ok-More-clause-goes g c =
     let told = rw c.in-Ok-More.field-0-is at c.in-Ok-More.ensures.heard in (
       more-of-rows (g.D.Desk.turns c.args.desk.now) (g.D.Desk.turns c.hear_more.new.desk) c.args.block c.close_up.new.self c.args.inbox.now c.hear_more.new.inbox told
-      c.close_up.ensures c.requires.listening,
+          c.close_up.ensures c.requires.listening,
       c.requires.text,
     )
 
