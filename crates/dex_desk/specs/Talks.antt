@@ -226,3 +226,7 @@ EndsAs status after = (why : Over) × (status ≡ status_of why) × (after ≡ t
 -- what is told of a session is a talk from its first byte on, which ends as its status says
 abbrev pub IsServed : Status → Option (List Turn) → Option (List Turn) → Type 0
 IsServed status old new = (after : Talk) × Talked old new first after × EndsAs status after
+
+-- all that was heard and said in a session is a talk from its first byte on, which ends as its status says
+abbrev pub IsSession : Status → List Turn → Type 0
+IsSession status turns = (after : Talk) × Talks first turns after × EndsAs status after

@@ -3,9 +3,12 @@
 ghost use Rattle.std.specs.Prelude.{◌≡◌, ◌≤◌, ◌++◌, [], ◌∷◌, IfOk, OnErr, OnOk, map};
 ghost use Rattle.dex_io.specs.Faults.{Rose};
 ghost use Rattle.dex_desk.specs.Calls.{turn_of};
+ghost use Rattle.dex_desk.specs.Talks.{IsSession};
 ghost use Rattle.dex_desk.specs.Turns.Turn.{Heard, Said};
 
 use crate::desk::Desk;
+use crate::serving::serve;
+use dex_answers::Status;
 use dex_io::Failed;
 use std::alloc::{AllocError, Global};
 use std::marker::Model;
@@ -65,6 +68,16 @@ impl ListDesk {
     {
         &self.calls
     }
+}
+
+/// A session of these bytes, so many heard and said at a time at most: its status, and the desk with its calls, which are a talk from
+/// the first byte on.
+pub fn serve_list(alloc: Global, input: Vec<u8>, step: usize) -> (Status, ListDesk)
+    ensures { IsSession result.0 result.1.turns }
+{
+    let mut desk = ListDesk::new(alloc, input, step);
+    let status = serve(alloc, &mut desk);
+    (status, desk)
 }
 
 /// One fault more, up to the greatest count.
