@@ -340,7 +340,7 @@ pub accepted-there : (markets : List MarketAccounts) (place : ℕ) (market : Mar
 accepted-there markets place market all within is =
     let same : get_or (map market_accounts_of markets) place (market_accounts_of market) ≡ market_accounts_of market =
     get_or-map market_accounts_of markets place market (market_accounts_of market) within ∙ ap market_accounts_of (sym is) in
-    subst IsAccepted same (all place (market_accounts_of market) (omega (arith, length-map market_accounts_of markets, within)))
+    subst IsAccepted same (all place (market_accounts_of market) (omega (arith, length-map markets market_accounts_of, within)))
 
 pub place-within : {X : Type 0} (test : X → Bool) (xs : List X) (place : ℕ) → position test xs ≡ Some place → place < length xs
 place-within test [] place is = absurd (none-some place is)
