@@ -23,7 +23,9 @@ use Rattle.dex_script.specs.Scripts.{Refusal, draft_after, fault_in, script_from
 use Rattle.dex_script.proofs.FaultLaws.{ok-same}
 use Rattle.dex_script.proofs.OrderLaws.{IsGood, first-row, from-rows}
 use Rattle.dex_script.proofs.RowOrder.{no-rows-in-order}
+use Rattle.std.proofs.lemmas.List.{get_or-map, length-map}
 use Rattle.std.proofs.lemmas.List.Elements.{All-nil}
+use Rattle.dex_accounts.specs.Accepted.{IsAccepted}
 use Rattle.dex_types.specs.declared.addresses.Address.{Address}
 use Rattle.dex_types.specs.declared.terms.Program.{Program}
 use Rattle.dex_types.specs.Accounts.{PlainAccounts, PlainMarketAccounts, market_accounts_of}
@@ -142,6 +144,12 @@ by-names names start parties are =
       role-same names start parties.referrer are,
     ) refl
 
+-- where the parties of a row stand, by the names
+pub found-by : (names : Names) (start : PlainAccounts) (words seen : PlainInstruction) (found told : Option Stand) → AreNames names start → seen ≡ words
+    → found ≡ places_in names seen.parties → found ≡ told → places_of start words.parties ≡ told
+found-by names start words seen found told are same is tells =
+    sym (by-names names start words.parties are) ∙ ap (λ (w : PlainInstruction). places_in names w.parties) (sym same) ∙ sym is ∙ tells
+
 -- ---- an instruction row
 
 pub not-here : (block : PlainBlock) (words : PlainInstruction) → places_of block.draft.script.start words.parties ≡ None → with_words block words ≡ Err UnknownLabel
@@ -205,6 +213,16 @@ grown-is block words rows lanes number same wide next = rw (same, wide, next) re
 
 -- ---- a swap
 
+-- no room for both legs, or one passes a limit
+abbrev pub both_full : PlainBlock → PlainInstruction → PlainInstruction → Bool
+both_full block first second = is_full block.draft block.number || exceeds_row first || exceeds_row second
+
+-- what a test tells of two legs, it tells of the words' own
+pub of-legs : (test : PlainInstruction → PlainInstruction → Bool) (words : PlainSwap) (first second : PlainInstruction) (found told : Bool) → first ≡ first_leg words
+    → second ≡ second_leg words → found ≡ test first second → found ≡ told → test (first_leg words) (second_leg words) ≡ told
+of-legs test words first second found told one two is tells =
+    ap (λ (w : PlainInstruction). test w (second_leg words)) (sym one) ∙ ap (test first) (sym two) ∙ sym is ∙ tells
+
 module _ (block : PlainBlock) (words : PlainSwap) where
   pub first-not-here : places_of block.draft.script.start (first_leg words).parties ≡ None → with_both block words ≡ Err UnknownLabel
   unfolding with_two
@@ -234,7 +252,7 @@ grown_both block words = record {
 }
 
 module _ (block : PlainBlock) (words : PlainSwap) (at other : Stand) (here : AreHere block words at other) where
-  pub both-too-much : is_full block.draft block.number || exceeds_row (first_leg words) || exceeds_row (second_leg words) ≡ true
+  pub both-too-much : both_full block (first_leg words) (second_leg words) ≡ true
       → with_both block words ≡ Err OverLimit
   unfolding with_two with_legs
   both-too-much full =
@@ -244,7 +262,7 @@ module _ (block : PlainBlock) (words : PlainSwap) (at other : Stand) (here : Are
         full,
       ) refl
 
-  pub both-bad : is_full block.draft block.number || exceeds_row (first_leg words) || exceeds_row (second_leg words) ≡ false
+  pub both-bad : both_full block (first_leg words) (second_leg words) ≡ false
       → is_bad_swap (first_leg words) (second_leg words) ≡ true → with_both block words ≡ Err BadSwap
   unfolding with_two with_legs
   both-bad room bad =
@@ -255,7 +273,7 @@ module _ (block : PlainBlock) (words : PlainSwap) (at other : Stand) (here : Are
         bad,
       ) refl
 
-  pub with-both : is_full block.draft block.number || exceeds_row (first_leg words) || exceeds_row (second_leg words) ≡ false
+  pub with-both : both_full block (first_leg words) (second_leg words) ≡ false
       → is_bad_swap (first_leg words) (second_leg words) ≡ false → block.draft.batch ≡ false → with_both block words ≡ Ok (grown_both block words)
   unfolding with_two with_legs
   with-both room good apart =
@@ -268,7 +286,7 @@ module _ (block : PlainBlock) (words : PlainSwap) (at other : Stand) (here : Are
       ) refl
 
   pub grown-both-block : (row : Fields) → IsBlock block → statement_of row ≡ Ok (statement.Swap words)
-      → is_full block.draft block.number || exceeds_row (first_leg words) || exceeds_row (second_leg words) ≡ false
+      → both_full block (first_leg words) (second_leg words) ≡ false
       → is_bad_swap (first_leg words) (second_leg words) ≡ false → block.draft.batch ≡ false → IsBlock (grown_both block words)
   unfolding with_two with_legs
   grown-both-block row is states room good apart =
@@ -315,6 +333,14 @@ pub market-not-there : (address : Address) (markets : List MarketAccounts)
 market-not-there address markets none =
     first-none (λ (accounts : PlainMarketAccounts). is_same address accounts.address) (λ (accounts : PlainMarketAccounts). accounts) market_accounts_of markets
     (none-passes (λ (accounts : MarketAccounts). is_same address accounts.address) markets none)
+
+-- and it is accepted where all are
+pub accepted-there : (markets : List MarketAccounts) (place : ℕ) (market : MarketAccounts) → All IsAccepted (map market_accounts_of markets) → place < length markets
+    → market ≡ get_or markets place market → IsAccepted (market_accounts_of market)
+accepted-there markets place market all within is =
+    let same : get_or (map market_accounts_of markets) place (market_accounts_of market) ≡ market_accounts_of market =
+    get_or-map market_accounts_of markets place market (market_accounts_of market) within ∙ ap market_accounts_of (sym is) in
+    subst IsAccepted same (all place (market_accounts_of market) (omega (arith, length-map market_accounts_of markets, within)))
 
 pub place-within : {X : Type 0} (test : X → Bool) (xs : List X) (place : ℕ) → position test xs ≡ Some place → place < length xs
 place-within test [] place is = absurd (none-some place is)
