@@ -1,4 +1,5 @@
-use Rattle.std.proofs.Common.{◌≡◌, [], ◌∷◌, Err, Ok}
+use Rattle.std.proofs.Common.{◌≡◌, ◌∙◌, ℤ, [], ◌∷◌, Err, Ok, ap, of_z, rules, sym, to_z, w64}
+use Rattle.std.proofs.lemmas.Int.{to_z-of_z}
 use Rattle.dex_dump.specs.DumpText.{dump_text}
 use Rattle.dex_statement.specs.Words.{Fields}
 use Rattle.dex_desk.specs.Asking.PlainAsked.{Instructs, Sets, Swaps}
@@ -38,7 +39,11 @@ returns-in-Ok-Swap c =
     (λ (after : PlainBlock). Went (row ∷ []) block after old new) (λ after went. went row asked) c.take_swap.result c.take_swap.ensures
 
 pub answer_clock-requires : goal.answer_clock-requires
-answer_clock-requires c = (c.args.row.now, rw c.in-Ok-Clock.field-0-is at c.in-Ok-Clock.ensures)
+answer_clock-requires c =
+    let now = c.in-Ok-Clock.now in
+    let time : to_z w64 (of_z w64 now) ≡ now = search (rules, to_z-of_z) in
+    let asked : asked_of c.args.row.now ≡ Ok (Sets now) = rw c.in-Ok-Clock.field-0-is at c.in-Ok-Clock.ensures in
+    (c.args.row.now, asked ∙ ap (λ (t : ℤ). Ok (Sets t)) (sym time))
 
 pub returns-in-Ok-Clock : goal.returns-in-Ok-Clock
 returns-in-Ok-Clock c =
@@ -47,9 +52,10 @@ returns-in-Ok-Clock c =
     let now = c.in-Ok-Clock.now in
     let old = c.args.buffers.now.text.items in
     let new = c.answer_clock.new.buffers.text.items in
+    let time : to_z w64 (of_z w64 now) ≡ now = search (rules, to_z-of_z) in
     let asked : asked_of row ≡ Ok (Sets now) = rw c.in-Ok-Clock.field-0-is at c.in-Ok-Clock.ensures in
-    if-ok (λ (after : PlainBlock). (row : Fields) → asked_of row ≡ Ok (Sets now) → Went (row ∷ []) block after old new)
-    (λ (after : PlainBlock). Went (row ∷ []) block after old new) (λ after went. went row asked) c.answer_clock.result c.answer_clock.ensures
+    if-ok (λ (after : PlainBlock). (row : Fields) → asked_of row ≡ Ok (Sets (to_z w64 (of_z w64 now))) → Went (row ∷ []) block after old new)
+    (λ (after : PlainBlock). Went (row ∷ []) block after old new) (λ after went. went row (asked ∙ ap (λ (t : ℤ). Ok (Sets t)) (sym time))) c.answer_clock.result c.answer_clock.ensures
 
 pub returns-in-Ok-Book : goal.returns-in-Ok-Book
 returns-in-Ok-Book c =
