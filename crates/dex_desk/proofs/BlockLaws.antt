@@ -184,7 +184,7 @@ grown-block block words at row is states here room within =
 
 -- ---- the same block, as the code writes it
 
-number-small : (number : ℕ) (rows : List Fields) → number ≤ 2 ^ 32 - 1 → number_after number rows ≤ 2 ^ 32 - 1
+pub number-small : (number : ℕ) (rows : List Fields) → number ≤ 2 ^ 32 - 1 → number_after number rows ≤ 2 ^ 32 - 1
 number-small number [] small = small
 number-small number (row ∷ rows) small = number-small (next_number number) rows (omega arith)
 

@@ -7,4 +7,4 @@ mod BookLaws
 mod TalkLaws
 mod LineLaws
 mod SessionLaws
-mod TogetherLaws
+mod WholeLaws

@@ -9,4 +9,4 @@ pub mod SetUps
 pub mod Talks
 pub mod Serving
 pub mod Calls
-pub mod Together
+pub mod Whole

@@ -21,7 +21,7 @@ use Rattle.dex_fold.specs.Groups.{members}
 use Rattle.dex_fold.specs.Items.{Item, act_item, chosen, fold_items, held_in, idle_row, is_any_refused, why_in, why_on}
 use Rattle.dex_fold.specs.World.{MarketState, WalletState, World, market_at, role_at, seen_by, wallet_at}
 use Rattle.dex_fold.proofs.MappedLists.{list_any-agree, map-agree}
-use Rattle.dex_desk.specs.Together.{bare_market, bare_wallet, bare_world, each_behind, market_behind, wallet_behind, world_behind}
+use Rattle.dex_parts.specs.Together.{bare_market, bare_wallet, bare_world, each_behind, market_behind, wallet_behind, world_behind}
 
 -- ---- what a row finds and sees
 

@@ -1,5 +1,5 @@
-use Rattle.dex_desk.proofs.TogetherLaws.{behind-others, items-append}
-use Rattle.dex_desk.proofs.laws.items_behind_others_act_as_by_themselves.Goals as goal
+use Rattle.dex_parts.proofs.TogetherLaws.{behind-others, items-append}
+use Rattle.dex_parts.proofs.laws.items_behind_others_act_as_by_themselves.Goals as goal
 
 pub returns-clause-cut : goal.returns-clause-cut
 returns-clause-cut c = λ items later world. items-append items later world
