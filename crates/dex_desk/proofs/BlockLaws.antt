@@ -21,7 +21,7 @@ use Rattle.dex_script.specs.Rows.{exceeds_row, instruction_row, is_bad_swap, is_
 use Rattle.dex_script.proofs.ItemRows.{first_leg, second_leg}
 use Rattle.dex_script.specs.Scripts.{Refusal, draft_after, fault_in, script_from}
 use Rattle.dex_script.proofs.FaultLaws.{ok-same}
-use Rattle.dex_script.proofs.OrderLaws.{IsGood, first-row, from-rows}
+use Rattle.dex_script.proofs.OrderLaws.{first-good, first-row, from-rows}
 use Rattle.dex_script.proofs.RowOrder.{no-rows-in-order}
 use Rattle.std.proofs.lemmas.List.{get_or-map, length-map}
 use Rattle.std.proofs.lemmas.List.Elements.{All-nil}
@@ -82,18 +82,6 @@ block-more block after row is more start program =
 
 -- ---- a block is a script so far
 
-nothing-good : (draft : PlainDraft) (number : ℕ) → draft.script.rows ≡ [] → draft.script.lanes ≡ 1 → draft.items ≡ 0 → number ≤ 2 ^ 32 - 1 → IsGood number draft
-nothing-good draft number none one items small =
-    let order = no-rows-in-order draft.script.start in
-    record {
-      rows = rw none (record { few = omega arith; each = order.each; rising = order.rising; legs = order.legs; two = order.two; lanes = one });
-      below = rw none (All-nil (λ (r : PlainRow). r.number < number));
-      quiet = λ _. none;
-      items = rw (none, items) refl;
-      single = λ _. rw none (λ i j d before within. absurd (omega arith));
-      small = small;
-    }
-
 pub is-script : (block : PlainBlock) → IsBlock block → IsScript block.draft.script
 is-script block is =
     let first = no_rows_of block.draft.script.start block.draft.script.program is.clock in
@@ -101,7 +89,7 @@ is-script block is =
     sym (ap (λ (r : Result PlainDraft Refusal). r >>= λ last. Ok last.script) is.read) in
     record {
       start = is.start;
-      rows = (from-rows is.first first is.rows block.draft.script (nothing-good first is.first refl refl refl is.small) given).rows;
+      rows = (from-rows is.first first is.rows block.draft.script (first-good is.first first refl refl refl is.small) given).rows;
     }
 
 -- ---- blocks as the code makes them

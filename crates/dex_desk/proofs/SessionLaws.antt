@@ -243,11 +243,11 @@ stopped-for stop.WriteFault a b c le for = rose-later a b c le for
 
 -- ---- lines of rows
 
-pub line-on : (first : Talk) (block after : PlainBlock) (text owed said : List ℕ) (n : ℕ) (rest : List ℕ) → WentOn first (talk (Serves block text) owed)
+pub line-on : (begin : Talk) (block after : PlainBlock) (text owed said : List ℕ) (n : ℕ) (rest : List ℕ) → WentOn begin (talk (Serves block text) owed)
     → IsCut text (take n text) (drop (n + 1) text) → Went (rows_of (take n text)) block after owed said → rest ≡ drop (n + 1) text
-    → WentOn first (talk (Serves after rest) said)
-line-on first block after text owed said n rest so cut went left =
-    went-then first (talk (Serves block text) owed) (talk (Serves after rest) said) so
+    → WentOn begin (talk (Serves after rest) said)
+line-on begin block after text owed said n rest so cut went left =
+    went-then begin (talk (Serves block text) owed) (talk (Serves after rest) said) so
     (went-once (talk (Serves block text) owed) (talk (Serves after rest) said)
     (inl (inl (record {
       line = take n text;
@@ -259,29 +259,29 @@ line-on first block after text owed said n rest so cut went left =
       is = ap (λ (l : List ℕ). talk (Serves after l) said) left;
     }))))
 
-pub acted-on : {E : Type 0} (result : Result PlainBlock E) (first : Talk) (block : PlainBlock) (text owed said : List ℕ) → WentOn first (talk (Serves block text) owed)
-    → IfOk result (λ left. ActedIn block left owed said) → IfOk result (λ left. WentOn first (talk (Serves left text) said))
-acted-on (Ok left) first block text owed said so acted =
-    went-then first (talk (Serves block text) owed) (talk (Serves left text) said) so
+pub acted-on : {E : Type 0} (result : Result PlainBlock E) (begin : Talk) (block : PlainBlock) (text owed said : List ℕ) → WentOn begin (talk (Serves block text) owed)
+    → IfOk result (λ left. ActedIn block left owed said) → IfOk result (λ left. WentOn begin (talk (Serves left text) said))
+acted-on (Ok left) begin block text owed said so acted =
+    went-then begin (talk (Serves block text) owed) (talk (Serves left text) said) so
     (went-once (talk (Serves block text) owed) (talk (Serves left text) said)
     (inl (inr (record { left = left; said = said; acted = acted; is = refl }))))
-acted-on (Err e) first block text owed said so acted = tt
+acted-on (Err e) begin block text owed said so acted = tt
 
 -- lines of set-ups
 
-pub set-up-line-on : (found : Option PlainBlock) (first before : Talk) (kept inbox text : List ℕ) → WentOn first before → HasDone found before kept inbox text
-    → WentOn first (talk (session_of found kept inbox) text)
-set-up-line-on found first before kept inbox text so done =
-    went-then first before (talk (session_of found kept inbox) text) so (went-once before (talk (session_of found kept inbox) text) done)
+pub set-up-line-on : (found : Option PlainBlock) (begin before : Talk) (kept inbox text : List ℕ) → WentOn begin before → HasDone found before kept inbox text
+    → WentOn begin (talk (session_of found kept inbox) text)
+set-up-line-on found begin before kept inbox text so done =
+    went-then begin before (talk (session_of found kept inbox) text) so (went-once before (talk (session_of found kept inbox) text) done)
 
 pub found-waiting : (found : Option PlainBlock) (inbox : List ℕ) → is_some found ≡ true → IsWaiting found inbox
 found-waiting None inbox is = absurd (false≢true is)
 found-waiting (Some block) inbox is = tt
 
-pub none-found : (found : Option PlainBlock) (first : Talk) (kept inbox text : List ℕ) → is_some found ≡ false
-    → WentOn first (talk (session_of found kept inbox) text) → WentOn first (talk (Sets kept inbox) text)
-none-found None first kept inbox text is went = went
-none-found (Some block) first kept inbox text is went = absurd (false≢true (sym is))
+pub none-found : (found : Option PlainBlock) (begin : Talk) (kept inbox text : List ℕ) → is_some found ≡ false
+    → WentOn begin (talk (session_of found kept inbox) text) → WentOn begin (talk (Sets kept inbox) text)
+none-found None begin kept inbox text is went = went
+none-found (Some block) begin kept inbox text is went = absurd (false≢true (sym is))
 
 -- ---- the same of what calls answer
 

@@ -78,11 +78,7 @@ pub fn take_line(
 }
 
 /// Lets the rows act that are still to act, and answers them.
-pub fn answer_all(
-    alloc: Global,
-    block: Block,
-    buffers: &mut Buffers,
-) -> Result<Block, NoMemory>
+pub fn answer_all(alloc: Global, block: Block, buffers: &mut Buffers) -> Result<Block, NoMemory>
     ensures acted { IfOk result (λ left. ActedIn block left buffers.old.text.items buffers.new.text.items) }
     ensures quiet { IfOk result (λ left. left.draft.script.rows ≡ []) }
 {
@@ -110,11 +106,7 @@ fn take_row(
 }
 
 /// Takes the instruction row whose words stand in the buffer.
-fn take_instruction(
-    alloc: Global,
-    block: Block,
-    buffers: &mut Buffers,
-) -> Result<Block, NoMemory>
+fn take_instruction(alloc: Global, block: Block, buffers: &mut Buffers) -> Result<Block, NoMemory>
     requires { (row : FieldsOf) × (asked_of row ≡ Ok (Instructs buffers.old.words)) }
     ensures { IfOk result (λ after. (row : FieldsOf) → asked_of row ≡ Ok (Instructs buffers.old.words)
         → Went (row ∷ []) block after buffers.old.text.items buffers.new.text.items) }
@@ -253,11 +245,7 @@ fn show(
 }
 
 /// Writes the dump of all accounts.
-pub fn answer_dump(
-    alloc: Global,
-    block: Block,
-    buffers: &mut Buffers,
-) -> Result<Block, NoMemory>
+pub fn answer_dump(alloc: Global, block: Block, buffers: &mut Buffers) -> Result<Block, NoMemory>
     ensures { IfOk result (λ after. SaidIn block after (dump_text after.draft.script.start) buffers.old.text.items buffers.new.text.items) }
 {
     let block = answer_all(alloc, block, buffers)?;

@@ -18,12 +18,11 @@ rows-preserved c =
     let done : List Fields = held.0 in
     let row : Fields = c.next_row.new.row in
     let rest : List Fields = c.next_row.new.self in
-    let next : c.rows.rows ≡ row ∷ rest = c.in_ok-next_row.ensures.next c.if-branch.true in
-    (
+    let next : c.rows.rows ≡ row ∷ rest = c.in_ok-next_row.ensures.next c.if-branch.true in (
       done ++ row ∷ [],
       held.1 ∙ ap (λ (l : List Fields). done ++ l) next ∙ sym (append_assoc done (row ∷ []) rest),
       went-on done (row ∷ []) c.args.block c.rows.block c.in_ok-block.block c.args.buffers.now.text.items c.rows.buffers.text.items c.take_row.new.buffers.text.items
-      held.2 c.in_ok-block.ensures,
+          held.2 c.in_ok-block.ensures,
     )
 
 pub returns : goal.returns

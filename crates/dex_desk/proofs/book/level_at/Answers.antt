@@ -62,7 +62,7 @@ returns c =
     let price = price_of c.args.first.id in
     let none : orders_from c.orders.next all ≡ [] = ap (λ (o : Option Order). orders_from o all) c.in_default.is in
     let counted = counted-end price c.orders.lots (orders_from (Some c.args.first) all)
-        (subst (λ (l : List Order). HasCounted price c.orders.lots l (orders_from (Some c.args.first) all)) none c.orders.invariant.counted) in
+    (subst (λ (l : List Order). HasCounted price c.orders.lots l (orders_from (Some c.args.first) all)) none c.orders.invariant.counted) in
     record {
       side = refl;
       price = c.price_of-price.ensures;

@@ -20,9 +20,9 @@ levels-preserved c =
     let at = walk-at side bytes next first c.requires c.in-Some.is c.levels.invariant.reached in
     let same : orders_from (Some first) all ≡ orders_from next all = ap (λ (o : Option Order). orders_from o all) (sym c.in-Some.is) in
     let lines = level-written side left (left - 1) first (orders_from next all) _ (orders_from c.level_at-behind.result.1 all) level.side level.price level.lots at.front
-        (omega (arith, c.if-left-eq0.false)) told.side told.price
-        (told.lots ∙ ap (λ (os : List Order). capped (lots_at (price_of first.id) os)) same)
-        (told.behind ∙ ap (behind_price (price_of first.id)) same) in
+    (omega (arith, c.if-left-eq0.false)) told.side told.price
+    (told.lots ∙ ap (λ (os : List Order). capped (lots_at (price_of first.id) os)) same)
+    (told.behind ∙ ap (behind_price (price_of first.id)) same) in
     record {
       text =
           ap (λ (l : List ℕ). l ++ side_lines side (left - 1) (orders_from c.level_at-behind.result.1 all)) c.in_ok-write_level.ensures

@@ -10,8 +10,7 @@ use Rattle.dex_script.specs.Rows.{exceeds_row, instruction_row, is_full}
 use Rattle.dex_script.specs.declared.names.Stand.{Stand}
 use Rattle.dex_desk.specs.BlockInside.{block_inside}
 use Rattle.dex_desk.specs.Blocks.{IsBlock, PlainBlock, with_words}
-use Rattle.dex_script.specs.Names.{places_in, places_of}
-use Rattle.dex_desk.proofs.BlockLaws.{by-names, grown, grown-block, grown-is, made, next-is, not-here, too-much, with-it}
+use Rattle.dex_desk.proofs.BlockLaws.{found-by, grown, grown-block, grown-is, made, next-is, not-here, too-much, with-it}
 use Rattle.dex_script.proofs.NameLaws.{stand}
 use Rattle.dex_desk.proofs.block.Block.add_instruction.Goals.{then-is_full-via-then-is_full, then-is_full-via-else-is_full+then-exceeds_row}
 use Rattle.dex_desk.proofs.block.Block.add_instruction.Goals as goal
@@ -28,18 +27,14 @@ pub returns-in_default : goal.returns-in_default
 returns-in_default c =
     let block = block_inside c.self.inside in
     let words = c.args.words.now in
-    let parties = ap (λ (w : PlainInstruction). places_in c.self.inside.names w.parties) c.words.view_is in
-    let none : places_of block.draft.script.start words.parties ≡ None =
-    sym (by-names c.self.inside.names block.draft.script.start words.parties c.self.invariant.names) ∙ sym parties ∙ sym c.places_of.ensures ∙ c.in_default.is in
+    let none = found-by c.self.inside.names block.draft.script.start words _ c.places_of.result None c.self.invariant.names c.words.view_is c.places_of.ensures c.in_default.is in
     (ap (λ (b : PlainBlock). with_words b words) (sym c.self.view_is) ∙ not-here block words none, refl)
 
 pub returns-then-is_full : goal.returns-then-is_full
 returns-then-is_full c =
     let block = block_inside c.self.inside in
     let words = c.args.words.now in
-    let parties = ap (λ (w : PlainInstruction). places_in c.self.inside.names w.parties) c.words.view_is in
-    let found : places_of block.draft.script.start words.parties ≡ Some c.in-Some.at =
-    sym (by-names c.self.inside.names block.draft.script.start words.parties c.self.invariant.names) ∙ sym parties ∙ sym c.places_of.ensures ∙ c.in-Some.is in
+    let found = found-by c.self.inside.names block.draft.script.start words _ c.places_of.result (Some c.in-Some.at) c.self.invariant.names c.words.view_is c.places_of.ensures c.in-Some.is in
     let full : is_full block.draft block.number || exceeds_row words ≡ true = elim c.then-is_full.branch [
       | then-is_full-via-then-is_full w ↦ or-left (is_full block.draft block.number) (exceeds_row words) (sym c.is_full.ensures ∙ w.if-is_full.true)
       | then-is_full-via-else-is_full+then-exceeds_row w ↦ or-right (is_full block.draft block.number) (exceeds_row words) (sym w.exceeds_row.ensures ∙ w.if-exceeds_row.true)
@@ -51,12 +46,10 @@ invariant_of-self-2 c =
     let block = block_inside c.self.inside in
     let words = c.args.words.now in
     let start = block.draft.script.start in
-    let parties = ap (λ (w : PlainInstruction). places_in c.self.inside.names w.parties) c.words.view_is in
-    let found : places_of start words.parties ≡ Some c.in-Some.at =
-    sym (by-names c.self.inside.names start words.parties c.self.invariant.names) ∙ sym parties ∙ sym c.places_of.ensures ∙ c.in-Some.is in
+    let found = found-by c.self.inside.names start words _ c.places_of.result (Some c.in-Some.at) c.self.invariant.names c.words.view_is c.places_of.ensures c.in-Some.is in
     let room : is_full block.draft block.number ≡ false = sym c.is_full.ensures ∙ c.if-is_full.false in
     let within : exceeds_row words ≡ false = sym c.exceeds_row.ensures ∙ c.if-exceeds_row.false in
-    let time_is : to_z w64 (of_z w64 c.self.inside.clock) ≡ c.self.inside.clock = search (rules, c.self.ranges, to_z-of_z) in
+    let time_is : to_z w64 (of_z w64 c.self.inside.clock) ≡ c.self.inside.clock = search (rules, to_z-of_z) in
     let same : grown block words ≡ made block _ _ _ =
     grown-is block words _ _ _
     (c.push_placed.ensures.row
@@ -77,12 +70,10 @@ returns c =
     let block = block_inside c.self.inside in
     let words = c.args.words.now in
     let start = block.draft.script.start in
-    let parties = ap (λ (w : PlainInstruction). places_in c.self.inside.names w.parties) c.words.view_is in
-    let found : places_of start words.parties ≡ Some c.in-Some.at =
-    sym (by-names c.self.inside.names start words.parties c.self.invariant.names) ∙ sym parties ∙ sym c.places_of.ensures ∙ c.in-Some.is in
+    let found = found-by c.self.inside.names start words _ c.places_of.result (Some c.in-Some.at) c.self.invariant.names c.words.view_is c.places_of.ensures c.in-Some.is in
     let room : is_full block.draft block.number ≡ false = sym c.is_full.ensures ∙ c.if-is_full.false in
     let within : exceeds_row words ≡ false = sym c.exceeds_row.ensures ∙ c.if-exceeds_row.false in
-    let time_is : to_z w64 (of_z w64 c.self.inside.clock) ≡ c.self.inside.clock = search (rules, c.self.ranges, to_z-of_z) in
+    let time_is : to_z w64 (of_z w64 c.self.inside.clock) ≡ c.self.inside.clock = search (rules, to_z-of_z) in
     ap (λ (b : PlainBlock). with_words b words) (sym c.self.view_is)
     ∙ with-it block words c.in-Some.at found room within
     ∙ ap (λ (b : PlainBlock). Ok b)

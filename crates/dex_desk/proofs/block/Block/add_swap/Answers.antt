@@ -73,6 +73,7 @@ invariant_of-self-2 c =
     let start = block.draft.script.start in
     let names = c.self.inside.names in
     let words = c.args.words in
+    let time_is : to_z w64 (of_z w64 c.self.inside.clock) ≡ c.self.inside.clock = search (rules, to_z-of_z) in
     let first = c.into_instruction-first.result in
     let second = c.into_instruction-second.result in
     let one = c.into_instruction-first.ensures ∙ ap first_leg c.words.view_is in
@@ -89,7 +90,6 @@ invariant_of-self-2 c =
     let room = of-legs (both_full block) words first second c.exceeds_swap.result false one two c.exceeds_swap.ensures c.if-exceeds_swap.false in
     let good = of-legs is_bad_swap words first second c.is_bad_swap.result false one two c.is_bad_swap.ensures c.if-is_bad_swap.false in
     let free = (or-none _ _ (or-none _ _ room).0).0 in
-    let time_is : to_z w64 (of_z w64 c.self.inside.clock) ≡ c.self.inside.clock = search (rules, c.self.ranges, to_z-of_z) in
     let same : grown_both block words ≡ made block _ _ _ =
     grown-both-is block words _ _ _
     (both-behind block words (map row_of c.make_room.new.rows.items) (map row_of c.push_placed.new.rows.items) (map row_of c.push_placed-2.new.rows.items) first second _ one two time_is
@@ -112,6 +112,7 @@ returns c =
     let start = block.draft.script.start in
     let names = c.self.inside.names in
     let words = c.args.words in
+    let time_is : to_z w64 (of_z w64 c.self.inside.clock) ≡ c.self.inside.clock = search (rules, to_z-of_z) in
     let first = c.into_instruction-first.result in
     let second = c.into_instruction-second.result in
     let one = c.into_instruction-first.ensures ∙ ap first_leg c.words.view_is in
@@ -126,7 +127,6 @@ returns c =
     let room = of-legs (both_full block) words first second c.exceeds_swap.result false one two c.exceeds_swap.ensures c.if-exceeds_swap.false in
     let good = of-legs is_bad_swap words first second c.is_bad_swap.result false one two c.is_bad_swap.ensures c.if-is_bad_swap.false in
     let free = (or-none _ _ (or-none _ _ room).0).0 in
-    let time_is : to_z w64 (of_z w64 c.self.inside.clock) ≡ c.self.inside.clock = search (rules, c.self.ranges, to_z-of_z) in
     ap (λ (b : PlainBlock). with_both b words) (sym c.self.view_is)
     ∙ with-both block words at other here room good refl
     ∙ ap (λ (b : PlainBlock). Ok b)
