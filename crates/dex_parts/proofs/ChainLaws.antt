@@ -1,9 +1,8 @@
 -- A script in parts is one replay.
-use Rattle.std.proofs.Common.{◌≡◌, ◌==◌, ℕ, Bool, false, List, [], ◌∷◌, ◌++◌, append_assoc, length, map, Option, refl, sym, ap, ◌∙◌, subst}
+use Rattle.std.proofs.Common.{◌≡◌, ◌==◌, ℕ, false, List, [], ◌∷◌, ◌++◌, append_assoc, length, map, Option, refl, sym, ap, ◌∙◌, subst}
 use Rattle.std.specs.List.{All, AllZip}
 use Rattle.std.proofs.lemmas.List.{append-nil, length-map}
-use Rattle.std.proofs.lemmas.List.Elements.{All-append, All-cons, All-head, All-nil, All-tail, All-weaker}
-use Rattle.std.proofs.lemmas.Slice.Zip.{AllZip-long}
+use Rattle.std.proofs.lemmas.List.Elements.{All-append, All-weaker}
 use Rattle.dex_types.specs.declared.addresses.Address.{Address}
 use Rattle.dex_types.specs.declared.movements.Entry.{Entry}
 use Rattle.dex_types.specs.declared.movements.WalletEntry.{WalletEntry}
@@ -12,9 +11,7 @@ use Rattle.dex_types.specs.Accounts.{PlainAccount, PlainAccounts, PlainMarketAcc
 use Rattle.dex_types.specs.Rows.{PlainRow}
 use Rattle.dex_token.specs.TokenAccount.{with_amount}
 use Rattle.dex_token.proofs.AmountWrites.{with_amount-again}
-use Rattle.dex_accounts.specs.StandsFor.{StandsFor}
 use Rattle.dex_cell.specs.CellState.{AreOfOneMarket}
-use Rattle.dex_wallet.specs.CellState.{balance_of}
 use Rattle.dex_fold.specs.Items.{Item, fold_items, items_of}
 use Rattle.dex_fold.specs.World.{MarketState, WalletState, World}
 use Rattle.dex_fold.proofs.GroupLaws.{grouped-behind}
@@ -22,10 +19,11 @@ use Rattle.dex_fold.proofs.MappedLists.{All-front}
 use Rattle.dex_state.specs.Addresses.{address_of}
 use Rattle.dex_state.specs.Outcomes.{PlainMarketJournal, PlainOutcome, PlainWalletJournal}
 use Rattle.dex_script_facts.specs.PlainScript.{PlainScript}
-use Rattle.dex_replay.specs.Replays.{IsLeftIn, IsReplayOf, market_state, start_world, wallet_state, with_amounts, world_after}
+use Rattle.dex_replay.specs.Replays.{IsLeftIn, IsReplayOf, start_world, wallet_state, with_amounts, world_after}
 use Rattle.dex_parts.specs.Chains.{AreCut, AreLinked, AreTwoParts, IsChainOf, IsCut, market_journal_behind, outcome_behind, outcomes_behind, rows_of_parts, wallet_journal_behind}
 use Rattle.dex_parts.specs.Together.{bare_market, bare_wallet, bare_world, each_behind, market_behind, wallet_behind, world_behind}
 use Rattle.dex_parts.proofs.KeptLaws.{msrm-kept, program-kept, srm-kept}
+use Rattle.dex_parts.proofs.ListLaws.{All-behind}
 use Rattle.dex_parts.proofs.LeftLaws.{StandIn, left-as, markets-told, same-addresses, wallets-told}
 use Rattle.dex_parts.proofs.TogetherLaws.{behind-others, items-append}
 
@@ -96,7 +94,7 @@ of-one-market (x ∷ xs) (y ∷ ys) (z ∷ zs) one other = (
 -- ---- two parts
 
 module _ (script first second : PlainScript) (one two : PlainOutcome) (are : AreTwoParts script first one second) (left : IsReplayOf first one)
-  (then : IsReplayOf second two) where
+    (then : IsReplayOf second two) where
   abbrev done : List Item
   done = items_of first.rows
 
@@ -230,10 +228,6 @@ replay-as a b outcome start rows program replay =
 
 abbrev IsApart : PlainRow → PlainRow → Type 0
 IsApart one other = (one.number == other.number) ≡ false
-
-All-behind : {A : Type 0} (P : A → Type 0) (xs ys : List A) → All P (xs ++ ys) → All P ys
-All-behind P [] ys all = all
-All-behind P (x ∷ xs) ys all = All-behind P xs ys (All-tail P x (xs ++ ys) all)
 
 cut-front : (done rows later : List PlainRow) → IsCut done (rows ++ later) → IsCut done rows
 cut-front done rows later cut =

@@ -1,5 +1,5 @@
 -- What items keep of a world: the wallets but for their balances, the mints of SRM and MSRM, and the program.
-use Rattle.std.proofs.Common.{◌≡◌, ℕ, Bool, true, false, if◌then◌else◌, List, [], ◌∷◌, map, Option, Some, None, refl, ap, ◌∙◌}
+use Rattle.std.proofs.Common.{◌≡◌, Bool, true, false, if◌then◌else◌, List, [], ◌∷◌, map, Option, Some, None, refl, ap, ◌∙◌}
 use Rattle.dex_types.specs.declared.addresses.Address.{Address}
 use Rattle.dex_types.specs.declared.rows.Seen.{Seen}
 use Rattle.dex_types.specs.declared.rows.WalletSeen.{WalletSeen}
@@ -12,7 +12,7 @@ use Rattle.dex_history.specs.Journal.{row_step}
 use Rattle.dex_fold.specs.Fold.{act, acted, fold, names, wallet_acted, wallet_moved}
 use Rattle.dex_fold.specs.Groups.{members}
 use Rattle.dex_fold.specs.Items.{Item, act_item, chosen, fold_items}
-use Rattle.dex_fold.specs.World.{MarketState, WalletState, World, market_at, seen_by}
+use Rattle.dex_fold.specs.World.{WalletState, World, market_at, seen_by}
 
 -- what each row keeps items keep
 module _ {A : Type 0} (tell : World → A) (kept : (row : PlainRow) (found : Option Market) (world : World) → tell (acted row found world) ≡ tell world) where

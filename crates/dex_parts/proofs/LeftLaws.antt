@@ -1,7 +1,6 @@
 -- What is left of a world: journals are its, and accounts tell its markets and wallets, without their journals.
-use Rattle.std.proofs.Common.{◌≡◌, ℕ, List, [], ◌∷◌, length, map, refl, sym, ap, ◌∙◌, subst}
+use Rattle.std.proofs.Common.{◌≡◌, ℕ, List, [], ◌∷◌, map, refl, sym, ap, ◌∙◌, subst}
 use Rattle.std.specs.List.{AllZip}
-use Rattle.std.proofs.lemmas.List.{length-map}
 use Rattle.dex_types.specs.declared.addresses.Address.{Address}
 use Rattle.dex_types.specs.declared.rows.WalletSeen.{WalletSeen}
 use Rattle.dex_types.specs.Accounts.{PlainAccount, PlainAccounts, PlainMarketAccounts}
@@ -19,7 +18,7 @@ use Rattle.dex_state.specs.Addresses.{address_of}
 use Rattle.dex_state.specs.Outcomes.{PlainMarketJournal, PlainOutcome, PlainWalletJournal}
 use Rattle.dex_script_facts.specs.PlainScript.{PlainScript}
 use Rattle.dex_replay.specs.Alike.{StandForOne}
-use Rattle.dex_replay.specs.Replays.{IsLeftBy, IsLeftIn, IsOfStart, market_state, start_world, wallet_state, with_amounts, world_after}
+use Rattle.dex_replay.specs.Replays.{IsLeftBy, IsLeftIn, market_state, start_world, wallet_state, with_amounts, world_after}
 use Rattle.dex_parts.specs.Together.{bare_market, bare_wallet}
 use Rattle.dex_parts.proofs.KeptLaws.{named, named-kept}
 

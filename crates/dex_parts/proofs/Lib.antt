@@ -1,4 +1,5 @@
 pub mod TogetherLaws
+pub mod ListLaws
 pub mod KeptLaws
 pub mod LeftLaws
 pub mod ChainLaws
@@ -7,3 +8,7 @@ pub mod ShardWorlds
 pub mod ShardLaws
 pub mod ShardWorths
 pub mod ShardSums
+pub mod JoinLaws
+pub mod ShardedLaws
+pub mod CutLaws
+pub mod AuditLaws

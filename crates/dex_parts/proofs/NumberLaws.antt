@@ -1,6 +1,6 @@
 -- Rows that are counted anew leave the same.
-use Rattle.std.proofs.Common.{◌≡◌, ℕ, Bool, true, false, ◌||◌, eqb, cond, if◌then◌else◌, List, [], ◌∷◌, ◌++◌, Option, Some, None, is_some, map, refl, sym, ap, ◌∙◌, subst, ⊎_elim}
-use Rattle.std.specs.List.{AllZip, list_any}
+use Rattle.std.proofs.Common.{◌≡◌, ℕ, Bool, true, false, ◌||◌, eqb, cond, if◌then◌else◌, List, [], ◌∷◌, Option, Some, None, is_some, map, refl, sym, ap, ◌∙◌, subst, ⊎_elim}
+use Rattle.std.specs.List.{AllZip}
 use Rattle.std.proofs.lemmas.Bool.{cases_Bool, eq-eqb, eqb-false, eqb-true, ne_eqb}
 use Rattle.std.proofs.lemmas.List.{map_push}
 use Rattle.dex_types.specs.declared.addresses.Address.{Address}
@@ -21,7 +21,7 @@ use Rattle.dex_movements.specs.Entries.{entry_by, wallet_entry_by}
 use Rattle.dex_token.specs.TokenAccount.{with_amount}
 use Rattle.dex_accounts.specs.StandsFor.{StandsFor}
 use Rattle.dex_fold.specs.Fold.{act, acted, fold, market_acted, markets_acted, names, wallet_acted, wallet_moved}
-use Rattle.dex_fold.specs.Groups.{Group, alone, grouped, joined, map_group, members}
+use Rattle.dex_fold.specs.Groups.{alone, grouped, joined, map_group, members}
 use Rattle.dex_fold.specs.Items.{Item, act_item, chosen, fold_items, held_in, idle_row, is_any_refused, items_of, why_in, why_on}
 use Rattle.dex_fold.specs.World.{MarketState, WalletState, World, market_at, role_at, seen_by, wallet_at}
 use Rattle.dex_fold.proofs.GroupLaws.{grouped-map}

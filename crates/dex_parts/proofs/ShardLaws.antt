@@ -1,8 +1,7 @@
 -- What a shard leaves by itself is what the whole leaves of it.
-use Rattle.std.proofs.Common.{◌≡◌, ◌==◌, ◌≤◌, ◌<◌, ℕ, suc, Bool, true, false, cond, List, [], ◌∷◌, get_or, arith, map, Option, refl, sym, ap, ◌∙◌, subst}
+use Rattle.std.proofs.Common.{◌≡◌, ◌==◌, ◌≤◌, ℕ, suc, Bool, true, false, cond, List, [], ◌∷◌, get_or, arith, map, Option, refl, sym, ap, ◌∙◌, subst}
 use Rattle.std.specs.List.{All, AllZip, filter}
-use Rattle.std.proofs.lemmas.Bool.{cond-false, cond-true, cond_both}
-use Rattle.std.proofs.lemmas.List.Elements.{All-cons, All-weaker, filter_agree}
+use Rattle.std.proofs.lemmas.List.Elements.{All-cons, filter_agree}
 use Rattle.dex_types.specs.declared.addresses.Address.{Address}
 use Rattle.dex_types.specs.declared.rows.WalletSeen.{WalletSeen}
 use Rattle.dex_types.specs.declared.terms.Program.{Program}
@@ -10,7 +9,6 @@ use Rattle.dex_types.specs.Accounts.{PlainAccount, PlainMarketAccounts}
 use Rattle.dex_types.specs.Market.{Listing}
 use Rattle.dex_types.specs.Rows.{PlainRow}
 use Rattle.dex_token.specs.TokenAccount.{with_amount}
-use Rattle.dex_accounts.specs.Decoded.{market_in}
 use Rattle.dex_fold.specs.Groups.{members}
 use Rattle.dex_fold.specs.Items.{Item, fold_items, items_of}
 use Rattle.dex_fold.specs.World.{MarketState, WalletState, World}
@@ -19,7 +17,6 @@ use Rattle.dex_fold.proofs.MappedLists.{filter-of, head-same, tail-same}
 use Rattle.dex_state.specs.Outcomes.{PlainMarketJournal, PlainOutcome, PlainWalletJournal}
 use Rattle.dex_script_facts.specs.Facts.{AreRows}
 use Rattle.dex_script_facts.specs.PlainScript.{PlainScript}
-use Rattle.dex_replay.specs.Alike.{StandForOne}
 use Rattle.dex_replay.specs.Replays.{IsReplayOf, market_state, start_world, wallet_state, with_amounts, world_after}
 use Rattle.dex_replay.proofs.Groups.{each-two, each-two-weaker, grouped-each, grouped-filter, grouped-number, grouped-two}
 use Rattle.dex_replay.proofs.LastAccounts.{listing-in}

@@ -1,9 +1,9 @@
 -- The worths of a shard's accounts are those of the whole.
-use Rattle.std.proofs.Common.{◌≡◌, ◌==◌, ◌&&◌, ℕ, ℤ, pos, ◌+ℤ◌, ◌-ℤ◌, Bool, true, false, cond, List, [], ◌∷◌, ◌++◌, get_or, map, Option, Some, None, refl, sym, ap, ◌∙◌, subst}
+use Rattle.std.proofs.Common.{◌≡◌, ◌==◌, ℕ, ℤ, pos, ◌+ℤ◌, ◌-ℤ◌, Bool, true, false, cond, List, [], ◌∷◌, ◌++◌, get_or, map, Option, Some, None, refl, sym, ap, ◌∙◌}
 use Rattle.std.specs.List.{All, AllZip, filter}
 use Rattle.std.specs.Option.{unwrap_or}
-use Rattle.std.proofs.lemmas.Bool.{and_parts, both_ways, cond-false, cond-true, cond_both}
-use Rattle.std.proofs.lemmas.List.Elements.{All-cons, All-head, All-map, All-tail, filter-append}
+use Rattle.std.proofs.lemmas.Bool.{and_parts, both_ways, cond-false, cond_both}
+use Rattle.std.proofs.lemmas.List.Elements.{All-head, All-map, All-tail, filter-append}
 use Rattle.dex_types.specs.declared.addresses.Address.{Address}
 use Rattle.dex_types.specs.declared.movements.Entry.{Entry}
 use Rattle.dex_types.specs.declared.movements.Movement.{Movement}
@@ -35,7 +35,7 @@ use Rattle.dex_replay.specs.EntryCalls.{call_by, call_told, calls_told, is_row_o
 use Rattle.dex_replay.specs.Replays.{IsReplayOf}
 use Rattle.dex_replay.specs.Told.{told_in, told_out}
 use Rattle.dex_replay.specs.WorthTold.{PlainWorthRow, calls_of, row_told, rows_told, table_told, tables_told, worth_told}
-use Rattle.dex_parts.specs.Shards.{FallsInto, IsLeftInShard, IsOfOneShard, IsShardOf, Sharding, has_market, has_wallet, market_journals_in, markets_in, rows_in, wallets_in}
+use Rattle.dex_parts.specs.Shards.{FallsInto, IsLeftInShard, IsOfOneShard, IsShardOf, Sharding, has_market, has_wallet, market_journals_in, markets_in}
 use Rattle.dex_parts.proofs.LeftLaws.{same-addresses}
 use Rattle.dex_parts.proofs.ShardLaws.{shard-left}
 

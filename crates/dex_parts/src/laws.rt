@@ -1,9 +1,14 @@
 //! Laws of scripts in parts. Each is a function without a body, and its clauses are the law.
 
-ghost use Rattle.std.specs.Prelude.{◌≡◌, ◌++◌, ◌∷◌, ◌<◌, ℕ, List, All, map};
-ghost use Rattle.std.specs.List.{filter};
+ghost use Rattle.std.specs.Prelude.{◌≡◌, ◌++◌, ◌∷◌, ◌<◌, ◌↔◌, ℕ, List, All, map};
+ghost use Rattle.std.specs.List.{Contains, filter};
 ghost use Rattle.dex_types.specs.declared.addresses.Address.{Address};
 ghost use Rattle.dex_types.specs.Accounts.{PlainAccount, PlainAccounts, PlainMarketAccounts};
+ghost use Rattle.dex_audit.specs.Findings.{told};
+ghost use Rattle.dex_audit.specs.Supplies.{supply_off};
+ghost use Rattle.dex_audit_rules.specs.Funds.{differs};
+ghost use Rattle.dex_audit_rules.specs.declared.finding.Finding.{Finding};
+ghost use Rattle.dex_audit_rules.specs.declared.market.Rule.{Rule};
 ghost use Rattle.dex_fold.specs.Items.{Item, fold_items};
 ghost use Rattle.dex_fold.specs.World.{World};
 ghost use Rattle.dex_state.specs.Conserved.{held_of};
@@ -13,7 +18,10 @@ ghost use Rattle.dex_script_facts.specs.PlainScript.{PlainScript};
 ghost use Rattle.dex_replay.specs.Alike.{AreAlike};
 ghost use Rattle.dex_replay.specs.Replays.{IsReplayOf};
 ghost use Rattle.dex_replay.specs.WorthTold.{PlainWorthRow, table_told};
-ghost use Rattle.dex_parts.specs.Chains.{AreTwoParts, IsChainOf, outcome_behind, outcomes_behind};
+ghost use Rattle.dex_token.specs.MintAccount.{mint_words};
+ghost use Rattle.dex_parts.specs.Audits.{IsFoundIn};
+ghost use Rattle.dex_parts.specs.Chains.{AreLinked, AreTwoParts, IsChainOf, outcome_behind, outcomes_behind};
+ghost use Rattle.dex_parts.specs.Cuts.{AreCutBy, numbers_of, parts_by};
 ghost use Rattle.dex_parts.specs.Numbered.{KeepsApart, outcome_with, script_with};
 ghost use Rattle.dex_parts.specs.Shards.{FallsInto, IsItemOfOneShard, IsLeftInShard, IsShardOf, Sharding};
 ghost use Rattle.dex_parts.specs.Shards.{accounts_in, has_market, items_in, sum_over, world_in};
@@ -77,4 +85,27 @@ pub fn shards_hold_together_what_the_whole_holds()
         → All (λ (wallet : PlainAccount). sharding.wallet wallet.address < count) accounts.wallets
         → (mint : Address) → held_of mint accounts
         ≡ sum_over count (λ (shard : ℕ). held_of mint (accounts_in sharding shard accounts)) }
+{}
+
+/// A script that is cut so (`chained`) is a chain: whatever parts have these rows, each from where the one before ends, under the script's
+/// program.
+pub fn a_script_that_is_cut_is_a_chain()
+    ensures { (most : ℕ) (counts : List ℕ) (script : PlainScript) (parts : List PlainScript)
+        → (outcomes : List PlainOutcome) → AreCutBy most counts (numbers_of script.rows)
+        → map (λ (part : PlainScript). part.rows) parts ≡ parts_by counts script.rows
+        → AreLinked script.program script.start parts outcomes → IsChainOf script parts outcomes }
+{}
+
+/// What an audit finds of markets, by each of its rules, it finds in their shards; and what it compares a mint's supply with is what
+/// all shards hold together.
+pub fn an_audit_finds_in_shards_what_it_finds_in_all()
+    ensures markets { (sharding : Sharding) (count : ℕ) (rule : Rule) (markets : List PlainMarketAccounts)
+        → All (λ (market : PlainMarketAccounts). sharding.market market.address < count) markets
+        → (finding : Finding) → Contains (told rule markets) finding ↔ IsFoundIn sharding count rule markets finding }
+    ensures mints { (sharding : Sharding) (count : ℕ) (accounts : PlainAccounts)
+        → All (λ (market : PlainMarketAccounts). sharding.market market.address < count) accounts.markets
+        → All (λ (wallet : PlainAccount). sharding.wallet wallet.address < count) accounts.wallets
+        → (mint : PlainAccount) → supply_off accounts mint
+        ≡ differs 12 mint.address 36 (mint_words mint.bytes).supply
+        (sum_over count (λ (shard : ℕ). held_of mint.address (accounts_in sharding shard accounts))) }
 {}

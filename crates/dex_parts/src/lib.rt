@@ -2,4 +2,10 @@
 //! what the whole leaves.
 #![tactic(auto)]
 
+mod chains;
+mod joins;
 pub mod laws;
+mod shards;
+
+pub use chains::chained;
+pub use shards::{Shards, shards_of};

@@ -1,0 +1,207 @@
+-- Rows that are cut where no number is parted are a chain.
+use Rattle.std.proofs.Common.{◌≡◌, ◌<◌, ◌≤◌, ◌+◌, ◌-◌, ◌==◌, ℕ, zero, suc, false, List, [], ◌∷◌, ◌++◌, append_assoc, drop, get_or, length, map, max, take, refl, sym, ap, ◌∙◌, subst, arith, ⊎_elim}
+use Rattle.std.specs.List.{All, AllPairs}
+use Rattle.std.proofs.lemmas.Bool.{cases_eq, ne_eqb}
+use Rattle.std.proofs.lemmas.List.{append-nil, get_or-drop, get_or-map, get_or-take, get_or_default, length-drop, length-map, length-take-le}
+use Rattle.dex_types.specs.declared.rows.RowPlaces.{RowPlaces}
+use Rattle.dex_types.specs.Rows.{PlainRow}
+use Rattle.dex_fold.proofs.MappedLists.{All-unmap, head-same, tail-same, zip-map}
+use Rattle.dex_script_facts.proofs.PlacedLaws.{item_at}
+use Rattle.dex_script_facts.specs.Facts.{AreRows, HasNoThree}
+use Rattle.dex_script_facts.specs.Places.{AreBeside, IsBeside}
+use Rattle.dex_script_facts.specs.PlainScript.{PlainScript}
+use Rattle.dex_state.specs.Outcomes.{PlainOutcome}
+use Rattle.dex_parts.specs.Chains.{AreCut, AreLinked, IsChainOf, IsCut, rows_of_parts}
+use Rattle.dex_parts.specs.Cuts.{AreCutBy, AreInOrder, ArePartedAt, numbers_of, parts_by}
+
+-- ---- lists in two
+
+take-and-drop : {A : Type 0} (n : ℕ) (xs : List A) → take n xs ++ drop n xs ≡ xs
+take-and-drop zero xs = refl
+take-and-drop (suc n) [] = refl
+take-and-drop (suc n) (x ∷ xs) = ap (λ rest. x ∷ rest) (take-and-drop n xs)
+
+map-take : {A B : Type 0} (f : A → B) (n : ℕ) (xs : List A) → map f (take n xs) ≡ take n (map f xs)
+map-take f zero xs = refl
+map-take f (suc n) [] = refl
+map-take f (suc n) (x ∷ xs) = ap (λ rest. f x ∷ rest) (map-take f n xs)
+
+map-drop : {A B : Type 0} (f : A → B) (n : ℕ) (xs : List A) → map f (drop n xs) ≡ drop n (map f xs)
+map-drop f zero xs = refl
+map-drop f (suc n) [] = refl
+map-drop f (suc n) (x ∷ xs) = map-drop f n xs
+
+-- ---- numbers in order
+
+pub order-behind : (count : ℕ) (numbers : List ℕ) → AreInOrder numbers → AreInOrder (drop count numbers)
+order-behind count numbers order = record {
+  rising = λ one other less within.
+      subst (λ (n : ℕ). n ≤ get_or (drop count numbers) other 0) (sym (get_or-drop count numbers one 0))
+      (subst (λ (n : ℕ). get_or numbers (count + one) 0 ≤ n) (sym (get_or-drop count numbers other 0))
+      (order.rising (count + one) (count + other) (omega (arith, less)) (omega (arith, within, length-drop count numbers))));
+  two = λ place within.
+      subst (λ (n : ℕ). n < get_or (drop count numbers) (place + 2) 0) (sym (get_or-drop count numbers place 0))
+      (subst (λ (n : ℕ). get_or numbers (count + place) 0 < n) (sym (get_or-drop count numbers (place + 2) 0 ∙ ap (λ (k : ℕ). get_or numbers k 0) (omega arith)))
+      (order.two (count + place) (omega (arith, within, length-drop count numbers))));
+}
+
+-- a cut between two numbers parts none
+pub parted-at : (numbers : List ℕ) (count : ℕ) → AreInOrder numbers → 0 < count → (count < length numbers → get_or numbers (count - 1) 0 < get_or numbers count 0)
+    → ArePartedAt count numbers
+parted-at numbers count order some apart = λ i d within j e behind.
+    let front_long = length-take-le count numbers in
+    let last : count < length numbers = omega (arith, behind, length-drop count numbers) in
+    let here : get_or (take count numbers) i d ≡ get_or numbers i 0 =
+    get_or_default (take count numbers) i d 0 within ∙ get_or-take count numbers i 0 (omega (arith, within, front_long (omega (arith, last)))) in
+    let there : get_or (drop count numbers) j e ≡ get_or numbers (count + j) 0 =
+    get_or_default (drop count numbers) j e 0 behind ∙ get_or-drop count numbers j 0 in
+    let low : get_or numbers i 0 ≤ get_or numbers (count - 1) 0 = below i (count - 1) (omega (arith, within, front_long (omega (arith, last)))) (omega (arith, last)) in
+    let high : get_or numbers count 0 ≤ get_or numbers (count + j) 0 = below count (count + j) (omega arith) (omega (arith, behind, length-drop count numbers, last)) in
+    ne_eqb (get_or (take count numbers) i d) (get_or (drop count numbers) j e) (λ same. omega (arith, here, there, low, high, apart last, same))
+  where
+    below : (one other : ℕ) → one ≤ other → other < length numbers → get_or numbers one 0 ≤ get_or numbers other 0
+    below one other most inside =
+        ⊎_elim (λ (same : one ≡ other). subst (λ (n : ℕ). get_or numbers one 0 ≤ get_or numbers n 0) same (omega arith))
+        (λ (differ : one ≡ other → ⊥). order.rising one other (omega (arith, most, differ)) inside) (cases_eq one other)
+
+-- the number at a place
+pub number-at : (places : List RowPlaces) (place : ℕ) (d : RowPlaces) → place < length places
+    → get_or (map (λ (at : RowPlaces). at.number) places) place 0 ≡ (get_or places place d).number
+number-at places place d within = get_or-map (λ (at : RowPlaces). at.number) places place d 0 within
+
+-- the numbers of rows are in order
+pub rows-in-order : (rows : List PlainRow) → AllPairs (λ (one other : PlainRow). one.number ≤ other.number) rows → HasNoThree rows → AreInOrder (numbers_of rows)
+rows-in-order rows rising two = record {
+  rising = λ one other less within.
+      let long = length-map rows (λ (row : PlainRow). row.number) in
+      at-rows one (omega (arith, less, within, long)) (λ (n : ℕ). n ≤ get_or (numbers_of rows) other 0)
+      (λ (d : PlainRow). at-rows other (omega (arith, within, long)) (λ (n : ℕ). (get_or rows one d).number ≤ n)
+      (λ (e : PlainRow). subst (λ (row : PlainRow). row.number ≤ (get_or rows other e).number) (get_or_default rows one e d (omega (arith, less, within, long))) (rising one other e less (omega (arith, within, long)))));
+  two = λ place within.
+      let long = length-map rows (λ (row : PlainRow). row.number) in
+      at-rows place (omega (arith, within, long)) (λ (n : ℕ). n < get_or (numbers_of rows) (place + 2) 0)
+      (λ (d : PlainRow). at-rows (place + 2) (omega (arith, within, long)) (λ (n : ℕ). (get_or rows place d).number < n)
+      (λ (e : PlainRow). subst (λ (row : PlainRow). row.number < (get_or rows (place + 2) e).number) (get_or_default rows place e d (omega (arith, within, long))) (two place e (omega (arith, within, long)))));
+}
+  where
+    at-rows : (place : ℕ) → place < length rows → (P : ℕ → Type 0) → ((d : PlainRow) → P (get_or rows place d).number) → P (get_or (numbers_of rows) place 0)
+    at-rows place within P each =
+        let d : PlainRow = item_at rows place within in
+        subst P (sym (get_or-map (λ (row : PlainRow). row.number) rows place d 0 within)) (each d)
+
+-- ---- where a part ends
+
+module _ (places : List RowPlaces) (most : ℕ) (order : AreInOrder (map (λ (at : RowPlaces). at.number) places)) (some : 0 < most) (within : most < length places) where
+  abbrev numbers : List ℕ
+  numbers = map (λ (at : RowPlaces). at.number) places
+
+  long : length numbers ≡ length places
+  long = length-map places (λ (at : RowPlaces). at.number)
+
+  -- where the number rises
+  pub parted-before : (d e : RowPlaces) → (get_or places (most - 1) d).number < (get_or places most e).number → ArePartedAt most numbers
+  parted-before d e rises =
+      parted-at numbers most order some (λ inside. omega (arith, rises, number-at places (most - 1) d (omega (arith, within)), number-at places most e within))
+
+  module _ (d e : RowPlaces) (stays : (get_or places most e).number ≤ (get_or places (most - 1) d).number) where
+    stays-there : get_or numbers most 0 ≤ get_or numbers (most - 1) 0
+    stays-there = omega (arith, stays, number-at places (most - 1) d (omega (arith, within)), number-at places most e within)
+
+    -- behind the first two, where they have one number
+    pub parted-two : most ≡ 1 → ArePartedAt 2 numbers
+    parted-two is =
+        let first : get_or numbers (most - 1) 0 ≡ get_or numbers 0 0 = ap (λ (k : ℕ). get_or numbers k 0) (omega (arith, is)) in
+        let second : get_or numbers most 0 ≡ get_or numbers 1 0 = ap (λ (k : ℕ). get_or numbers k 0) is in
+        parted-at numbers 2 order (omega arith) (λ inside. let rises : get_or numbers 0 0 < get_or numbers 2 0 = order.two 0 inside in omega (arith, stays-there, first, second, rises))
+
+    -- one place before
+    pub parted-less : (most ≡ 1 → ⊥) → ArePartedAt (most - 1) numbers
+    parted-less more =
+        parted-at numbers (most - 1) order (omega (arith, some, more))
+        (λ inside.
+        let rises : get_or numbers (most - 2) 0 < get_or numbers (most - 2 + 2) 0 = order.two (most - 2) (omega (arith, within, long, some, more)) in
+        let last : get_or numbers (most - 2 + 2) 0 ≡ get_or numbers most 0 = ap (λ (k : ℕ). get_or numbers k 0) (omega (arith, some, more)) in
+        let before : get_or numbers (most - 1 - 1) 0 ≡ get_or numbers (most - 2) 0 = ap (λ (k : ℕ). get_or numbers k 0) (omega (arith, some, more)) in
+        omega (arith, rises, last, before, stays-there))
+
+-- ---- parts, one after the other
+
+-- rows are cut up to those that are left
+pub record AreCutUpTo (most : ℕ) (counts : List ℕ) (left places : List RowPlaces) : Type 0 where
+  pub order : AreInOrder (map (λ (at : RowPlaces). at.number) left)
+  pub cut : (more : List ℕ) → AreCutBy most more (map (λ (at : RowPlaces). at.number) left) → AreCutBy most (counts ++ more) (map (λ (at : RowPlaces). at.number) places)
+
+pub one-part-more : (most count : ℕ) (counts new : List ℕ) (left rest places : List RowPlaces) → AreCutUpTo most counts left places → 0 < count → count ≤ max most 2
+    → ArePartedAt count (map (λ (at : RowPlaces). at.number) left) → new ≡ counts ++ count ∷ [] → rest ≡ drop count left → AreCutUpTo most new rest places
+one-part-more most count counts new left rest places upto some few parted is behind =
+    let number : RowPlaces → ℕ = λ (at : RowPlaces). at.number in
+    let numbers : map number rest ≡ drop count (map number left) = ap (map number) behind ∙ map-drop number count left in
+    record {
+      order = subst AreInOrder (sym numbers) (order-behind count (map number left) upto.order);
+      cut = λ more cut.
+          subst (λ (all : List ℕ). AreCutBy most all (map number places)) (sym (append_assoc counts (count ∷ []) more) ∙ ap (λ (all : List ℕ). all ++ more) (sym is))
+          (upto.cut (count ∷ more) (some, few, parted, subst (AreCutBy most more) numbers cut));
+    }
+
+-- none is left
+pub all-parts : (most : ℕ) (counts : List ℕ) (left places : List RowPlaces) → AreCutUpTo most counts left places → length left ≡ 0
+    → AreCutBy most counts (map (λ (at : RowPlaces). at.number) places)
+all-parts most counts left places upto none =
+    subst (λ (all : List ℕ). AreCutBy most all (map (λ (at : RowPlaces). at.number) places)) (append-nil counts)
+    (upto.cut [] (ap (map (λ (at : RowPlaces). at.number)) (empty left none)))
+  where
+    empty : (some : List RowPlaces) → length some ≡ 0 → some ≡ []
+    empty [] is = refl
+    empty (at ∷ others) is = absurd (omega (arith, is))
+
+-- ---- the numbers beside rows are theirs
+
+pub numbers-beside : (rows : List PlainRow) (places own : List RowPlaces) → own ≡ places → AreBeside rows places → map (λ (at : RowPlaces). at.number) own ≡ numbers_of rows
+numbers-beside rows places own same beside =
+    ap (map (λ (at : RowPlaces). at.number)) same
+    ∙ zip-map IsBeside (λ (row : PlainRow). row.number) (λ (at : RowPlaces). at.number) (λ row at is. is.number) rows places beside
+
+pub own-in-order : (script : PlainScript) (places own : List RowPlaces) → own ≡ places → AreBeside script.rows places → AreRows script
+    → AreInOrder (map (λ (at : RowPlaces). at.number) own)
+own-in-order script places own same beside facts =
+    subst AreInOrder (sym (numbers-beside script.rows places own same beside)) (rows-in-order script.rows facts.rising facts.two)
+
+-- ---- a chain
+
+cut-of : (count : ℕ) (rows : List PlainRow) → ArePartedAt count (numbers_of rows) → IsCut (take count rows) (drop count rows)
+cut-of count rows parted =
+    let number : PlainRow → ℕ = λ (row : PlainRow). row.number in
+    let Apart : ℕ → Type 0 = λ (one : ℕ). All (λ (other : ℕ). (one == other) ≡ false) (drop count (numbers_of rows)) in
+    let front : All (λ (row : PlainRow). Apart (number row)) (take count rows) =
+    All-unmap Apart number (take count rows) (subst (All Apart) (sym (map-take number count rows)) parted) in
+    λ k d within.
+    All-unmap (λ (other : ℕ). (number (get_or (take count rows) k d) == other) ≡ false) number (drop count rows)
+    (subst (All (λ (other : ℕ). (number (get_or (take count rows) k d) == other) ≡ false)) (sym (map-drop number count rows)) (front k d within))
+
+nil-of : (rows : List PlainRow) → numbers_of rows ≡ [] → rows ≡ []
+nil-of [] none = refl
+nil-of (row ∷ rows) none = absurd (cc)
+
+-- parts with these rows are cut, and have them all
+parts-cut : (most : ℕ) (counts : List ℕ) (rows : List PlainRow) (parts : List PlainScript) → AreCutBy most counts (numbers_of rows)
+    → map (λ (part : PlainScript). part.rows) parts ≡ parts_by counts rows → (rows ≡ rows_of_parts parts) × AreCut parts
+parts-cut most [] rows [] cut same = (nil-of rows cut, tt)
+parts-cut most [] rows (part ∷ parts) cut same = absurd (cc)
+parts-cut most (count ∷ counts) rows [] cut same = absurd (cc)
+parts-cut most (count ∷ counts) rows (part ∷ parts) cut same =
+    let number : PlainRow → ℕ = λ (row : PlainRow). row.number in
+    let front : part.rows ≡ take count rows = head-same same in
+    let rest = parts-cut most counts (drop count rows) parts (subst (AreCutBy most counts) (sym (map-drop number count rows)) cut.3) (tail-same same) in (
+      sym (take-and-drop count rows) ∙ ap (λ (some : List PlainRow). some ++ drop count rows) (sym front) ∙ ap (λ (some : List PlainRow). part.rows ++ some) rest.0,
+      (
+        subst (λ (some : List PlainRow). IsCut some (rows_of_parts parts)) (sym front)
+            (subst (IsCut (take count rows)) rest.0 (cut-of count rows cut.2)),
+        rest.1,
+      ),
+    )
+
+pub is-chain : (most : ℕ) (counts : List ℕ) (script : PlainScript) (parts : List PlainScript) (outcomes : List PlainOutcome) → AreCutBy most counts (numbers_of script.rows)
+    → map (λ (part : PlainScript). part.rows) parts ≡ parts_by counts script.rows → AreLinked script.program script.start parts outcomes → IsChainOf script parts outcomes
+is-chain most counts script parts outcomes cut same links =
+    let are = parts-cut most counts script.rows parts cut same in
+    record { rows = are.0; cut = are.1; links = links }

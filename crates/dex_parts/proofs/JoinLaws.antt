@@ -1,0 +1,190 @@
+-- What joins leave of labels.
+use Rattle.std.proofs.Common.{◌≡◌, ◌<◌, ◌≤◌, ◌+◌, ℕ, eqb, ltb, List, [], ◌∷◌, ◌++◌, get_or, length, map, refl, sym, ap, ◌∙◌, subst, arith, ⊎_elim, ◌⊎◌, inl, inr}
+use Rattle.std.specs.List.{All}
+use Rattle.std.proofs.lemmas.Bool.{cond-false, cond-true, cond_both, eq-eqb, eqb-true, le-ltb, lt-ltb, ltb-false, ltb-true}
+use Rattle.std.proofs.lemmas.List.{get_or-map, length-map}
+use Rattle.std.proofs.lemmas.List.Elements.{All-cons, All-head, All-nil, All-tail}
+use Rattle.dex_types.specs.declared.rows.RowPlaces.{RowPlaces}
+use Rattle.dex_fold.proofs.MappedLists.{All-front}
+use Rattle.dex_parts.specs.Joins.{IsWithin, Link, all_joined, joined, leg_links, links_of, relabelled, role_links, row_links}
+use Rattle.dex_parts.proofs.ListLaws.{All-behind}
+
+-- ---- how many there are
+
+relabelled-long : (from to : ℕ) (labels : List ℕ) → length (map (relabelled from to) labels) ≡ length labels
+relabelled-long from to labels = length-map labels (relabelled from to)
+
+joined-long : (labels : List ℕ) (link : Link) → length (joined labels link) ≡ length labels
+joined-long labels link =
+    let one : ℕ = get_or labels link.0 0 in
+    let other : ℕ = get_or labels link.1 0 in
+    cond_both (ltb one other) (map (relabelled other one) labels) (map (relabelled one other) labels) (λ (all : List ℕ). length all ≡ length labels)
+    (λ lower. relabelled-long other one labels) (λ higher. relabelled-long one other labels)
+
+pub joined-all-long : (labels : List ℕ) (links : List Link) → length (all_joined labels links) ≡ length labels
+joined-all-long labels [] = refl
+joined-all-long labels (link ∷ links) = joined-all-long (joined labels link) links ∙ joined-long labels link
+
+-- some links, and then others
+pub joined-append : (labels : List ℕ) (links more : List Link) → all_joined labels (links ++ more) ≡ all_joined (all_joined labels links) more
+joined-append labels [] more = refl
+joined-append labels (link ∷ links) more = joined-append (joined labels link) links more
+
+-- ---- labels that are one
+
+relabelled-same : (label : ℕ) (labels : List ℕ) → map (relabelled label label) labels ≡ labels
+relabelled-same label [] = refl
+relabelled-same label (first ∷ others) =
+    ap (λ (n : ℕ). n ∷ map (relabelled label label) others)
+    (cond_both (eqb first label) label first (λ (n : ℕ). n ≡ first) (λ same. sym (eqb-true first label same)) (λ apart. refl))
+    ∙ ap (λ (rest : List ℕ). first ∷ rest) (relabelled-same label others)
+
+-- of two with one label none changes
+pub joined-same : (labels : List ℕ) (one other : ℕ) → get_or labels one 0 ≡ get_or labels other 0 → joined labels (one, other) ≡ labels
+joined-same labels one other same =
+    let first : ℕ = get_or labels one 0 in
+    let second : ℕ = get_or labels other 0 in
+    cond-false (ltb first second) (map (relabelled second first) labels) (map (relabelled first second) labels) (le-ltb first second (omega (arith, same)))
+    ∙ ap (λ (n : ℕ). map (relabelled first n) labels) (sym same)
+    ∙ relabelled-same first labels
+
+-- ---- what a join does to the label of a place, by the lower and the higher of the two labels
+
+-- labels in which one label was taken for another that is no higher
+record IsRelabelled (labels new : List ℕ) (from to : ℕ) : Type 0 where
+  lower : to ≤ from
+  is : new ≡ map (relabelled from to) labels
+
+-- the labels of a link, the higher and the lower
+record IsJoined (labels new : List ℕ) (link : Link) : Type 0 where
+  from : ℕ
+  to : ℕ
+  relabels : IsRelabelled labels new from to
+  ends : ((get_or labels link.0 0 ≡ to) × (get_or labels link.1 0 ≡ from)) ⊎ ((get_or labels link.0 0 ≡ from) × (get_or labels link.1 0 ≡ to))
+
+is-joined : (labels : List ℕ) (link : Link) → IsJoined labels (joined labels link) link
+is-joined labels link =
+    let one : ℕ = get_or labels link.0 0 in
+    let other : ℕ = get_or labels link.1 0 in
+    cond_both (ltb one other) (map (relabelled other one) labels) (map (relabelled one other) labels) (λ (new : List ℕ). IsJoined labels new link)
+    (λ lower. record { from = other; to = one; relabels = record { lower = omega (arith, ltb-true one other lower); is = refl }; ends = inl (refl, refl) })
+    (λ higher. record { from = one; to = other; relabels = record { lower = ltb-false one other higher; is = refl }; ends = inr (refl, refl) })
+
+-- the label at a place
+label-at : (labels new : List ℕ) (from to place : ℕ) → new ≡ map (relabelled from to) labels → place < length labels
+    → get_or new place 0 ≡ relabelled from to (get_or labels place 0)
+label-at labels new from to place is within =
+    ap (λ (all : List ℕ). get_or all place 0) is ∙ get_or-map (relabelled from to) labels place 0 0 within
+
+relabelled-from : (from to : ℕ) → relabelled from to from ≡ to
+relabelled-from from to = cond-true (eqb from from) to from (eq-eqb from from refl)
+
+relabelled-to : (from to : ℕ) → relabelled from to to ≡ to
+relabelled-to from to = cond_both (eqb to from) to to (λ (n : ℕ). n ≡ to) (λ same. refl) (λ apart. refl)
+
+-- what was one stays one
+pub stays-one : (labels : List ℕ) (links : List Link) (one other : ℕ) → one < length labels → other < length labels → get_or labels one 0 ≡ get_or labels other 0
+    → get_or (all_joined labels links) one 0 ≡ get_or (all_joined labels links) other 0
+stays-one labels [] one other within within_other same = same
+stays-one labels (link ∷ links) one other within within_other same =
+    let join : IsJoined labels (joined labels link) link = is-joined labels link in
+    let long = joined-long labels link in
+    stays-one (joined labels link) links one other (omega (arith, within, long)) (omega (arith, within_other, long))
+    (label-at labels (joined labels link) join.from join.to one join.relabels.is within
+    ∙ ap (relabelled join.from join.to) same
+    ∙ sym (label-at labels (joined labels link) join.from join.to other join.relabels.is within_other))
+
+-- what is joined is one
+joined-one : (labels : List ℕ) (link : Link) → IsWithin (length labels) link → get_or (joined labels link) link.0 0 ≡ get_or (joined labels link) link.1 0
+joined-one labels link within =
+    let join : IsJoined labels (joined labels link) link = is-joined labels link in
+    let from : ℕ = join.from in
+    let to : ℕ = join.to in
+    let first = label-at labels (joined labels link) from to link.0 join.relabels.is within.0 in
+    let second = label-at labels (joined labels link) from to link.1 join.relabels.is within.1 in
+    ⊎_elim
+    (λ (ends : (get_or labels link.0 0 ≡ to) × (get_or labels link.1 0 ≡ from)).
+    first ∙ ap (relabelled from to) ends.0 ∙ relabelled-to from to ∙ sym (second ∙ ap (relabelled from to) ends.1 ∙ relabelled-from from to))
+    (λ (ends : (get_or labels link.0 0 ≡ from) × (get_or labels link.1 0 ≡ to)).
+    first ∙ ap (relabelled from to) ends.0 ∙ relabelled-from from to ∙ sym (second ∙ ap (relabelled from to) ends.1 ∙ relabelled-to from to))
+    join.ends
+
+-- the places of a link have one label
+abbrev pub HasOne : List ℕ → Link → Type 0
+HasOne labels link = get_or labels link.0 0 ≡ get_or labels link.1 0
+
+pub all-one : (labels : List ℕ) (links : List Link) → All (IsWithin (length labels)) links → All (HasOne (all_joined labels links)) links
+all-one labels [] within = All-nil (HasOne labels)
+all-one labels (link ∷ links) within =
+    let here : IsWithin (length labels) link = All-head (IsWithin (length labels)) link links within in
+    let long = joined-long labels link in
+    All-cons (HasOne (all_joined (joined labels link) links)) link links
+    (stays-one (joined labels link) links link.0 link.1 (omega (arith, here.0, long)) (omega (arith, here.1, long)) (joined-one labels link here))
+    (all-one (joined labels link) links
+    (subst (λ (count : ℕ). All (IsWithin count) links) (sym long) (All-tail (IsWithin (length labels)) link links within)))
+
+-- ---- while rows join
+
+-- what is left of some links is within labels that others left
+pub within-behind : (labels new : List ℕ) (done links : List Link) → new ≡ all_joined labels done → All (IsWithin (length labels)) links → All (IsWithin (length new)) links
+within-behind labels new done links is within =
+    subst (λ (count : ℕ). All (IsWithin count) links) (sym (ap (λ (all : List ℕ). length all) is ∙ joined-all-long labels done)) within
+
+-- the links of a role that names a wallet
+pub role-within : (count markets market role : ℕ) → All (IsWithin count) (role_links markets market role) → role < 65535 → IsWithin count (market, markets + role)
+role-within count markets market role within named =
+    All-head (IsWithin count) (market, markets + role) []
+    (subst (λ (links : List Link). All (IsWithin count) links) (cond-true (ltb role 65535) ((market, markets + role) ∷ []) [] (lt-ltb role 65535 named)) within)
+
+-- the links of the rows that are left join what is still to be joined
+pub record AreLeft (markets : ℕ) (start labels : List ℕ) (places left : List RowPlaces) : Type 0 where
+  pub joins : all_joined labels (links_of markets left) ≡ all_joined start (links_of markets places)
+  pub within : All (IsWithin (length labels)) (links_of markets left)
+
+-- one row less
+pub left-less : (markets : ℕ) (start labels next last : List ℕ) (places left others : List RowPlaces) (at : RowPlaces) → AreLeft markets start labels places left
+    → left ≡ at ∷ others → next ≡ all_joined labels (row_links markets at) → last ≡ all_joined next (leg_links at others) → AreLeft markets start last places others
+left-less markets start labels next last places left others at are is row legs =
+    let rest : List Link = links_of markets others in
+    let of_row : List Link = row_links markets at in
+    let of_legs : List Link = leg_links at others in
+    let all : AreLeft markets start labels places (at ∷ others) = subst (λ (some : List RowPlaces). AreLeft markets start labels places some) is are in
+    let step : last ≡ all_joined labels (of_row ++ of_legs) = legs ∙ ap (λ (some : List ℕ). all_joined some of_legs) row ∙ sym (joined-append labels of_row of_legs) in
+    record {
+      joins = ap (λ (some : List ℕ). all_joined some rest) legs
+          ∙ ap (λ (some : List ℕ). all_joined (all_joined some of_legs) rest) row
+          ∙ sym (joined-append (all_joined labels of_row) of_legs rest)
+          ∙ sym (joined-append labels of_row (of_legs ++ rest))
+          ∙ all.joins;
+      within = within-behind labels last (of_row ++ of_legs) rest step
+          (All-behind (IsWithin (length labels)) of_legs rest (All-behind (IsWithin (length labels)) of_row (of_legs ++ rest) all.within));
+    }
+
+-- what the next row joins, and its legs, are within
+pub row-within : (markets : ℕ) (start labels : List ℕ) (places left others : List RowPlaces) (at : RowPlaces) → AreLeft markets start labels places left → left ≡ at ∷ others
+    → All (IsWithin (length labels)) (row_links markets at)
+row-within markets start labels places left others at are is =
+    All-front (IsWithin (length labels)) (row_links markets at) (leg_links at others ++ links_of markets others)
+    (subst (λ (some : List RowPlaces). All (IsWithin (length labels)) (links_of markets some)) is are.within)
+
+pub legs-within : (markets : ℕ) (start labels next : List ℕ) (places left others : List RowPlaces) (at : RowPlaces) → AreLeft markets start labels places left
+    → left ≡ at ∷ others → next ≡ all_joined labels (row_links markets at) → All (IsWithin (length next)) (leg_links at others)
+legs-within markets start labels next places left others at are is row =
+    within-behind labels next (row_links markets at) (leg_links at others) row
+    (All-front (IsWithin (length labels)) (leg_links at others) (links_of markets others)
+    (All-behind (IsWithin (length labels)) (row_links markets at) (leg_links at others ++ links_of markets others)
+    (subst (λ (some : List RowPlaces). All (IsWithin (length labels)) (links_of markets some)) is are.within)))
+
+-- the four roles of a row
+pub row-joined : (labels one two three last : List ℕ) (markets : ℕ) (at : RowPlaces) → one ≡ all_joined labels (role_links markets at.market at.coin)
+    → two ≡ all_joined one (role_links markets at.market at.pc) → three ≡ all_joined two (role_links markets at.market at.discount)
+    → last ≡ all_joined three (role_links markets at.market at.referrer) → last ≡ all_joined labels (row_links markets at)
+row-joined labels one two three last markets at coin pc discount referrer =
+    let links : ℕ → List Link = role_links markets at.market in
+    referrer
+    ∙ ap (λ (some : List ℕ). all_joined some (links at.referrer)) discount
+    ∙ sym (joined-append two (links at.discount) (links at.referrer))
+    ∙ ap (λ (some : List ℕ). all_joined some (links at.discount ++ links at.referrer)) pc
+    ∙ sym (joined-append one (links at.pc) (links at.discount ++ links at.referrer))
+    ∙ ap (λ (some : List ℕ). all_joined some (links at.pc ++ (links at.discount ++ links at.referrer))) coin
+    ∙ sym (joined-append labels (links at.coin) (links at.pc ++ (links at.discount ++ links at.referrer)))

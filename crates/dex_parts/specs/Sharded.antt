@@ -1,0 +1,28 @@
+-- The shards of a script as numbers of its markets, its wallets and its rows.
+use Rattle.std.specs.Prelude.{◌≡◌, ℕ, List, Option, Some, None, length, map, slice_index}
+use Rattle.dex_types.specs.declared.addresses.Address.{Address}
+use Rattle.dex_types.specs.Accounts.{PlainAccounts}
+use Rattle.dex_types.specs.Rows.{PlainRow}
+use Rattle.dex_script_facts.specs.Places.{market_place, wallet_place}
+use Rattle.dex_script_facts.specs.PlainScript.{PlainScript}
+use Rattle.dex_parts.specs.Shards.{FallsInto, Sharding}
+
+-- the number at a place, if there is one
+abbrev pub number_at : Option ℕ → List ℕ → ℕ
+number_at None numbers = 0
+number_at (Some place) numbers = slice_index numbers place
+
+-- the shards that these numbers of markets and of wallets, in declared order, are
+abbrev pub sharding_by : PlainAccounts → List ℕ → List ℕ → Sharding
+sharding_by start markets wallets = record {
+  market = λ (address : Address). number_at (market_place address start.markets) markets;
+  wallet = λ (address : Address). number_at (wallet_place address start.wallets) wallets;
+}
+
+-- the numbers of a script's markets, wallets and rows: the script falls into the shards that those of markets and wallets are, and a
+-- row's number is its market's
+pub record AreShardsOf (script : PlainScript) (of_markets of_wallets of_rows : List ℕ) : Type 0 where
+  pub falls : FallsInto (sharding_by script.start of_markets of_wallets) script
+  pub rows : of_rows ≡ map (λ (row : PlainRow). (sharding_by script.start of_markets of_wallets).market row.market) script.rows
+  pub markets : length of_markets ≡ length script.start.markets
+  pub wallets : length of_wallets ≡ length script.start.wallets
