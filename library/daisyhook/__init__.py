@@ -20,8 +20,9 @@ The module keeps nothing between calls, so threads may call it at once; they run
 from . import flow, rows
 from .accounts import Accounts, Depth, Event, Level, Market, Mint, OpenOrders, Order, Wallet
 from .commands import Exchange, accounts, audit, bulk, dump, make, migrate, replay, worth
+from .desk import Desk
 from .entries import Cancelled, Consumed, Done, Entry, Move, Ordered, Refused, Reply, Settled, Swept, Took, WalletEntry
-from .errors import AuditFailed, DexError, DumpRefused, Finding, InputTooLong, MigrateRefused, OutOfLimits, OutOfMemory, ScriptRefused
+from .errors import AuditFailed, DeskGone, DexError, DumpRefused, Finding, InputTooLong, MigrateRefused, OutOfLimits, OutOfMemory, ScriptRefused
 from .report import Report
 from .rows import take_data
 from .summary import MarketSummary, Summary
@@ -29,11 +30,11 @@ from .swaps import Leg, Swap
 from .worth import Worth, Worths
 
 __all__ = [
-    'replay', 'dump', 'audit', 'worth', 'migrate', 'make', 'bulk', 'accounts', 'Exchange', 'take_data',
+    'replay', 'dump', 'audit', 'worth', 'migrate', 'make', 'bulk', 'accounts', 'Exchange', 'Desk', 'take_data',
     'rows', 'flow',
     'Report', 'Entry', 'Move', 'WalletEntry', 'Swap', 'Leg',
     'Reply', 'Ordered', 'Took', 'Cancelled', 'Consumed', 'Settled', 'Swept', 'Done', 'Refused',
     'Accounts', 'Market', 'Mint', 'Wallet', 'Order', 'Event', 'OpenOrders', 'Depth', 'Level',
     'Summary', 'MarketSummary', 'Worth', 'Worths',
-    'DexError', 'ScriptRefused', 'DumpRefused', 'AuditFailed', 'MigrateRefused', 'InputTooLong', 'OutOfLimits', 'OutOfMemory', 'Finding',
+    'DexError', 'DeskGone', 'ScriptRefused', 'DumpRefused', 'AuditFailed', 'MigrateRefused', 'InputTooLong', 'OutOfLimits', 'OutOfMemory', 'Finding',
 ]

@@ -84,11 +84,12 @@ class Order:
 
 @dataclass(frozen=True, slots=True)
 class Level:
-    """All orders of one price: the price in pc lots a coin lot, the coin lots that rest there, and how many orders."""
+    """All orders of one price: the price in pc lots a coin lot, the coin lots that rest there, and how many orders, or None where
+    that is not told (by a `Desk`)."""
 
     price: int
     lots: int
-    orders: int
+    orders: int | None
 
 
 @dataclass(frozen=True, slots=True)

@@ -9,10 +9,10 @@ from dataclasses import dataclass
 class DexError(Exception):
     """A command that was not done. `status` is the program's exit status, `text` the lines that it prints."""
 
-    status: int
+    status: int | None
     text: str
 
-    def __init__(self, status: int, text: str) -> None:
+    def __init__(self, status: int | None, text: str) -> None:
         super().__init__(text.rstrip('\n'))
         self.status = status
         self.text = text
@@ -120,6 +120,19 @@ class MigrateRefused(DexError, ValueError):
 
     def __repr__(self) -> str:
         return f'MigrateRefused(market={self.market!r}, what={self.what!r}, needed={self.needed}, given={self.given})'
+
+
+class DeskGone(DexError):
+    """There is no session any more: the program was not found or could not be started, it ended or was killed, or it did not answer in time.
+
+    `status` is its exit status, below 0 the signal that ended it, and None where it was never started.
+    """
+
+    def __init__(self, text: str, status: int | None = None) -> None:
+        super().__init__(status, text)
+
+    def __reduce__(self) -> tuple[type[DeskGone], tuple[str, int | None]]:
+        return DeskGone, (self.text, self.status)
 
 
 def refusal_of(status: int, text: bytes) -> DexError:

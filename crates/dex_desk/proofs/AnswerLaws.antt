@@ -1,0 +1,64 @@
+-- Entries found for rows.
+use Rattle.std.proofs.Common.{◌≡◌, ◌∙◌, ◌<◌, ◌==◌, ℕ, zero, suc, Bool, List, [], ◌∷◌, ◌++◌, Option, None, Some, ap, append_assoc, arith, get_or, length, map, map-id, refl, sym, take}
+use Rattle.std.proofs.lemmas.List.{append-nil}
+use Rattle.std.specs.List.{position}
+use Rattle.dex_types.specs.declared.movements.Entry.{Entry}
+use Rattle.dex_types.specs.declared.rows.Row.{Row}
+use Rattle.dex_types.specs.Addresses.{is_same}
+use Rattle.dex_types.specs.Rows.{PlainRow, row_of}
+use Rattle.dex_state.specs.declared.outcome.MarketJournal.{MarketJournal}
+use Rattle.dex_state.specs.Outcomes.{PlainMarketJournal, market_journal_of}
+use Rattle.dex_report.specs.Report.{entry_line}
+use Rattle.dex_script_facts.specs.Firsts.{first_of}
+use Rattle.dex_script.proofs.FirstLaws.{first-at, first-none, is-first, none-passes}
+use Rattle.dex_desk.specs.Replies.{answer_to, answers_to, entry_of, line_told}
+
+-- ---- the entry of a number
+
+abbrev of_row : ℕ → Entry → Bool
+of_row number entry = entry.row == number
+
+abbrev itself : Entry → Entry
+itself entry = entry
+
+pub entry-none : (entries : List Entry) (number : ℕ) → position (of_row number) entries ≡ None → entry_of number entries ≡ None
+entry-none entries number none =
+    ap (λ (l : List Entry). first_of (of_row number) itself l) (sym (map-id entries))
+    ∙ first-none (of_row number) itself itself entries (none-passes (of_row number) entries none)
+
+pub entry-found : (entries : List Entry) (number place : ℕ) (d : Entry) → position (of_row number) entries ≡ Some place → entry_of number entries ≡ Some (get_or entries place d)
+entry-found entries number place d found =
+    let first = is-first (of_row number) entries place d found in
+    ap (λ (l : List Entry). first_of (of_row number) itself l) (sym (map-id entries))
+    ∙ first-at (of_row number) itself itself entries place d first.within first.passes first.others
+
+-- ---- the journal of a market
+
+abbrev is_of : PlainRow → PlainMarketJournal → Bool
+is_of row journal = is_same row.market journal.address
+
+abbrev tells : PlainRow → PlainMarketJournal → Option Entry
+tells row journal = entry_of row.number journal.entries
+
+pub no-journal : (journals : List MarketJournal) (row : PlainRow) → position (λ (journal : MarketJournal). is_same row.market journal.address) journals ≡ None
+    → answer_to (map market_journal_of journals) row ≡ []
+no-journal journals row none =
+    ap line_told (first-none (is_of row) (tells row) market_journal_of journals (none-passes (λ (journal : MarketJournal). is_same row.market journal.address) journals none))
+
+pub journal-found : (journals : List MarketJournal) (row : PlainRow) (place : ℕ) (d : MarketJournal)
+    → position (λ (journal : MarketJournal). is_same row.market journal.address) journals ≡ Some place
+    → answer_to (map market_journal_of journals) row ≡ line_told (Some (entry_of row.number (get_or journals place d).entries.items))
+journal-found journals row place d found =
+    let first = is-first (λ (journal : MarketJournal). is_same row.market journal.address) journals place d found in
+    ap line_told (first-at (is_of row) (tells row) market_journal_of journals place d first.within first.passes first.others)
+
+-- ---- one row more
+
+pub answers-more : (journals : List PlainMarketJournal) (rows : List Row) (i : ℕ) (row : Row) → i < length rows → row ≡ get_or rows i row
+    → answers_to journals (map row_of (take (suc i) rows)) ≡ answers_to journals (map row_of (take i rows)) ++ answer_to journals (row_of row)
+answers-more journals [] i row within is = absurd (omega (arith, within))
+answers-more journals (first ∷ rows) zero row within is =
+    append-nil (answer_to journals (row_of first)) ∙ ap (λ (r : Row). answer_to journals (row_of r)) (sym is)
+answers-more journals (first ∷ rows) (suc i) row within is =
+    ap (λ (l : List ℕ). answer_to journals (row_of first) ++ l) (answers-more journals rows i row (omega (arith, within)) is)
+    ∙ sym (append_assoc (answer_to journals (row_of first)) _ _)

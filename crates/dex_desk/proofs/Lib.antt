@@ -1,0 +1,10 @@
+mod BlockLaws
+mod KeptNames
+mod StepLaws
+mod AnswerLaws
+mod AskLaws
+mod BookLaws
+mod TalkLaws
+mod LineLaws
+mod SessionLaws
+mod WholeLaws

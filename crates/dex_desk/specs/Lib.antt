@@ -1,0 +1,12 @@
+pub mod Turns
+pub mod Blocks
+pub mod Replies
+pub mod BlockInside
+pub mod Asking
+pub mod Books
+pub mod Steps
+pub mod SetUps
+pub mod Talks
+pub mod Serving
+pub mod Calls
+pub mod Whole
