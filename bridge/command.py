@@ -4,9 +4,11 @@ from __future__ import annotations
 
 import argparse
 import contextlib
+import itertools
 import json
 import os
 import sys
+import tempfile
 from typing import IO, Iterable, NoReturn, Optional, Sequence
 
 from bridge.accounts import read_accounts, read_address, write_account_files
@@ -16,16 +18,19 @@ from bridge.encoding import base58_of, dump_word
 from bridge.files import STANDARD_INPUT, is_json_text, name_of, read_bytes
 from bridge.making import Wanted, make_snapshot, names_of_markets
 from bridge.merging import merge_idle, read_kept
+from bridge.parts import write_parts
 from bridge.program import find_program
 from bridge.refusals import Refusal, Words, one_line
 from bridge.rows import Wish, make_script, wallets_of
 from bridge.simulating import answer_of, one_of, simulate, table_of
 from bridge.snapshot import Snapshot, is_blank
 from bridge.tables import PROGRAMS
-from bridge.transactions import Transaction, read_transactions
+from bridge.transactions import Transaction, each_transaction, read_transactions
 from bridge.wire import read_loaded, read_unsent
 
 DONE, DIFFERENT, REFUSED = 0, 1, 2
+# The most rows of a part of a script. A script may have twice as many.
+_ROWS = 50_000
 
 
 class _Parser(argparse.ArgumentParser):
@@ -125,16 +130,16 @@ def _dump(words: argparse.Namespace) -> int:
     return DONE
 
 
-def _write_file(lines: list[str], path: str, option: str) -> None:
+def _write_file(lines: Iterable[str], path: str, option: str) -> None:
     """Writes lines to the file that an option names."""
     try:
         with open(path, "w", encoding="utf-8") as file:
-            file.write("".join(line + "\n" for line in lines))
+            file.writelines(line + "\n" for line in lines)
     except OSError as fault:
         raise Refusal(path, f"it cannot be written ({fault.strerror})", f"name a file that you may write for {option}") from None
 
 
-def _write_table(lines: list[str], path: Optional[str]) -> None:
+def _write_table(lines: Iterable[str], path: Optional[str]) -> None:
     """Writes the table of a script's rows to its file, or to standard error."""
     if path is None:
         write_error("".join(line + "\n" for line in lines))
@@ -172,11 +177,26 @@ def _unsent(words: argparse.Namespace) -> list[Transaction]:
     return read_unsent(words.file, read_loaded(words.loaded) if words.loaded else None)
 
 
+def _parts(words: argparse.Namespace, snapshot: Snapshot, wish: Wish) -> int:
+    """Writes the script of a dump and transactions in parts. Transactions are read as they are wanted, so a month needs no more memory than
+    a day of it, but for the table, which waits in a file."""
+    transactions = _unsent(words) if words.unsent else each_transaction(words.file)
+    with tempfile.TemporaryFile("w+", encoding="ascii") as body:
+        head = write_parts(snapshot, transactions, wish, words.rows or _ROWS, words.parts, body)
+        body.seek(0)
+        _write_table(itertools.chain([head], (line.rstrip("\n") for line in body)), words.table)
+    return DONE
+
+
 def _script(words: argparse.Namespace) -> int:
     """Writes the script of a dump and transactions."""
     if words.loaded and not words.unsent:
         raise Words("--loaded is for transactions that were not sent; say --unsent with it")
+    if words.rows and not words.parts:
+        raise Words("--rows says how many rows a part may have; say --parts FOLDER with it")
     wish, snapshot = _wish(words, not words.no_swaps), _snapshot(words)
+    if words.parts:
+        return _parts(words, snapshot, wish)
     rows, table = make_script(snapshot, _unsent(words) if words.unsent else read_transactions(words.file), wish)
     _write_table(table, words.table)
     _write(rows)
@@ -278,6 +298,13 @@ def _add_transactions(parser: argparse.ArgumentParser) -> None:
     parser.add_argument("--rules", choices=sorted(PROGRAMS), help="whose rules another deployment follows (serum)")
 
 
+def _count(word: str) -> int:
+    """The number of rows that a word tells."""
+    if not (word.isascii() and word.isdecimal()) or not 0 < int(word) < 2**31:
+        raise argparse.ArgumentTypeError(f"{word!r} is no number of rows")
+    return int(word)
+
+
 def _add_script(parser: argparse.ArgumentParser) -> None:
     """The words of `script`."""
     _add_transactions(parser)
@@ -287,6 +314,8 @@ def _add_script(parser: argparse.ArgumentParser) -> None:
     parser.add_argument("--unsent", action="store_true", help="the transactions were not sent: texts in base64 or base58, or JSON without meta")
     parser.add_argument("--loaded", metavar="FILE", help="with --unsent: JSON with the lists writable and readonly, what their tables hold")
     parser.add_argument("--no-swaps", action="store_true", help="make a row of each take, also of two that one transaction did together")
+    parser.add_argument("--parts", metavar="FOLDER", help="write the script in parts into this new folder: one for each day or --rows rows")
+    parser.add_argument("--rows", type=_count, metavar="N", help=f"the most rows of a part, {_ROWS} where it is not said")
     parser.add_argument("dump", metavar="DUMP", help="a dump or a report; - is standard input")
     parser.add_argument("file", nargs="*", metavar="FILE", help="transaction JSON, oldest first, or a folder of such files")
 

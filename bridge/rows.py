@@ -71,7 +71,7 @@ class Line:
 
 
 @dataclass
-class _Maker:
+class Maker:
     """A script in the making."""
 
     snapshot: Snapshot
@@ -92,7 +92,7 @@ class _Maker:
         self.lines.append(Line(None, told))
 
 
-def _is_of_market(maker: _Maker, call: Call) -> bool:
+def _is_of_market(maker: Maker, call: Call) -> bool:
     """Whether a call is given one of the markets."""
     return any(account in maker.markets for account in call.accounts)
 
@@ -143,7 +143,7 @@ def _check_places(seen: Seen) -> None:
         raise seen.fault(f"at the place of the signer stands {shown(signer)}, which did not sign", _TABLE)
 
 
-def _seen(maker: _Maker, transaction: Transaction, call: Call) -> Optional[Seen]:
+def _seen(maker: Maker, transaction: Transaction, call: Call) -> Optional[Seen]:
     """The instruction that a call is, where it is one of the markets' and has a form in a script."""
     named_own = _own_in(maker.own, call)
     if named_own is None:
@@ -165,7 +165,7 @@ def _seen(maker: _Maker, transaction: Transaction, call: Call) -> Optional[Seen]
     return seen
 
 
-def _leave_unknown(maker: _Maker, transaction: Transaction, call: Call, name: str) -> None:
+def _leave_unknown(maker: Maker, transaction: Transaction, call: Call, name: str) -> None:
     """Refuses an instruction that has no form in a script, or leaves it out where the user asks to."""
     if not maker.wish.leave_out_unknown:
         what = f"instruction {call.number} ({name}) has no form in a script"
@@ -174,7 +174,7 @@ def _leave_unknown(maker: _Maker, transaction: Transaction, call: Call, name: st
     maker.tell(f"without {transaction.slot} {transaction.signature} {call.number} {name}")
 
 
-def _follow_rules(maker: _Maker, seen: Seen) -> None:
+def _follow_rules(maker: Maker, seen: Seen) -> None:
     """Keeps to the rules of one program."""
     rules = maker.wish.rules_of[seen.call.program]
     if maker.rules not in (None, rules):
@@ -182,7 +182,7 @@ def _follow_rules(maker: _Maker, seen: Seen) -> None:
     maker.rules = rules
 
 
-def _follow_clock(maker: _Maker, seen: Seen) -> None:
+def _follow_clock(maker: Maker, seen: Seen) -> None:
     """Adds a clock row where the rules look at the clock and it has gone on."""
     time = seen.transaction.time
     if maker.rules != "openbook":
@@ -198,7 +198,7 @@ def _follow_clock(maker: _Maker, seen: Seen) -> None:
         maker.lines.append(Line(f"clock,{time}", ""))
 
 
-def _wallet(maker: _Maker, seen: Seen, role: str) -> bytes:
+def _wallet(maker: Maker, seen: Seen, role: str) -> bytes:
     """The wallet of a role, which has to be in the dump."""
     address = seen.roles[role]
     if address not in maker.wallets:
@@ -213,7 +213,7 @@ def _paying_role(data: bytes) -> str:
     return "coin" if any(data[_SIDE_PLACE : _SIDE_PLACE + 4]) else "pc"
 
 
-def _wallets(maker: _Maker, seen: Seen) -> list[str]:
+def _wallets(maker: Maker, seen: Seen) -> list[str]:
     """The words of the four roles of a row."""
     words = {role: "-" for role in _ROLES}
     for role in _ROLES:
@@ -264,7 +264,7 @@ def _told(seen: Seen, name: str, number: Optional[str] = None) -> str:
     return f"{seen.transaction.slot} {seen.transaction.signature} {number or seen.call.number} {name}"
 
 
-def _leg(maker: _Maker, seen: Seen, signer: bytes, wallets: list[str]) -> Optional[Leg]:
+def _leg(maker: Maker, seen: Seen, signer: bytes, wallets: list[str]) -> Optional[Leg]:
     """The leg that a row may be: a take that shows no discount wallet."""
     coin, pc, discount, _ = wallets
     is_take = maker.wish.make_swaps and seen.instruction.tag == _SEND_TAKE
@@ -284,7 +284,7 @@ def _swap(first: Leg, second: Leg) -> Line:
     return Line(row, _told(first.seen, "Swap", f"{first.seen.call.number},{second.seen.call.number}"))
 
 
-def _add_line(maker: _Maker, line: Line) -> None:
+def _add_line(maker: Maker, line: Line) -> None:
     """Adds a row; a take that goes with the take in the row before makes one row with it."""
     before = maker.lines[-1].leg if maker.lines else None
     if before is not None and line.leg is not None and _is_swap(before, line.leg):
@@ -293,7 +293,7 @@ def _add_line(maker: _Maker, line: Line) -> None:
         maker.lines.append(line)
 
 
-def _open(maker: _Maker, seen: Seen, account: bytes) -> None:
+def _open(maker: Maker, seen: Seen, account: bytes) -> None:
     """Sees that an open-orders account is there and open before an instruction that wants one, as far as the dump can tell."""
     is_new_order = seen.instruction.tag == _NEW_ORDER
     if maker.opened.get(account) or (account in maker.opened and not is_new_order):
@@ -307,7 +307,7 @@ def _open(maker: _Maker, seen: Seen, account: bytes) -> None:
     maker.lines.append(Line(_row(seen, seen.roles["signer"], ["-"] * 4, data), _told(seen, "InitOpenOrders made")))
 
 
-def _reserve(maker: _Maker, seen: Seen, account: bytes) -> None:
+def _reserve(maker: Maker, seen: Seen, account: bytes) -> None:
     """Adds a blank account to the dump for one that is opened and is not there; its address may be no other account's."""
     if account in maker.kinds:
         raise seen.fault(f"it opens {shown(account)}, which is a {maker.kinds[account]} of the dump", "compare the dump with the ledger's accounts")
@@ -318,7 +318,7 @@ def _reserve(maker: _Maker, seen: Seen, account: bytes) -> None:
     maker.opened[account] = True
 
 
-def _check_market_of(maker: _Maker, seen: Seen) -> None:
+def _check_market_of(maker: Maker, seen: Seen) -> None:
     """Refuses an open-orders account that is another market's."""
     account = seen.roles.get("orders")
     market = maker.market_of.get(account) if account is not None else None
@@ -327,7 +327,7 @@ def _check_market_of(maker: _Maker, seen: Seen) -> None:
         raise seen.fault(what, "compare the dump with the ledger's accounts")
 
 
-def _add(maker: _Maker, seen: Seen) -> None:
+def _add(maker: Maker, seen: Seen) -> None:
     """Adds the row of an instruction."""
     _check_market_of(maker, seen)
     _follow_rules(maker, seen)
@@ -346,7 +346,7 @@ def _add(maker: _Maker, seen: Seen) -> None:
     _add_line(maker, Line(row, _told(seen, seen.instruction.name), _leg(maker, seen, signer, wallets)))
 
 
-def _check_told_whole(maker: _Maker, transaction: Transaction) -> None:
+def _check_told_whole(maker: Maker, transaction: Transaction) -> None:
     """Refuses a transaction whose inner calls nobody recorded, where another program was given a market."""
     for call in transaction.calls:
         is_other = call.program not in maker.wish.rules_of and _is_of_market(maker, call)
@@ -355,7 +355,7 @@ def _check_told_whole(maker: _Maker, transaction: Transaction) -> None:
             raise transaction.fault(what, "ask a node that records innerInstructions")
 
 
-def _follow(maker: _Maker, transaction: Transaction) -> None:
+def follow(maker: Maker, transaction: Transaction) -> None:
     """Adds the rows of a transaction."""
     if transaction.failed:
         maker.tell(f"failed {transaction.slot} {transaction.signature}")
@@ -384,38 +384,55 @@ def _wanted_markets(snapshot: Snapshot, wish: Wish) -> dict[bytes, Market]:
     return {address: markets[address] for address in wish.markets}
 
 
-def _numbered(maker: _Maker, start: int, transactions: int) -> Iterator[str]:
-    """The lines of the table, with the numbers of the rows."""
-    without = f", without {maker.without} instructions that have no form in a script" if maker.without else ""
-    rows = sum(1 for line in maker.lines if line.row is not None and line.told)
-    yield f"table {rows} rows of {transactions} transactions{without}"
-    number = start
-    for line in maker.lines:
+def head_of_table(rows: int, transactions: int, without: int) -> str:
+    """The first line of the table."""
+    left_out = f", without {without} instructions that have no form in a script" if without else ""
+    return f"table {rows} rows of {transactions} transactions{left_out}"
+
+
+def acting(lines: list[Line]) -> int:
+    """How many of some lines are rows that act."""
+    return sum(1 for line in lines if line.row is not None and line.told)
+
+
+def numbered(lines: list[Line], first: int) -> Iterator[str]:
+    """What the table tells of lines, with the numbers of their rows, the first of which has a number."""
+    number = first
+    for line in lines:
         if line.told:
             yield line.told if line.row is None else f"row {number} {line.told}"
         number += line.row is not None
 
 
-def _made(snapshot: Snapshot, transactions: list[Transaction], wish: Wish) -> _Maker:
-    """The lines of a script; accounts that transactions open are added to the snapshot."""
+def start(snapshot: Snapshot, wish: Wish) -> Maker:
+    """A script before its first row. Accounts that its transactions open are added to the snapshot."""
     markets = _wanted_markets(snapshot, wish)
     opened = {held.address: not is_blank(held.data) for market in snapshot.markets for held in market.orders}
     market_of = {held.address: market for market in snapshot.markets for held in market.orders}
     kinds = {entry.address: entry.kind for entry in snapshot.entries() if entry.kind != "open_orders"}
     wallets = {held.address for held in snapshot.wallets}
-    maker = _Maker(snapshot, wish, markets, _own_accounts(markets), wallets, kinds, opened, market_of)
+    return Maker(snapshot, wish, markets, _own_accounts(markets), wallets, kinds, opened, market_of)
+
+
+def _made(snapshot: Snapshot, transactions: list[Transaction], wish: Wish) -> Maker:
+    """The lines of a script."""
+    maker = start(snapshot, wish)
     for transaction in transactions:
-        _follow(maker, transaction)
+        follow(maker, transaction)
     return maker
+
+
+def program_rows(maker: Maker) -> list[str]:
+    """The row that names the program, where its rules are not those of a script without one."""
+    return ["program,openbook"] if maker.rules == "openbook" else []
 
 
 def make_script(snapshot: Snapshot, transactions: list[Transaction], wish: Wish) -> tuple[list[str], list[str]]:
     """The rows of a script, and the lines of the table that tells which row is which instruction."""
     maker = _made(snapshot, transactions, wish)
     rows = list(dump_rows(snapshot))
-    if maker.rules == "openbook":
-        rows.append("program,openbook")
-    table = list(_numbered(maker, len(rows) + 1, len(transactions)))
+    rows += program_rows(maker)
+    table = [head_of_table(acting(maker.lines), len(transactions), maker.without), *numbered(maker.lines, len(rows) + 1)]
     return rows + [line.row for line in maker.lines if line.row is not None], table
 
 
@@ -430,7 +447,7 @@ class Step(NamedTuple):
 def steps_of(snapshot: Snapshot, transaction: Transaction, wish: Wish) -> tuple[list[str], list[Step]]:
     """The rows of one transaction: those that stand in front, of program and clock, and those that act."""
     maker = _made(snapshot, [transaction], wish)
-    front = ["program,openbook"] if maker.rules == "openbook" else []
+    front = program_rows(maker)
     steps = []
     for line in maker.lines:
         if line.row is not None and not line.told:

@@ -266,17 +266,21 @@ def transactions_of_text(data: bytes, source: str) -> list[Transaction]:
         raise Refusal(source, "it is no JSON of transactions: it is nested too deep", _WHOLE) from None
 
 
-def read_transactions(paths: list[str]) -> list[Transaction]:
-    """The transactions of files and folders in their order, which has to be that of the ledger."""
-    transactions: list[Transaction] = []
+def each_transaction(paths: list[str]) -> Iterator[Transaction]:
+    """The transactions of files and folders, one after the other, in their order, which has to be that of the ledger."""
     seen: dict[str, str] = {}
+    slot = 0
     for path in (file for given in paths for file in json_files(given)):
         for transaction in transactions_of_text(read_bytes(path), path):
             if transaction.signature in seen:
                 raise transaction.fault(f"it stands in {seen[transaction.signature]} already", "give each transaction once")
-            if transactions and transaction.slot < transactions[-1].slot:
-                what = f"its slot {transaction.slot} comes before the slot {transactions[-1].slot} of the one before it"
+            if transaction.slot < slot:
+                what = f"its slot {transaction.slot} comes before the slot {slot} of the one before it"
                 raise transaction.fault(what, "give the transactions oldest first")
-            seen[transaction.signature] = path
-            transactions.append(transaction)
-    return transactions
+            seen[transaction.signature], slot = path, transaction.slot
+            yield transaction
+
+
+def read_transactions(paths: list[str]) -> list[Transaction]:
+    """All transactions of files and folders in their order."""
+    return list(each_transaction(paths))

@@ -30,11 +30,13 @@ NIGHT, DAY, FILE_HOLDS = 120, 260, 50
 SLOT, TIME = 251_000_000, 1_709_280_000
 DECIMALS = {"coin": 9, "pc": 6, "srm": 6}
 PROGRAM = PROGRAMS["openbook"]
+# What addresses and signatures are hashes of, beside their names. Another example (examples/month) makes its markets by other names.
+OF = "recorded day"
 
 
 def address(name: str) -> bytes:
     """The address that a name stands for in this example."""
-    return hashlib.sha256(f"recorded day: {name}".encode()).digest()
+    return hashlib.sha256(f"{OF}: {name}".encode()).digest()
 
 
 def filled(layout: str, length: int, values: dict[str, Any]) -> bytes:
@@ -123,8 +125,8 @@ def numbers(*pairs: tuple[int, int]) -> bytes:
 class Drawn:
     """What traders do, drawn from a number."""
 
-    def __init__(self) -> None:
-        self.random = random.Random(20240301)
+    def __init__(self, number: int = 20240301) -> None:
+        self.random = random.Random(number)
         self.client = 0
         self.time = TIME
 
@@ -371,7 +373,7 @@ def transaction_json(sent: Sent, number: int) -> dict[str, Any]:
                                            "readonlyIndexes": [half, half + 1]}]
         meta["loadedAddresses"] = {"writable": [base58_text(key) for key in written.loaded[:half]],
                                    "readonly": [base58_text(key) for key in written.loaded[half:]]}
-    signature = base58_text(hashlib.sha512(f"recorded day: transaction {number}".encode()).digest())
+    signature = base58_text(hashlib.sha512(f"{OF}: transaction {number}".encode()).digest())
     return {"slot": SLOT + (sent.time - TIME) * 2, "blockTime": sent.time, "version": 0 if is_loaded else "legacy", "meta": meta,
             "transaction": {"signatures": [signature, *("1" * 64 for _ in signers[1:])], "message": message}}
 
