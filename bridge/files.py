@@ -5,15 +5,15 @@ from __future__ import annotations
 import collections
 import json
 import os
-import re
 import sys
 from typing import Any, Iterator, NoReturn
 
 from bridge.refusals import Refusal
 
 STANDARD_INPUT = "-"
-_SPACE = re.compile(r"[ \t\n\r]*")
 _MOST_DIGITS = 40
+# Parts are lists, objects, and what a comma ends. A text that has more than this many has a part in this many bytes at most.
+_MANY_PARTS, _SHORTEST_PART = 1_000_000, 4
 
 
 def _standard_input() -> bytes:
@@ -68,52 +68,28 @@ def _no_number(word: str) -> NoReturn:
 _DECODER = json.JSONDecoder(object_pairs_hook=_members, parse_int=_number, parse_constant=_no_number)
 
 
-def _behind_space(text: str, place: int) -> int:
-    """The place of the next sign that is no space."""
-    found = _SPACE.match(text, place)
-    return found.end() if found else place
-
-
-def _check_end(text: str, place: int) -> None:
-    """Refuses what stands behind a value."""
-    if _behind_space(text, place) < len(text):
-        raise ValueError(f"more stands behind its end, at place {place}")
-
-
-def _values_of_text(text: str) -> Iterator[Any]:
-    """The value of JSON text; of a list its members, each read when it is asked for."""
-    place = _behind_space(text, 0)
-    if not text.startswith("[", place):
-        value, place = _DECODER.raw_decode(text, place)
-        _check_end(text, place)
-        yield value
-        return
-    place = _behind_space(text, place + 1)
-    is_ended = text.startswith("]", place)
-    while not is_ended:
-        value, place = _DECODER.raw_decode(text, place)
-        yield value
-        place = _behind_space(text, place)
-        is_ended = text.startswith("]", place)
-        if not is_ended:
-            if not text.startswith(",", place):
-                raise ValueError(f"a list goes on without a comma, at place {place}")
-            place = _behind_space(text, place + 1)
-    _check_end(text, place + 1)
+def _check_parts(data: bytes, source: str) -> None:
+    """Refuses JSON with more short parts than accounts and transactions ever have: it would take long to read."""
+    parts = sum(map(data.count, (b"[", b"{", b",")))
+    if parts > max(_MANY_PARTS, len(data) // _SHORTEST_PART):
+        what = f"it has {parts} lists, objects and commas in {len(data)} bytes, more than accounts or transactions have"
+        raise Refusal(source, what, "save the answer of the tool as it is")
 
 
 def json_values(data: bytes, source: str) -> Iterator[Any]:
-    """The value that JSON text stands for; of a list its members, one after the other, so that a faulty one ends the reading."""
+    """The value that JSON text stands for; of a list its members."""
     if not data.strip():
         raise Refusal(source, "it is empty and no JSON", "save the whole answer of the tool in it")
+    _check_parts(data, source)
     try:
-        yield from _values_of_text(data.decode("utf-8-sig"))
+        value = _DECODER.decode(data.decode("utf-8-sig"))
     except UnicodeDecodeError:
         raise Refusal(source, "it is no JSON: its bytes are no UTF-8", "save the answer of the tool as UTF-8 text") from None
     except RecursionError:
         raise Refusal(source, "it is no JSON of accounts: it is nested too deep", "save the answer of the tool as it is") from None
     except ValueError as fault:
         raise Refusal(source, f"it is no JSON ({fault})", "save the whole answer of the tool in it") from None
+    yield from value if isinstance(value, list) else [value]
 
 
 def json_files(path: str) -> list[str]:

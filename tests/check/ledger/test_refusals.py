@@ -92,13 +92,23 @@ class BadAccounts(Folder):
             for spaced in (json.dumps(self.accounts, indent=1), "\ufeff \n" + json.dumps(self.accounts) + "\r\n\t "):
                 self.assertEqual(ledger("dump", *self.words, self.save("given.json", spaced)).out, good)
 
-    def test_many_empty_lists(self) -> None:
-        """A hundred megabytes of empty lists are told within five seconds of the processor."""
-        dump = self.save("a.dump", text_of(self.snapshot))
-        for text, words in (("[" + "[]," * 33000000 + "[]]", ["dump", *self.words]), ("[]" * 50000000, ["script", dump])):
-            path, before = self.save("given.json", text), resource.getrusage(resource.RUSAGE_CHILDREN).ru_utime
+    def test_many_short_parts(self) -> None:
+        """A hundred megabytes of empty lists, wherever they stand, and of numbers and small objects, are told within five seconds of the processor."""
+        dump, lists = self.save("a.dump", text_of(self.snapshot)), "[" + "[]," * 33000000 + "[]]"
+        account = '[{"pubkey": "%s", "account": %s}]' % (base58_text(NOBODY), lists)
+        dumped = ["dump", *self.words]
+        for text, words in ((lists, dumped), ('{"result": %s}' % lists, dumped), ('{"result": {"value": %s}}' % lists, dumped), (account, dumped),
+                            ('{"result": [' + '{"a": [[[]]]}, ' * 7000000 + "{}]}", dumped), ("[" + "1," * 49000000 + "1]", dumped),
+                            ("[]" * 50000000, ["script", dump]), ('{"result": %s}' % lists, ["script", dump])):
+            path, before = self.save("given.json", text), resource.getrusage(resource.RUSAGE_CHILDREN)
             self.assert_refused(ledger_apart(*words, path), "given.json")
-            self.assertLess(resource.getrusage(resource.RUSAGE_CHILDREN).ru_utime - before, 5)
+            after = resource.getrusage(resource.RUSAGE_CHILDREN)
+            self.assertLess(after.ru_utime + after.ru_stime - before.ru_utime - before.ru_stime, 5)
+
+    def test_parts(self) -> None:
+        """A million short parts are read; in longer texts they have four bytes each at least."""
+        for text, is_read in (("[" + "1," * 999999 + "1]", True), ("[" + "1," * 1000000 + "1]", False), ("[" + "1111," * 1000000 + "1]", True)):
+            self.refused(text, "no account" if is_read else "more than accounts or transactions have")
 
     def test_no_file(self) -> None:
         """Files that are not there, and folders without JSON."""
