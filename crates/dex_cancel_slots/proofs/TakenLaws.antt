@@ -155,7 +155,8 @@ free_behind bytes slot below low at =
     none-held (held_in (slots_of bytes) slot)
     (sym (bits-taken bytes free (number_in bytes IS_BID_BITS) refl refl low slot below) ∙ ap (λ b. eqb b 1) bit)
 
--- what is the same whether a free slot comes first or not is the same of the slots from one number on and from another, where those between are free
+-- what is the same whether a free slot comes first or not is the same of the slots from one number on and from another,
+-- where those between are free
 skip : {Y : Type 0} (F : List (Option Holding) → Y) → ((later : List (Option Holding)) → F (None ∷ later) ≡ F later)
     → (slots : List (Option Holding)) (from to gap : ℕ) → from + gap ≡ to → to ≤ length slots → AreFree slots from to → F (drop from slots) ≡ F (drop to slots)
 skip F passes slots from to zero sum most free = let same : from ≡ to = omega (arith, sum) in ap (λ n. F (drop n slots)) same

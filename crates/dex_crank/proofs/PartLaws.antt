@@ -1,4 +1,5 @@
--- The first events of a sound market can be paid to the accounts of their owners, and what is left is the queue and the accounts of the market behind them.
+-- The first events of a sound market can be paid to the accounts of their owners, and what is left is the queue and the
+-- accounts of the market behind them.
 use Rattle.std.proofs.Common.{◌≡◌, ℕ, zero, suc, ◌+◌, ◌≤◌, ◌<◌, Bool, true, false, cond, eqb, List, ◌∷◌, length, map, take, drop, get_or, Option, Some, None, IsSome, refl, sym, ap, ◌∙◌, subst, arith, rules, inl, inr, length-drop}
 use Rattle.std.specs.List.{All}
 use Rattle.std.proofs.lemmas.Bool.{eqb-true}

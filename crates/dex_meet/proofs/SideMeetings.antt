@@ -1,4 +1,5 @@
--- how a meeting with a side of the book goes on: what is met so far, joined to the meeting of what is left, is the whole meeting
+-- how a meeting with a side of the book goes on: what is met so far, joined to the meeting of what is left, is the
+-- whole meeting
 use Rattle.std.proofs.Common.{◌≡◌, ℕ, ◌+◌, ◌*◌, ◌^◌, ◌<◌, ◌≤◌, List, [], ◌∷◌, ◌++◌, Option, Some, eqb, length, drop, refl, sym, ap, ◌∙◌, subst, arith, inl, inr, length-append}
 use Rattle.std.specs.List.{All}
 use Rattle.std.proofs.Math.Nat.{mul-le-mul_right}

@@ -49,7 +49,8 @@ taker_of side n = record {
   program = n.program;
 }
 
--- a take as its taker states it, who has no account and no order that could rest; the signer stands in the account's place
+-- a take as its taker states it, who has no account and no order that could rest; the signer stands in the account's
+-- place
 abbrev pub taker_of_take : Side → Request → Take → Taker
 taker_of_take side request t = record {
   id_side = side;

@@ -38,7 +38,7 @@ fn settle_on_bytes(plan: &SettlePlan, market: &mut [u8], account: &mut [u8])
     );
 }
 
-/// The same with the account's bytes in their buffer.
+/// Settling, with the account's bytes in their buffer.
 fn settle_in_buffer(plan: &SettlePlan, market: &mut [u8], account: &mut Vec<u8>)
     requires { CanSettle plan.now market.old account.old.items }
     ensures { HasSettled plan.entry.now market.old market.new account.old.items account.new.items }
@@ -46,7 +46,7 @@ fn settle_in_buffer(plan: &SettlePlan, market: &mut [u8], account: &mut Vec<u8>)
     settle_on_bytes(plan, market, account);
 }
 
-/// The same of the owner's account among the others.
+/// Settling the owner's account among the others.
 fn settle_among(
     plan: &SettlePlan,
     owner: Address,

@@ -70,9 +70,9 @@ pub(crate) fn apply<B: SideBook>(
     }
 }
 
-/// Does a take as it was decided, and answers what it filled. The orders that it meets leave the book or lose lots, their
-/// events are appended to the queue; of the market account the deposits and the pc fees are written, which keep the fee
-/// less the makers' rebates; all other bytes of that account stay.
+/// Does a take as it was decided, and answers what it filled. The orders that it meets leave the book or lose lots,
+/// their events are appended to the queue; of the market account the deposits and the pc fees are written, which keep
+/// the fee less the makers' rebates; all other bytes of that account stay.
 pub fn apply_take<B: SideBook>(
     plan: &TakePlan,
     taker: &Taker,
