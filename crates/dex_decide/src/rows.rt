@@ -84,6 +84,7 @@ pub fn taker_of(row: &Row, seen: &Seen, ix: &Ix) -> Taker
             max_ts: None,
             program,
         },
+        // By the condition the instruction is one of the two.
         _ => unreachable!(),
     }
 }

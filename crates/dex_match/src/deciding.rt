@@ -138,9 +138,7 @@ fn decide_with<B: SideRead, A: SideRead>(
     if let Some(why) = refused_early(sizes, taker, &requests, &orders) {
         return Err(why);
     }
-    let foreseen = foresee_order(
-        sizes, taker, sequence_of(&requests), own, opposite, &orders,
-    );
+    let foreseen = foresee_order(sizes, taker, sequence_of(&requests), own, opposite, &orders);
     if let Some(why) = refused_late(&foreseen, ring.room(), balance) {
         return Err(why);
     }

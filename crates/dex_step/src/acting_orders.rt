@@ -106,15 +106,11 @@ fn order_by_side(accounts: &mut MarketAccounts, plan: &OrderPlan, taker: Taker) 
     match taker.id_side {
         Side::Bid => {
             bring(pc_vault, plan.deposit);
-            order_among(
-                plan, taker, market, requests, events, orders, bids, asks,
-            )
+            order_among(plan, taker, market, requests, events, orders, bids, asks)
         }
         Side::Ask => {
             bring(coin_vault, plan.deposit);
-            order_among(
-                plan, taker, market, requests, events, orders, asks, bids,
-            )
+            order_among(plan, taker, market, requests, events, orders, asks, bids)
         }
     }
 }

@@ -44,7 +44,13 @@ fn foreseen<B: SideRead>(
         return Err(why);
     }
     let outlook = outlook(sizes, taker, input.opposite);
-    match fill_reason(taker.id_side, &outlook, least, input.ring.room(), input.seen) {
+    match fill_reason(
+        taker.id_side,
+        &outlook,
+        least,
+        input.ring.room(),
+        input.seen,
+    ) {
         Some(why) => Err(why),
         None => Ok(outlook),
     }
