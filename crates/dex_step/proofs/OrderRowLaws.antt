@@ -5,7 +5,7 @@ use Rattle.dex_types.specs.declared.addresses.Address.{Address}
 use Rattle.dex_types.specs.declared.replies.Reply.{Reply}
 use Rattle.dex_types.specs.declared.terms.Side.{Side}
 use Rattle.dex_types.specs.declared.terms.Side.TheVariants.{Bid, Ask}
-use Rattle.dex_types.specs.Accounts.{PlainMarketAccounts}
+use Rattle.dex_types.specs.Accounts.{PlainAccount, PlainMarketAccounts}
 use Rattle.dex_types.specs.Market.{Market}
 use Rattle.dex_types.specs.NewOrder.{NewOrder, Ordering, after_order, order_on, order_reply}
 use Rattle.dex_types.specs.Requests.{open_party}
@@ -30,7 +30,7 @@ use Rattle.dex_ring.specs.Appended.{appended}
 use Rattle.dex_ring.specs.Ring.{ring_of}
 use Rattle.dex_slab.specs.Slab.{resting, room_in}
 use Rattle.dex_step.specs.Acting.{CanTakeIn, HasStepped, HaveTakenIn, KeepNames, bytes_on, coin_held, pc_held}
-use Rattle.dex_step.specs.OrderActs.{CanOrder, CanOrderAmong, HasOrderedAmong, among_of, bytes_with, given_of}
+use Rattle.dex_step.specs.OrderActs.{CanOrder, CanOrderAmong, HasOrderedAmong, OrderAccounts, among, among_of, bytes_with, given_of}
 use Rattle.dex_step.specs.OrderRows.{IsOrderDecided, order_step}
 use Rattle.dex_step.proofs.SteppedLaws.{leaves-stepped}
 use Rattle.dex_step.proofs.OwnerParts.{OpenAt, names-changed, open-at, open-named}
@@ -40,6 +40,19 @@ use Rattle.dex_step.proofs.SoundParts.{both-sides, coin-fits, coin-held, pc-fits
 pub given-bytes : (side : Side) (bytes : List ℕ) (accounts : PlainMarketAccounts) → order_given side bytes (parts_of accounts) ≡ given_of side (bytes_with bytes (among_of side accounts))
 given-bytes Bid bytes accounts = refl
 given-bytes Ask bytes accounts = refl
+
+-- what an order of the side did on these bytes it did on the accounts, whose open-orders accounts are these
+pub ordered-by-side : (taker : Taker) (reply : Reply) (side : Side) (before after : PlainMarketAccounts) (first last : List PlainAccount) → taker.id_side ≡ side
+    → first ≡ before.orders → after.orders ≡ last
+    → HasOrderedAmong taker reply (among before.market before.requests before.events (bytes_on side before) (bytes_on (opposite side) before) first)
+    (among after.market after.requests after.events (bytes_on side after) (bytes_on (opposite side) after) last)
+    → HasOrderedAmong taker reply (among_of taker.id_side before) (among_of taker.id_side after)
+ordered-by-side taker reply side before after first last is a b done =
+    let was : List PlainAccount → OrderAccounts = among before.market before.requests before.events (bytes_on side before) (bytes_on (opposite side) before) in
+    let now : List PlainAccount → OrderAccounts = among after.market after.requests after.events (bytes_on side after) (bytes_on (opposite side) after) in
+    subst (λ (s : Side). HasOrderedAmong taker reply (among_of s before) (among_of s after)) (sym is)
+    (subst (λ (l : List PlainAccount). HasOrderedAmong taker reply (was l) (now after.orders)) a
+    (subst (λ (l : List PlainAccount). HasOrderedAmong taker reply (was first) (now l)) (sym b) done))
 
 -- the vault that an order pays into is in bounds, with its deposit
 fits-in : (side : Side) (account : Account) (n : NewOrder) (o : Ordering) (accounts : PlainMarketAccounts) → AreSound accounts
