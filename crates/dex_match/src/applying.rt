@@ -34,7 +34,7 @@ fn reply_by(plan: &OrderPlan) -> Reply
 }
 
 /// An order's lots and lock are below 2^64. No code: it comes by value, since behind a reference no range is known.
-fn amounts_fit(taker: Taker)
+pub fn amounts_fit(taker: Taker)
     ensures lots { taker.lots < 2 ^ 64 }
     ensures lock { taker.lock < 2 ^ 64 }
 {}

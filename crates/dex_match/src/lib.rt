@@ -15,7 +15,7 @@ mod payment;
 pub mod side_laws;
 mod trading;
 
-pub use applying::apply_order;
+pub use applying::{amounts_fit, apply_order};
 pub use deciding::{decide_order, decide_order_with_pending};
 pub use dex_meet::post_or_boot;
 pub use order_input::{OrderInput, gathered};
