@@ -274,7 +274,7 @@ pub length-at_most_one : (found : Option RestingOrder) → length (at_most_one f
 length-at_most_one None = omega arith
 length-at_most_one (Some one) = omega arith
 
--- the client id at a place comes behind those before it
+-- the client id at a place comes after those before it
 pub next-id : (ids : List ℕ) (count place : ℕ) → place < count → count ≤ length ids → take (place + 1) (take count ids) ≡ take place (take count ids) ++ get_or ids place 0 ∷ []
 next-id ids count place within all =
     take_more (take count ids) place 0 (omega (arith, length-take-le count ids all))

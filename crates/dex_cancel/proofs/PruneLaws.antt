@@ -25,7 +25,7 @@ use Rattle.dex_cancel.specs.TakenOff.{DoOrdersFit, Queue, with_outs, without_all
 use Rattle.dex_cancel.proofs.TakenOffLaws.{All-without_all, without-on, without_all-append, with_outs-append}
 use Rattle.dex_cancel.proofs.WalkSteps.{on, length-orders_of, orders_of-own, orders_of-other, stepped}
 
--- the first of the orders behind others is reached, with all of them before it
+-- the first of the orders after others is reached, with all of them before it
 reached-behind : (side : Side) (before after : List Order) → InBookOrder side (before ++ after)
     → (orders_from (best_of after) (before ++ after) ≡ after) × IsReached (best_of after) (before ++ after)
 reached-behind side before [] sorted = (refl, tt)
@@ -33,7 +33,7 @@ reached-behind side before (next ∷ after) sorted =
     let at = between-sorted side before next after sorted in
     (from_id-between next.id _ before next after at, order_with-between next.id _ before next after at)
 
--- a walk goes on in the same way behind an order that left the side
+-- a walk goes on in the same way after an order that left the side
 walk-without : (side : Side) (orders : List Order) (order : Order) → InBookOrder side orders → order_with order.id orders ≡ Some order
     → (orders_from (order_after order.id orders) (without_order order.id orders) ≡ orders_from (order_after order.id orders) orders)
     × IsReached (order_after order.id orders) (without_order order.id orders)
@@ -49,7 +49,7 @@ walk-without side orders order sorted found =
       subst (λ o. IsReached o (without_order order.id orders)) (sym next) (subst (IsReached (best_of r.after)) (sym left) behind.1),
     )
 
--- and so behind one that left if it was the owner's
+-- and so after one that left if it was the owner's
 walk-left : (owner : Address) (side named : Side) (orders : List Order) (order : Order) (next : Option Order) (then : List Order)
     → InBookOrder side orders → order_with order.id orders ≡ Some order → next ≡ order_after order.id orders
     → then ≡ without_all named (orders_of owner named (order ∷ [])) orders
@@ -63,7 +63,7 @@ walk-left owner side named orders order next then sorted found is left =
     (walk-without side orders order sorted found)))
     (λ other. (refl, subst (λ o. IsReached o orders) (sym is) (walk-step side orders order sorted found).1)))
 
--- an owner's orders are those of the first place and those behind it
+-- an owner's orders are those of the first place and those after it
 orders_of-first : (owner : Address) (side : Side) (order : Order) (others : List Order)
     → orders_of owner side (order ∷ others) ≡ orders_of owner side (order ∷ []) ++ orders_of owner side others
 orders_of-first owner side order others =
@@ -91,7 +91,7 @@ next-taken all count some rest within is =
       within = omega (arith, long, ap length whole, length-append (take count all ++ some) rest);
     }
 
--- the owner's first so many orders left a side, and a walk goes on behind them: what it has before it has the others
+-- the owner's first n orders left a side, and a walk goes on after them: what it has before it has the others
 pub record IsPruned (sizes : Lots) (owner : Address) (side : Side) (count : ℕ) (orders : List Order) (ring : Queue) (next : Option Order) (orders_now : List Order) (ring_now : Queue) : Type 0 where
   pub orders_are : orders_now ≡ without_all side (take count (orders_of owner side orders)) orders
   pub ring_is : ring_now ≡ with_outs sizes (take count (orders_of owner side orders)) ring
@@ -163,7 +163,7 @@ fits-now sizes side gone orders now order fit is found =
     let Fits : Order → Type 0 = λ o. order_lock side sizes o < 2 ^ 64 in
     found-All Fits order.id order now found (subst (All Fits) (sym is) (All-without_all Fits side gone orders fit))
 
--- the first so many of two lists are those of the first and, as far as they are too few, of the second
+-- the first n of two lists are those of the first and, as far as they are too few, of the second
 take-both : {A : Type 0} (count : ℕ) (first later : List A) → take count (first ++ later) ≡ take count first ++ take (count - length (take count first)) later
 take-both zero first later = refl
 take-both (suc count) [] later = let all : suc count ≡ suc count - 0 = omega arith in ap (λ n. take n later) all

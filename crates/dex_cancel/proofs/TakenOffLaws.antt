@@ -11,11 +11,9 @@ use Rattle.dex_types.specs.declared.terms.Side.TheVariants.{Bid, Ask}
 use Rattle.dex_types.specs.Cancel.{RestingOrder, order_with, without_order, all_orders_of, without_taken, cancel_one, after_cancels}
 use Rattle.dex_types.specs.Market.{Market}
 use Rattle.dex_types.specs.Owed.{order_lock}
-use Rattle.dex_types.specs.Posting.{posted}
 use Rattle.dex_types.specs.Side.{by_side}
 use Rattle.dex_types.specs.Tokens.{is_same_side}
 use Rattle.dex_ring.specs.StandsFor.{ring_of_market}
-use Rattle.dex_laws.proofs.PostLaws.{All-posted}
 use Rattle.dex_sound.proofs.WithoutLaws.{All-without}
 use Rattle.dex_cancel.specs.TakenOff.{DoLocksFit, DoRest, Queue, out_of, outs_of, queue_of, without_one, without_all, with_out, with_outs}
 use Rattle.dex_ring.specs.Appended.{HasRoom, appended, pushed_all}
@@ -155,19 +153,3 @@ pub room-now : (sizes : Lots) (gone more all : List RestingOrder) (ring ring_now
     → length gone + length more ≤ length all → HasRoom (length more) ring_now.list
 room-now sizes gone more all ring ring_now is room fit =
     omega (arith, room, fit, ap (λ (q : Queue). length q.list.events) is, ap (λ (q : Queue). q.list.capacity) is, length-with_outs sizes gone ring, capacity-with_outs sizes gone ring)
-
--- what fits on either side still does when some leave, and where one that fits is posted
-pub fit-left : (sizes : Lots) (side : Side) (gone : List RestingOrder) (orders then : List Order) → then ≡ without_all side gone orders → DoLocksFit sizes orders orders → DoLocksFit sizes then then
-fit-left sizes side gone orders then is fit =
-    subst (λ os. DoLocksFit sizes os os) (sym is) (
-      All-without_all (λ (o : Order). order_lock Bid sizes o < 2 ^ 64) side gone orders fit.0,
-      All-without_all (λ (o : Order). order_lock Ask sizes o < 2 ^ 64) side gone orders fit.1,
-    )
-
-pub fit-posted : (sizes : Lots) (side : Side) (order : Order) (orders then : List Order) → then ≡ posted side order orders
-    → order_lock Bid sizes order < 2 ^ 64 → order_lock Ask sizes order < 2 ^ 64 → DoLocksFit sizes orders orders → DoLocksFit sizes then then
-fit-posted sizes side order orders then is bid ask fit =
-    subst (λ os. DoLocksFit sizes os os) (sym is) (
-      All-posted (λ (o : Order). order_lock Bid sizes o < 2 ^ 64) side order bid orders fit.0,
-      All-posted (λ (o : Order). order_lock Ask sizes o < 2 ^ 64) side order ask orders fit.1,
-    )

@@ -12,7 +12,7 @@ use Rattle.dex_laws.proofs.WalkLaws.{walk-step}
 use Rattle.dex_cancel.specs.Counting.{count_of_client}
 use Rattle.dex_cancel.specs.Finding.{older_of}
 
--- where an order is next, it comes first of what is left, and behind it is what follows
+-- where an order is next, it comes first of what is left, and after it is what follows
 pub stepped : (side : Side) (room : ℕ) (orders : List Order) (next : Option Order) (order : Order) (following : Option Order) → IsBookSide side room orders
     → IsReached next orders → next ≡ Some order → following ≡ order_after order.id orders
     → (orders_from next orders ≡ order ∷ orders_from following orders) × IsReached following orders

@@ -26,7 +26,7 @@ pub record AreOfSoundMarket (given : CancelGiven) : Type 0 where
 abbrev pub named_in : CancelBy → Address → CancelGiven → List RestingOrder
 named_in by owner given = cancelled by owner given.bids given.asks
 
--- what is left where orders leave: the sides without them, and the queue with an out of each behind its events
+-- what is left where orders leave: the sides without them, and the queue with an out of each after its events
 abbrev pub left_by : List RestingOrder → CancelGiven → CancelGiven
 left_by gone given = record given {
   bids = without_all Bid gone given.bids;

@@ -11,6 +11,7 @@ use Rattle.dex_types.specs.Owed.{order_lock}
 use Rattle.dex_types.specs.QueuedEvent.{QueuedEvent, encoded_event}
 use Rattle.dex_types.specs.Side.{by_side}
 use Rattle.dex_types.specs.Tokens.{is_same_side}
+use Rattle.dex_accounts.specs.Keeps.{KeepsSide}
 use Rattle.dex_ring.specs.declared.ring_view.RingView.{RingView}
 use Rattle.dex_ring.specs.Appended.{HasRoom, appended}
 use Rattle.dex_ring.specs.Ring.{IsEventQueue, Ring, pushed, ring_of}
@@ -91,6 +92,18 @@ pub record HaveLeft (gone : List RestingOrder) (before after : CancelGiven) : Ty
   pub queue : queue_of after.queue ≡ with_outs before.sizes gone (queue_of before.queue)
   pub accepted : IsEventQueue after.queue
 
+-- these orders left both sides, as many as were told: each gave an out, the sides keep what their traits say, and the
+-- queue's view looks at the same slice
+pub record HaveGone {B A : Type 0} (BidsHold : B → Type 0) (SameBids : B → B → Type 0) (bid_side : B → Side) (bid_room : B → ℕ) (bids_of : B → List Order)
+    (AsksHold : A → Type 0) (SameAsks : A → A → Type 0) (ask_side : A → Side) (ask_room : A → ℕ) (asks_of : A → List Order)
+    (gone : List RestingOrder) (told : ℕ) (sizes : Lots) (bids_before bids_after : B) (asks_before asks_after : A) (ring_before ring_after : RingView)
+    : Type 0 where
+  pub count : told ≡ length gone
+  pub left : HaveLeft gone (handed sizes bids_of asks_of bids_before asks_before ring_before) (handed sizes bids_of asks_of bids_after asks_after ring_after)
+  pub bids : KeepsSide BidsHold SameBids bid_side bid_room bids_before bids_after
+  pub asks : KeepsSide AsksHold SameAsks ask_side ask_room asks_before asks_after
+  pub place : ring_after.bytes.ghost_name ≡ ring_before.bytes.ghost_name
+
 -- what is handed of one side alone
 pub record SideGiven : Type 0 where
   pub sizes : Lots
@@ -102,7 +115,7 @@ pub record SideGiven : Type 0 where
 abbrev pub side_handed : {B : Type 0} → Lots → Side → (B → List Order) → B → RingView → SideGiven
 side_handed sizes side orders_of book ring = record { sizes = sizes; side = side; orders = orders_of book; queue = ring.bytes.now }
 
--- so many orders can leave the side: the queue is accepted, and has room for an out of each
+-- this many orders can leave the side: the queue is accepted, and has room for an out of each
 pub record CanLeaveSide (gone : List RestingOrder) (given : SideGiven) : Type 0 where
   pub accepted : IsEventQueue given.queue
   pub room : HasRoom (length gone) (ring_of given.queue)

@@ -7,7 +7,7 @@ ghost use Rattle.dex_ring.specs.Ring.{ring_of, room_of};
 ghost use Rattle.dex_accounts.specs.Keeps.{KeepsEvents, KeepsSide};
 ghost use Rattle.dex_cancel.specs.Cancelling.{decided, named_by};
 ghost use Rattle.dex_cancel.specs.Finding.{maybe_resting, resting};
-ghost use Rattle.dex_cancel.specs.TakenOff.{CanLeave, DoRest, HaveLeft, handed, queue_of, with_outs};
+ghost use Rattle.dex_cancel.specs.TakenOff.{CanLeave, DoRest, HaveGone, HaveLeft, handed, queue_of, with_outs};
 ghost use Rattle.dex_cancel.specs.Parts.{AreOfSoundMarket, left_by, named_in};
 
 use crate::finding::{find_named, find_oldest, find_on};
@@ -57,13 +57,9 @@ pub fn cancel_maybe<B: SideBook, A: SideBook>(
     requires can { CanLeave (at_most_one (maybe_resting found))
         (handed sizes B.orders A.orders bids.old asks.old ring.old) }
     requires rests { DoRest (at_most_one (maybe_resting found)) (B.orders bids.old) (A.orders asks.old) }
-    ensures count { result ≡ length (at_most_one (maybe_resting found)) }
-    ensures left { HaveLeft (at_most_one (maybe_resting found))
-        (handed sizes B.orders A.orders bids.old asks.old ring.old)
-        (handed sizes B.orders A.orders bids.new asks.new ring.new) }
-    ensures bids { KeepsSide B.holds B.same_place B.side B.room bids.old bids.new }
-    ensures asks { KeepsSide A.holds A.same_place A.side A.room asks.old asks.new }
-    ensures place { ring.new.bytes.ghost_name ≡ ring.old.bytes.ghost_name }
+    ensures { let gone = at_most_one (maybe_resting found) in
+        HaveGone B.holds B.same_place B.side B.room B.orders A.holds A.same_place A.side A.room A.orders gone result sizes
+        bids.old bids.new asks.old asks.new ring.old ring.new }
 {
     match found {
         Some(found) => {
@@ -87,20 +83,16 @@ pub fn cancel_by_id<B: SideBook, A: SideBook>(
     requires asks { A.holds asks.old }
     requires can { CanLeave (on_side side (order_with id (by_side side (B.orders bids.old) (A.orders asks.old))))
         (handed sizes B.orders A.orders bids.old asks.old ring.old) }
-    ensures count { result ≡ length (on_side side (order_with id
-        (by_side side (B.orders bids.old) (A.orders asks.old)))) }
-    ensures left { HaveLeft (on_side side (order_with id (by_side side (B.orders bids.old) (A.orders asks.old))))
-        (handed sizes B.orders A.orders bids.old asks.old ring.old)
-        (handed sizes B.orders A.orders bids.new asks.new ring.new) }
-    ensures bids { KeepsSide B.holds B.same_place B.side B.room bids.old bids.new }
-    ensures asks { KeepsSide A.holds A.same_place A.side A.room asks.old asks.new }
-    ensures place { ring.new.bytes.ghost_name ≡ ring.old.bytes.ghost_name }
+    ensures { let gone = on_side side (order_with id (by_side side (B.orders bids.old) (A.orders asks.old))) in
+        HaveGone B.holds B.same_place B.side B.room B.orders A.holds A.same_place A.side A.room A.orders gone result sizes
+        bids.old bids.new asks.old asks.new ring.old ring.new }
 {
     let found = found_on(side, find_on(bids, asks, side, id));
     cancel_maybe(found, sizes, bids, asks, ring)
 }
 
-/// Takes the account's oldest order of a client id, if it has one, and appends its out. It answers how many orders that is.
+/// Takes the account's oldest order of a client id, if it has one, and appends its out. It answers how many orders that
+/// is.
 fn cancel_oldest<B: SideBook, A: SideBook>(
     client: u64,
     account: Address,
@@ -114,22 +106,16 @@ fn cancel_oldest<B: SideBook, A: SideBook>(
     requires can { CanLeave (at_most_one (oldest client
         (all_orders_of account (B.orders bids.old) (A.orders asks.old))))
         (handed sizes B.orders A.orders bids.old asks.old ring.old) }
-    ensures count { result ≡ length (at_most_one (oldest client
-        (all_orders_of account (B.orders bids.old) (A.orders asks.old)))) }
-    ensures left { HaveLeft (at_most_one (oldest client
-        (all_orders_of account (B.orders bids.old) (A.orders asks.old))))
-        (handed sizes B.orders A.orders bids.old asks.old ring.old)
-        (handed sizes B.orders A.orders bids.new asks.new ring.new) }
-    ensures bids { KeepsSide B.holds B.same_place B.side B.room bids.old bids.new }
-    ensures asks { KeepsSide A.holds A.same_place A.side A.room asks.old asks.new }
-    ensures place { ring.new.bytes.ghost_name ≡ ring.old.bytes.ghost_name }
+    ensures { let gone = at_most_one (oldest client (all_orders_of account (B.orders bids.old) (A.orders asks.old))) in
+        HaveGone B.holds B.same_place B.side B.room B.orders A.holds A.same_place A.side A.room A.orders gone result sizes
+        bids.old bids.new asks.old asks.new ring.old ring.new }
 {
     let found = find_oldest(bids, asks, account, client);
     cancel_maybe(found, sizes, bids, asks, ring)
 }
 
-/// Takes the account's oldest order of each of the client ids in order, and appends their outs. It passes over zeros, and
-/// over client ids without a resting order, and answers how many orders there were.
+/// Takes the account's oldest order of each of the client ids in order, and appends their outs. It passes over zeros,
+/// and over client ids without a resting order, and answers how many orders there were.
 fn cancel_listed<B: SideBook, A: SideBook>(
     ids: &ClientIds,
     account: Address,
@@ -143,15 +129,10 @@ fn cancel_listed<B: SideBook, A: SideBook>(
     requires can { CanLeave (taken_by_all (take ids.now.count ids.now.ids)
         (all_orders_of account (B.orders bids.old) (A.orders asks.old)))
         (handed sizes B.orders A.orders bids.old asks.old ring.old) }
-    ensures count { result ≡ length (taken_by_all (take ids.now.count ids.now.ids)
-        (all_orders_of account (B.orders bids.old) (A.orders asks.old))) }
-    ensures left { HaveLeft (taken_by_all (take ids.now.count ids.now.ids)
-        (all_orders_of account (B.orders bids.old) (A.orders asks.old)))
-        (handed sizes B.orders A.orders bids.old asks.old ring.old)
-        (handed sizes B.orders A.orders bids.new asks.new ring.new) }
-    ensures bids { KeepsSide B.holds B.same_place B.side B.room bids.old bids.new }
-    ensures asks { KeepsSide A.holds A.same_place A.side A.room asks.old asks.new }
-    ensures place { ring.new.bytes.ghost_name ≡ ring.old.bytes.ghost_name }
+    ensures { let gone = taken_by_all (take ids.now.count ids.now.ids)
+        (all_orders_of account (B.orders bids.old) (A.orders asks.old)) in
+        HaveGone B.holds B.same_place B.side B.room B.orders A.holds A.same_place A.side A.room A.orders gone result sizes
+        bids.old bids.new asks.old asks.new ring.old ring.new }
 {
     let mut count = 0;
     for place in 0..usize::from(ids.count) {
@@ -174,13 +155,9 @@ pub(crate) fn cancel_all<B: SideBook, A: SideBook>(
     requires asks { A.holds asks.old }
     requires can { CanLeave (cancelled (named_by what.now) account (B.orders bids.old) (A.orders asks.old))
         (handed sizes B.orders A.orders bids.old asks.old ring.old) }
-    ensures count { result ≡ length (cancelled (named_by what.now) account (B.orders bids.old) (A.orders asks.old)) }
-    ensures left { HaveLeft (cancelled (named_by what.now) account (B.orders bids.old) (A.orders asks.old))
-        (handed sizes B.orders A.orders bids.old asks.old ring.old)
-        (handed sizes B.orders A.orders bids.new asks.new ring.new) }
-    ensures bids { KeepsSide B.holds B.same_place B.side B.room bids.old bids.new }
-    ensures asks { KeepsSide A.holds A.same_place A.side A.room asks.old asks.new }
-    ensures place { ring.new.bytes.ghost_name ≡ ring.old.bytes.ghost_name }
+    ensures { let gone = cancelled (named_by what.now) account (B.orders bids.old) (A.orders asks.old) in
+        HaveGone B.holds B.same_place B.side B.room B.orders A.holds A.same_place A.side A.room A.orders gone result sizes
+        bids.old bids.new asks.old asks.new ring.old ring.new }
 {
     match what {
         CancelWhat::ById { side, id } => cancel_by_id(*side, *id, sizes, bids, asks, ring),
@@ -190,8 +167,8 @@ pub(crate) fn cancel_all<B: SideBook, A: SideBook>(
     }
 }
 
-/// Takes the orders that a cancel names off the two sides, one after the other, appends for each an out that releases all
-/// that it locked, and answers how many they were. `sizes` are the market's lot sizes.
+/// Takes the orders that a cancel names off the two sides, one after the other, appends for each an out that releases
+/// all that it locked, and answers how many they were. `sizes` are the market's lot sizes.
 pub fn apply_cancel<B: SideBook, A: SideBook>(
     what: &CancelWhat,
     account: Address,

@@ -60,7 +60,7 @@ fn count_client<B: SideRead, A: SideRead>(bids: &B, asks: &A, account: Address, 
         + u64::from(count_client_on(asks, Side::Ask, account, client))
 }
 
-/// How often the client id stands in front of this place.
+/// How often the client id appears before this place.
 pub fn count_before(ids: &[u64; 8], place: usize, client: u64) -> u64
     requires { place < 8 }
     ensures { result ≡ count_among client (take place ids.now) }
@@ -74,8 +74,8 @@ pub fn count_before(ids: &[u64; 8], place: usize, client: u64) -> u64
     count
 }
 
-/// The client id at this place takes an order: it is not 0, and the account has more orders of it than the same client id
-/// in front of this place took.
+/// The client id at this place takes an order: it is not 0, and the account has more orders of it than the same client
+/// id in front of this place took.
 fn takes_one<B: SideRead, A: SideRead>(
     bids: &B,
     asks: &A,

@@ -67,7 +67,7 @@ fn decide_by_client<B: SideRead, A: SideRead>(
     }
 }
 
-/// A cancel of the account's first orders, at most so many.
+/// A cancel of the account's first orders, up to the limit.
 fn decide_prune<B: SideRead, A: SideRead>(
     bids: &B,
     asks: &A,

@@ -1,4 +1,5 @@
-//! What a cancel leaves of a market, by the market's parts. A law is a function without a body, and its clauses are the law.
+//! What a cancel leaves of a market, by the market's parts. A law is a function without a body, and its clauses are the
+//! law.
 
 ghost use Rattle.std.specs.Prelude.{◌≡◌, List};
 ghost use Rattle.dex_types.specs.declared.addresses.Address.{Address};
@@ -11,8 +12,9 @@ ghost use Rattle.dex_accounts.specs.Parts.{AreOf, MarketParts};
 ghost use Rattle.dex_cancel.specs.TakenOff.{queue_of, with_outs};
 ghost use Rattle.dex_cancel.specs.Parts.{cancel_given, left_by, named_in, with_cancelled};
 
-/// Why a cancel is refused in a market depends on its sides and the free places of its event queue alone, and the orders that it
-/// names are those of the market's parts. The parts that they left are those of the market without them, with their outs.
+/// Why a cancel is refused in a market depends on its sides and the free places of its event queue alone, and the
+/// orders that it names are those of the market's parts. The parts that they left are those of the market without them,
+/// with their outs.
 pub fn a_market_is_left_by_its_parts()
     ensures why { (by : CancelBy) (owner : Address) (m : Market)
         → why_cancelled by owner m ≡ why_cancelling by owner m.bids m.asks (event_room m) }

@@ -1,4 +1,5 @@
-//! Cancels: which resting orders a cancel takes from the two sides of the book, and the outs that it appends to the event queue.
+//! Cancels: which resting orders a cancel takes from the two sides of the book, and the outs that it appends to the
+//! event queue.
 #![tactic(auto)]
 
 mod applying;

@@ -4,7 +4,7 @@ ghost use Rattle.std.specs.Prelude.{◌≡◌, ◌<◌, ◌^◌, [], ◌∷◌, 
 ghost use Rattle.dex_types.specs.Cancel.{all_orders_of, order_with, orders_of};
 ghost use Rattle.dex_types.specs.Owed.{order_lock};
 ghost use Rattle.dex_accounts.specs.Keeps.{KeepsSide};
-ghost use Rattle.dex_cancel.specs.TakenOff.{CanLeave, CanLeaveSide, DoOrdersFit, HaveLeft, HaveLeftSide, handed, side_handed};
+ghost use Rattle.dex_cancel.specs.TakenOff.{CanLeave, CanLeaveSide, DoOrdersFit, HaveGone, HaveLeftSide, handed, side_handed};
 
 use crate::taking::take_off;
 use dex_ring::RingView;
@@ -38,7 +38,7 @@ fn take_own<S: SideBook>(
     1
 }
 
-/// Takes the account's first orders on a side, at most so many, and appends their outs. It answers how many orders there were.
+/// Takes the account's first orders on a side, up to the limit, and appends their outs. It answers how many there were.
 fn prune_side<S: SideBook>(
     side: Side,
     limit: u32,
@@ -70,7 +70,7 @@ fn prune_side<S: SideBook>(
     count
 }
 
-/// Takes the account's first orders, at most so many, and appends their outs. It answers how many orders there were.
+/// Takes the account's first orders, up to the limit, and appends their outs. It answers how many there were.
 pub fn prune<B: SideBook, A: SideBook>(
     limit: u16,
     account: Address,
@@ -83,13 +83,9 @@ pub fn prune<B: SideBook, A: SideBook>(
     requires asks { A.holds asks.old }
     requires can { CanLeave (take limit (all_orders_of account (B.orders bids.old) (A.orders asks.old)))
         (handed sizes B.orders A.orders bids.old asks.old ring.old) }
-    ensures count { result ≡ length (take limit (all_orders_of account (B.orders bids.old) (A.orders asks.old))) }
-    ensures left { HaveLeft (take limit (all_orders_of account (B.orders bids.old) (A.orders asks.old)))
-        (handed sizes B.orders A.orders bids.old asks.old ring.old)
-        (handed sizes B.orders A.orders bids.new asks.new ring.new) }
-    ensures bids { KeepsSide B.holds B.same_place B.side B.room bids.old bids.new }
-    ensures asks { KeepsSide A.holds A.same_place A.side A.room asks.old asks.new }
-    ensures place { ring.new.bytes.ghost_name ≡ ring.old.bytes.ghost_name }
+    ensures { let gone = take limit (all_orders_of account (B.orders bids.old) (A.orders asks.old)) in
+        HaveGone B.holds B.same_place B.side B.room B.orders A.holds A.same_place A.side A.room A.orders gone result sizes
+        bids.old bids.new asks.old asks.new ring.old ring.new }
 {
     let limit = u32::from(limit);
     let taken = prune_side(Side::Bid, limit, account, sizes, bids, ring);

@@ -11,6 +11,6 @@ pub enum CancelWhat {
     ByClient(u64),
     /// For each client id in turn, its order with the least sequence number; zeros and ids without one are passed over.
     ByClients(ClientIds),
-    /// The account's first so many orders: its bids in book order, and then its asks in book order.
+    /// The account's first orders, up to this number: its bids in book order, then its asks in book order.
     Prune(u16),
 }

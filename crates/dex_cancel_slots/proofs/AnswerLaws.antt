@@ -1,4 +1,5 @@
--- what the slots of an account tell of its orders: which they are, how many, the oldest, and those of a side in book order
+-- what the slots of an account tell of its orders: which they are, how many, the oldest, and those of a side in book
+-- order
 use Rattle.std.proofs.Common.{ℕ, ◌+◌, ◌≡◌, true, false, eqb, ltb, List, [], ◌∷◌, ◌++◌, Option, Some, append-nil, filter, length, refl, sym, ap, ◌∙◌, subst, arith, ⊎_elim}
 use Rattle.std.specs.List.{All}
 use Rattle.std.specs.Option.{is_some}

@@ -28,7 +28,7 @@ use Rattle.dex_cancel_slots.specs.Slots.{AreBitsOf, AreClear, DoSlotsNameOn, IsA
 abbrev IsFound : List Order → Order → Type 0
 IsFound orders order = order_with order.id orders ≡ Some order
 
--- so behind an order that stands before
+-- so after an order that stands before
 found-behind : (side : Side) (first : Order) (others some : List Order) → All (λ (o : Order). precedes side first.id o.id ≡ true) some
     → All (IsFound others) some → All (IsFound (first ∷ others)) some
 found-behind side first others [] before found = All-nil (IsFound (first ∷ others))

@@ -29,7 +29,7 @@ all-behind-none : (owner : Address) (side : Side) (orders : List Order) → All 
 all-behind-none owner side [] = All-nil (StandsBehind owner side None)
 all-behind-none owner side (first ∷ others) = All-cons (StandsBehind owner side None) first others (λ own. refl) (all-behind-none owner side others)
 
--- an order that does not stand before the first and has another id stands behind it
+-- an order that does not stand before the first and has another id stands after it
 behind-apart : (owner : Address) (side : Side) (first : Order) (orders : List Order) → All (StandsNotAhead owner side (Some first)) orders
     → All (λ (o : Order). o.id ≢ first.id) orders → All (StandsBehind owner side (Some first.id)) orders
 behind-apart owner side first [] ahead apart = All-nil (StandsBehind owner side (Some first.id))
@@ -76,7 +76,7 @@ first-of-own owner side order orders own sorted found ahead =
     (cases_Bool (is_same owner first.owner)))
     orders found sorted ahead
 
--- the owner's first so many orders left a side, and its others there stand behind the last id that left
+-- the owner's first n orders left a side, and its others there stand after the last id that left
 pub record IsPrunedTo (sizes : Lots) (owner : Address) (slots : List (Option Holding)) (side : Side) (count : ℕ) (orders : List Order) (ring : Queue) (last : Option ℕ) (now : List Order) (ring_now : Queue) : Type 0 where
   pub orders_are : now ≡ without_all side (take count (orders_of owner side orders)) orders
   pub ring_is : ring_now ≡ with_outs sizes (take count (orders_of owner side orders)) ring

@@ -1,4 +1,4 @@
--- which slots of an account are taken, by their bits: from one that is set to the next, and behind the last
+-- which slots of an account are taken, by their bits: from one that is set to the next, and after the last
 use Rattle.std.proofs.Common.{ℕ, zero, suc, ◌≡◌, ◌+◌, ◌-◌, ◌/◌, ◌%◌, ◌^◌, ◌<◌, ◌≤◌, Bool, true, false, eqb, min, List, ◌∷◌, Option, Some, None, [], length, drop, get_or, refl, sym, ap, ◌∙◌, subst, arith, inl, inr}
 use Rattle.std.proofs.lemmas.Bool.{cases_lt, cond_both}
 use Rattle.std.proofs.lemmas.List.{at_drop_all, at_drop_more}
@@ -144,7 +144,7 @@ none-held : (held : Option Holding) → is_held any_holding held ≡ false → h
 none-held None is = refl
 none-held (Some held) is = absurd (cc)
 
--- behind the highest bit of those that are not free, a slot is free
+-- after the highest bit of those that are not free, a slot is free
 pub free_behind : (bytes : List ℕ) (slot : ℕ) → slot < 128 → number_in bytes FREE_SLOT_BITS < 2 ^ 128
     → 128 - leading_zeros w128 (bit_not w128 (number_in bytes FREE_SLOT_BITS)) ≤ slot → held_in (slots_of bytes) slot ≡ None
 free_behind bytes slot below low at =
@@ -155,7 +155,8 @@ free_behind bytes slot below low at =
     none-held (held_in (slots_of bytes) slot)
     (sym (bits-taken bytes free (number_in bytes IS_BID_BITS) refl refl low slot below) ∙ ap (λ b. eqb b 1) bit)
 
--- what is the same whether a free slot comes first or not is the same of the slots from one number on and from another, where those between are free
+-- what is the same whether a free slot comes first or not is the same of the slots from one number on and from another,
+-- where those between are free
 skip : {Y : Type 0} (F : List (Option Holding) → Y) → ((later : List (Option Holding)) → F (None ∷ later) ≡ F later)
     → (slots : List (Option Holding)) (from to gap : ℕ) → from + gap ≡ to → to ≤ length slots → AreFree slots from to → F (drop from slots) ≡ F (drop to slots)
 skip F passes slots from to zero sum most free = let same : from ≡ to = omega (arith, sum) in ap (λ n. F (drop n slots)) same

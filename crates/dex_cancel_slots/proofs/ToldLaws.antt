@@ -30,7 +30,7 @@ abbrev IsAdded : Bool → RestingOrder → List RestingOrder → List RestingOrd
 IsAdded true one old new = IsInserted one old new
 IsAdded false one old new = new ≡ old
 
--- and so behind others
+-- and so after others
 added-behind : (test : Bool) (one : RestingOrder) (front front_now old new : List RestingOrder) → front_now ≡ front → IsAdded test one old new
     → IsAdded test one (front ++ old) (front_now ++ new)
 added-behind true one front front_now old new same at = record {
@@ -140,7 +140,7 @@ module _ (test : Holding → Bool) (side : Side) (first : Order) (bids asks bids
 
 -- ---- over all orders of both sides
 
--- no order behind another one has its id
+-- no order after another one has its id
 new-id : (side : Side) (id : ℕ) (orders : List Order) → PrecedesAll side id orders → order_with id orders ≡ None
 new-id side id [] before = refl
 new-id side id (first ∷ others) before =

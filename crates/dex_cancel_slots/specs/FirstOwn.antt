@@ -9,7 +9,7 @@ use Rattle.dex_types.specs.Addresses.{is_same}
 use Rattle.dex_types.specs.Cancel.{order_with}
 use Rattle.dex_types.specs.Side.{precedes}
 
--- the id stands behind a last one, where there is one
+-- the id stands after a last one, where there is one
 abbrev pub is_behind : Side → Option ℕ → ℕ → Bool
 is_behind side None id = true
 is_behind side (Some last) id = precedes side last id
@@ -19,12 +19,12 @@ abbrev pub is_ahead : Side → ℕ → Option Order → Bool
 is_ahead side id None = true
 is_ahead side id (Some first) = precedes side id first.id
 
--- the order of an id, where it rests behind a last id and before a first order; else the first order
+-- the order of an id, where it rests after a last id and before a first order; else the first order
 abbrev pub earlier : Side → Option ℕ → List Order → Option Order → ℕ → Option Order
 earlier side last orders first id =
     if is_behind side last id && is_ahead side id first then option_or (order_with id orders) first else first
 
--- an order stands behind a last id, if it is the owner's
+-- an order stands after a last id, if it is the owner's
 abbrev pub StandsBehind : Address → Side → Option ℕ → Order → Type 0
 StandsBehind owner side last order = is_same owner order.owner ≡ true → is_behind side last order.id ≡ true
 

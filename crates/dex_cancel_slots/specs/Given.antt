@@ -9,8 +9,8 @@ use Rattle.dex_cancel_slots.specs.declared.owned.Owned.{Owned}
 use Rattle.dex_cancel_slots.specs.Slots.{DoSlotsName}
 use Rattle.dex_accounts.specs.Parts.{AreSoundParts, HasOpen, MarketParts}
 
--- what a call is given, by what it takes of a market's parts, is of one sound market, in which the owner's account is open, with
--- these bytes
+-- what a call is given, by what it takes of a market's parts, is of one sound market, in which the owner's account is
+-- open, with these bytes
 pub record IsGiven {Given : Type 0} (taken_of : MarketParts → Given) (given : Given) (owner : Address) (account : List ℕ) : Type 0 where
   pub whole : MarketParts
   pub sound : AreSoundParts whole

@@ -29,7 +29,8 @@ IsClientOf held client = IfSome held (λ (h : Holding). h.client ≡ client)
 abbrev pub IsIdOf : Option Holding → ℕ → Type 0
 IsIdOf held id = IfSome held (λ (h : Holding). h.id ≡ id)
 
--- the order that a slot names, where it is taken and its holding passes the test: the one of its id on its side, if one rests there
+-- the order that a slot names, where it is taken and its holding passes the test: the one of its id on its side, if one
+-- rests there
 abbrev pub named_by_slot : (Holding → Bool) → List Order → List Order → Option Holding → List RestingOrder
 named_by_slot test bids asks None = []
 named_by_slot test bids asks (Some held) = if test held then on_side held.side (order_with held.id (by_side held.side bids asks)) else []
@@ -91,8 +92,8 @@ abbrev pub IsAsHeld : Address → List (Option Holding) → Side → Order → T
 IsAsHeld owner slots side order = (slot : ℕ) (held : Holding) → held_in slots slot ≡ Some held → is_one_order held (order_holding side order) ≡ true
     → (is_same owner order.owner ≡ true) × (held ≡ order_holding side order)
 
--- the slots name the owner's orders of one side: it is in book order, an own order is held by its slot, and an order that a slot
--- names is the owner's and as the slot says
+-- the slots name the owner's orders of one side: it is in book order, an own order is held by its slot, and an order
+-- that a slot names is the owner's and as the slot says
 pub record DoSlotsNameOn (owner : Address) (slots : List (Option Holding)) (side : Side) (orders : List Order) : Type 0 where
   pub in_order : InBookOrder side orders
   pub held : All (IsHeldIn owner slots side) orders

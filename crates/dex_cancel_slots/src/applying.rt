@@ -12,32 +12,31 @@ ghost use Rattle.dex_cancel_slots.specs.Given.{IsGiven, slots_in};
 ghost use Rattle.dex_cancel_slots.specs.Slots.{DoSlotsName};
 
 use crate::finding::find_oldest;
+use crate::owned::Owner;
 use crate::pruning::prune_side;
 use dex_cancel::CancelWhat;
 use dex_cancel::steps::{cancel_by_id, cancel_maybe};
-use dex_orders::OrdersRef;
 use dex_ring::RingView;
-use dex_types::{Address, Lots, Side, SideBook};
+use dex_types::{Lots, Side, SideBook};
 
 /// Takes the orders that a cancel names, and appends their outs. It answers how many they were.
 fn cancel_all<B: SideBook, A: SideBook>(
     what: &CancelWhat,
-    account: Address,
-    orders: &OrdersRef<'_>,
+    owner: Owner<'_>,
     sizes: Lots,
     bids: &mut B,
     asks: &mut A,
     ring: &mut RingView<'_>,
 ) -> u32
-    requires open { IsOpen orders.now.bytes.now }
+    requires open { IsOpen owner.orders.bytes.now }
     requires bids { B.holds bids.old }
     requires asks { A.holds asks.old }
-    requires names { DoSlotsName account (slots_in orders.now) (B.orders bids.old) (A.orders asks.old) }
+    requires names { DoSlotsName owner.account (slots_in owner.orders) (B.orders bids.old) (A.orders asks.old) }
     requires can { let before = handed sizes B.orders A.orders bids.old asks.old ring.old in
-        CanLeave (named_in (named_by what.now) account before) before }
+        CanLeave (named_in (named_by what.now) owner.account before) before }
     ensures does { let before = handed sizes B.orders A.orders bids.old asks.old ring.old in
         let after = handed sizes B.orders A.orders bids.new asks.new ring.new in
-        HaveLeftSo (named_in (named_by what.now) account before) before after result }
+        HaveLeftSo (named_in (named_by what.now) owner.entry.account before) before after result }
     ensures bids { KeepsSide B.holds B.same_place B.side B.room bids.old bids.new }
     ensures asks { KeepsSide A.holds A.same_place A.side A.room asks.old asks.new }
     ensures place { ring.new.bytes.ghost_name ≡ ring.old.bytes.ghost_name }
@@ -45,7 +44,7 @@ fn cancel_all<B: SideBook, A: SideBook>(
     match what {
         CancelWhat::ById { side, id } => cancel_by_id(*side, *id, sizes, bids, asks, ring),
         CancelWhat::ByClient(client) => {
-            let found = find_oldest(account, orders, bids, asks, *client);
+            let found = find_oldest(owner, bids, asks, *client);
             cancel_maybe(found, sizes, bids, asks, ring)
         }
         CancelWhat::ByClients(ids) => {
@@ -55,7 +54,7 @@ fn cancel_all<B: SideBook, A: SideBook>(
                 let found = if client == 0 {
                     None
                 } else {
-                    find_oldest(account, orders, bids, asks, client)
+                    find_oldest(owner, bids, asks, client)
                 };
                 count += cancel_maybe(found, sizes, bids, asks, ring);
             }
@@ -63,19 +62,18 @@ fn cancel_all<B: SideBook, A: SideBook>(
         }
         CancelWhat::Prune(limit) => {
             let limit = u32::from(*limit);
-            let taken = prune_side(Side::Bid, limit, account, orders, sizes, bids, ring);
-            taken + prune_side(Side::Ask, limit - taken, account, orders, sizes, asks, ring)
+            let taken = prune_side(Side::Bid, limit, owner, sizes, bids, ring);
+            taken + prune_side(Side::Ask, limit - taken, owner, sizes, asks, ring)
         }
     }
 }
 
 /// Takes the orders that a cancel names off the two sides, one after the other, appends for each an out that releases
 /// all that it locked, and answers how many they were: all as `apply_cancel` does it, the orders found by the slots of
-/// the account, whose bytes are `orders`. `sizes` are the market's lot sizes.
+/// the account. `sizes` are the market's lot sizes.
 pub fn apply_cancel_by_slots<B: SideBook, A: SideBook>(
     what: &CancelWhat,
-    account: Address,
-    orders: &OrdersRef<'_>,
+    owner: Owner<'_>,
     sizes: Lots,
     bids: &mut B,
     asks: &mut A,
@@ -84,20 +82,20 @@ pub fn apply_cancel_by_slots<B: SideBook, A: SideBook>(
     requires bids { B.holds bids.old }
     requires asks { A.holds asks.old }
     requires market { let before = handed sizes B.orders A.orders bids.old asks.old ring.old in
-        IsGiven cancel_given before account orders.now.bytes.now }
+        IsGiven cancel_given before owner.account owner.orders.bytes.now }
     requires decided { let room = room_of (ring_of ring.old.bytes.now) in
-        IsOk (decided (named_by what.now) account (B.orders bids.old) (A.orders asks.old) room) }
+        IsOk (decided (named_by what.now) owner.account (B.orders bids.old) (A.orders asks.old) room) }
     ensures count { let before = handed sizes B.orders A.orders bids.old asks.old ring.old in
-        result ≡ length (named_in (named_by what.now) account before) }
+        result ≡ length (named_in (named_by what.now) owner.entry.account before) }
     ensures does { let before = handed sizes B.orders A.orders bids.old asks.old ring.old in
         let after = handed sizes B.orders A.orders bids.new asks.new ring.new in
-        after ≡ left_by (named_in (named_by what.now) account before) before }
+        after ≡ left_by (named_in (named_by what.now) owner.entry.account before) before }
     ensures events { let before = handed sizes B.orders A.orders bids.old asks.old ring.old in
-        let gone = named_in (named_by what.now) account before in
+        let gone = named_in (named_by what.now) owner.entry.account before in
         ring_of ring.new.bytes.now ≡ (with_outs sizes gone (queue_of before.queue)).list }
     ensures bids { KeepsSide B.holds B.same_place B.side B.room bids.old bids.new }
     ensures asks { KeepsSide A.holds A.same_place A.side A.room asks.old asks.new }
     ensures ring { KeepsEvents ring.old ring.new }
 {
-    cancel_all(what, account, orders, sizes, bids, asks, ring)
+    cancel_all(what, owner, sizes, bids, asks, ring)
 }

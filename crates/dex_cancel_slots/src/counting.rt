@@ -31,7 +31,7 @@ fn count_at<B: SideRead, A: SideRead>(own: &Owned<'_, '_, '_, B, A>, slot: u8) -
     }
 }
 
-/// How many orders of the account rest, at most so many. It looks up no more of them.
+/// How many orders of the account rest, up to the limit. It looks up no more of them.
 pub fn count_first<B: SideRead, A: SideRead>(own: &Owned<'_, '_, '_, B, A>, limit: u32) -> u32
     requires own { IsNamed B.holds B.orders A.holds A.orders own.now }
     ensures { result
@@ -71,7 +71,7 @@ fn count_client_at<B: SideRead, A: SideRead>(
     }
 }
 
-/// Whether the account has more orders of the client id than so many. It looks up no more once there are.
+/// Whether the account has more orders of the client id than this number. It looks up no more once there are.
 pub fn has_more<B: SideRead, A: SideRead>(
     own: &Owned<'_, '_, '_, B, A>,
     client: u64,

@@ -7,11 +7,10 @@ ghost use Rattle.dex_cancel.specs.Finding.{maybe_resting};
 ghost use Rattle.dex_cancel_slots.specs.Given.{IsNamed, slots_in};
 ghost use Rattle.dex_cancel_slots.specs.Slots.{DoSlotsName, has_client, named_by_slot};
 
-use crate::owned::{Owned, gathered};
+use crate::owned::{Owned, Owner, gathered};
 use crate::taken::{client_at, taken_end};
 use dex_cancel::steps::{Found, find_on, older_of};
-use dex_orders::OrdersRef;
-use dex_types::{Address, SideRead};
+use dex_types::SideRead;
 
 /// The order that a slot names, where the slot has the client id.
 pub fn named_at<B: SideRead, A: SideRead>(
@@ -35,21 +34,20 @@ pub fn named_at<B: SideRead, A: SideRead>(
 
 /// The account's order of the client id that has the least sequence number.
 pub fn find_oldest<B: SideRead, A: SideRead>(
-    account: Address,
-    orders: &OrdersRef<'_>,
+    owner: Owner<'_>,
     bids: &B,
     asks: &A,
     client: u64,
 ) -> Option<Found>
-    requires open { IsOpen orders.now.bytes.now }
+    requires open { IsOpen owner.orders.bytes.now }
     requires bids { B.holds bids.now }
     requires asks { A.holds asks.now }
-    requires names { DoSlotsName account (slots_in orders.now) (B.orders bids.now) (A.orders asks.now) }
-    ensures { maybe_resting result ≡ oldest client (all_orders_of account (B.orders bids.now) (A.orders asks.now)) }
+    requires names { DoSlotsName owner.account (slots_in owner.orders) (B.orders bids.now) (A.orders asks.now) }
+    ensures { maybe_resting result ≡ oldest client (all_orders_of owner.entry.account (B.orders bids.now) (A.orders asks.now)) }
 {
-    let own = &gathered(account, *orders, bids, asks);
+    let own = &gathered(owner, bids, asks);
     let mut found = None;
-    let end = taken_end(orders);
+    let end = taken_end(&owner.orders);
     let mut slot = 0;
     'slots: while slot < end {
         found = older_of(found, named_at(own, slot, client));

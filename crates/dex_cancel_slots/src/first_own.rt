@@ -8,12 +8,12 @@ ghost use Rattle.dex_cancel_slots.specs.FirstOwn.{IsFirstOwn, StandsBehind};
 ghost use Rattle.dex_cancel_slots.specs.Given.{slots_in};
 ghost use Rattle.dex_cancel_slots.specs.Slots.{DoSlotsNameOn};
 
+use crate::owned::Owner;
 use crate::taken::{id_at, next_set, side_bits};
 use dex_meet::prices::precedes;
-use dex_orders::OrdersRef;
-use dex_types::{Address, Order, Side, SideRead};
+use dex_types::{Order, Side, SideRead};
 
-/// The id stands behind the last one, where there is one.
+/// The id comes after the last one, where there is one.
 fn is_behind(side: Side, last: Option<u128>, id: u128) -> bool
     ensures { result ≡ own.is_behind side last id }
 {
@@ -23,7 +23,7 @@ fn is_behind(side: Side, last: Option<u128>, id: u128) -> bool
     }
 }
 
-/// The id stands before the first order, where there is one.
+/// The id comes before the first order, where there is one.
 fn is_ahead(side: Side, id: u128, first: &Option<Order>) -> bool
     ensures { result ≡ own.is_ahead side id first.now }
 {
@@ -33,7 +33,7 @@ fn is_ahead(side: Side, id: u128, first: &Option<Order>) -> bool
     }
 }
 
-/// The order of an id, where it rests behind the last id and before the first order; else the first order. It looks up
+/// The order of an id, where it rests after the last id and before the first order; else the first order. It looks up
 /// no other.
 fn earlier<S: SideRead>(
     side: Side,
@@ -52,25 +52,24 @@ fn earlier<S: SideRead>(
     }
 }
 
-/// The account's first order on a side, where all that it has there stand behind a last id.
+/// The account's first order on a side, where all that it has there come after a last id.
 pub fn first_own<S: SideRead>(
-    account: Address,
-    orders: &OrdersRef<'_>,
+    owner: Owner<'_>,
     side: Side,
     last: Option<u128>,
     book: &S,
 ) -> Option<Order>
-    requires open { IsOpen orders.now.bytes.now }
+    requires open { IsOpen owner.orders.bytes.now }
     requires holds { S.holds book.now }
-    requires names { DoSlotsNameOn account (slots_in orders.now) side (S.orders book.now) }
-    requires behind { All (StandsBehind account side last) (S.orders book.now) }
-    ensures { IsFirstOwn account side result (S.orders book.now) }
+    requires names { DoSlotsNameOn owner.account (slots_in owner.orders) side (S.orders book.now) }
+    requires behind { All (StandsBehind owner.account side last) (S.orders book.now) }
+    ensures { IsFirstOwn owner.entry.account side result (S.orders book.now) }
 {
-    let bits = side_bits(orders, side);
+    let bits = side_bits(&owner.orders, side);
     let mut first = None;
     let mut slot = next_set(bits, 0);
     'slots: while slot < 128 {
-        first = earlier(side, last, book, first, id_at(orders, slot));
+        first = earlier(side, last, book, first, id_at(&owner.orders, slot));
         slot = next_set(bits, slot + 1);
     }
     first

@@ -31,7 +31,7 @@ pub fn an_accounts_slots_name_its_orders()
 
 /// Slots that name an owner's orders tell exactly its resting orders, each once; how many have a client id, and the
 /// oldest of them; and those of a side in book order. Where the owner's first order leaves the book, its others are
-/// left, as they stood.
+/// left, in their order.
 pub fn the_slots_tell_an_owners_orders()
     ensures orders { WhereNamed (λ owner slots bids asks.
         IsPermutation (all_orders_of owner bids asks) (orders_in any_holding bids asks slots)) }

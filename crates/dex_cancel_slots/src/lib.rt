@@ -14,3 +14,4 @@ mod taken;
 pub use applying::apply_cancel_by_slots;
 pub use deciding::decide_cancel_by_slots;
 pub use laws::{an_accounts_slots_name_its_orders, the_slots_tell_an_owners_orders};
+pub use owned::Owner;

@@ -9,39 +9,37 @@ ghost use Rattle.dex_cancel_slots.specs.Given.{slots_in};
 ghost use Rattle.dex_cancel_slots.specs.Slots.{DoSlotsNameOn};
 
 use crate::first_own::first_own;
+use crate::owned::Owner;
 use dex_cancel::steps::take_off;
-use dex_orders::OrdersRef;
 use dex_ring::RingView;
-use dex_types::{Address, Lots, Side, SideBook};
+use dex_types::{Lots, Side, SideBook};
 
-/// Takes the account's first orders on a side, at most so many, and appends their outs. It answers how many orders
-/// there were.
+/// Takes the account's first orders on a side, up to the limit, and appends their outs. It answers how many there were.
 pub fn prune_side<S: SideBook>(
     side: Side,
     limit: u32,
-    account: Address,
-    orders: &OrdersRef<'_>,
+    owner: Owner<'_>,
     sizes: Lots,
     book: &mut S,
     ring: &mut RingView<'_>,
 ) -> u32
-    requires open { IsOpen orders.now.bytes.now }
+    requires open { IsOpen owner.orders.bytes.now }
     requires holds { S.holds book.old }
-    requires names { DoSlotsNameOn account (slots_in orders.now) side (S.orders book.old) }
+    requires names { DoSlotsNameOn owner.account (slots_in owner.orders) side (S.orders book.old) }
     requires can { let before = side_handed sizes side S.orders book.old ring.old in
-        CanLeaveSide (take limit (orders_of account side before.orders)) before }
+        CanLeaveSide (take limit (orders_of owner.account side before.orders)) before }
     requires locks { DoOrdersFit side sizes (S.orders book.old) }
-    ensures count { result ≡ length (take limit (orders_of account side (S.orders book.old))) }
+    ensures count { result ≡ length (take limit (orders_of owner.entry.account side (S.orders book.old))) }
     ensures left { let before = side_handed sizes side S.orders book.old ring.old in
         let after = side_handed sizes side S.orders book.new ring.new in
-        HaveLeftSide (take limit (orders_of account side before.orders)) before after }
+        HaveLeftSide (take limit (orders_of owner.entry.account side before.orders)) before after }
     ensures book { KeepsSide S.holds S.same_place S.side S.room book.old book.new }
     ensures place { ring.new.bytes.ghost_name ≡ ring.old.bytes.ghost_name }
 {
     let mut count = 0;
     let mut last = None;
     'slots: while count < limit {
-        let Some(order) = first_own(account, orders, side, last, book) else {
+        let Some(order) = first_own(owner, side, last, book) else {
             return count;
         };
         last = Some(order.id);

@@ -1,4 +1,4 @@
-//! Which slots of an account are taken, by their bits, and what stands in a slot.
+//! Which slots of an account are taken, by their bits, and what a slot holds.
 
 ghost use Rattle.std.specs.Prelude.{◌≡◌, ◌≤◌, ◌<◌, true};
 ghost use Rattle.dex_orders.specs.Bits.{is_set};
@@ -11,7 +11,7 @@ use dex_fields::{get_u64, get_u128};
 use dex_orders::OrdersRef;
 use dex_types::Side;
 
-/// A number of slots behind which all are free: that of the last taken one and those before it, which no clause says.
+/// A number of slots after which all are free: it counts the last taken one and those before it, which no clause says.
 #[tactic(auto, using(crate::proofs::TakenLaws::free_behind))]
 pub fn taken_end(orders: &OrdersRef<'_>) -> u8
     requires { IsOpen orders.now.bytes.now }

@@ -1,4 +1,5 @@
--- The first events of a sound market can be paid to the accounts of their owners, and what is left is the queue and the accounts of the market behind them.
+-- The first events of a sound market can be paid to the accounts of their owners, and what is left is the queue and the
+-- accounts of the market after them.
 use Rattle.std.proofs.Common.{◌≡◌, ℕ, zero, suc, ◌+◌, ◌≤◌, ◌<◌, Bool, true, false, cond, eqb, List, ◌∷◌, length, map, take, drop, get_or, Option, Some, None, IsSome, refl, sym, ap, ◌∙◌, subst, arith, rules, inl, inr, length-drop}
 use Rattle.std.specs.List.{All}
 use Rattle.std.proofs.lemmas.Bool.{eqb-true}
@@ -185,7 +186,7 @@ module _ (bytes : CrankBytes) (m : Market) (parts : AreCrankedIn m bytes) (pendi
     accepted = accounts-left bytes m parts (head_of bytes.queue) (events_of (popped bytes.queue)) first;
   }
 
--- the parts of a market are those of it behind its first event
+-- the parts of a market are those of it after its first event
 AreCrankedIn-parts : (parts : MarketParts) (m : Market) → IsSound m → AreOf parts m → AreCrankedIn m (crank_given parts)
 AreCrankedIn-parts parts m sound are = record {
   sound = sound;

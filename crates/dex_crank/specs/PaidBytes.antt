@@ -52,7 +52,7 @@ paid_first bytes =
     let event = decoded_event (event_at bytes.queue 0) in
     record { queue = popped bytes.queue; accounts = changed_at event.owner (paid_in event) bytes.accounts }
 
--- so many events were paid, one after the other
+-- this many events were paid, one after the other
 abbrev pub paid_bytes : ℕ → CrankBytes → CrankBytes
 paid_bytes zero bytes = bytes
 paid_bytes (suc count) bytes = paid_first (paid_bytes count bytes)

@@ -25,7 +25,8 @@ pub record AreOfSoundMarket (bytes : CrankBytes) : Type 0 where
   pub sound : AreSoundParts whole
   pub given : crank_given whole ≡ bytes
 
--- what of that a crank goes by: the pending events are those of a sound market, and its traders are those of the accounts
+-- what of that a crank goes by: the pending events are those of a sound market, and its traders are those of the
+-- accounts
 pub record AreCrankedIn (m : Market) (bytes : CrankBytes) : Type 0 where
   pub sound : IsSound m
   pub queue : IsEventQueue bytes.queue
@@ -33,8 +34,8 @@ pub record AreCrankedIn (m : Market) (bytes : CrankBytes) : Type 0 where
   pub accounts : All (λ (account : PlainAccount). IsOrders account.bytes) bytes.accounts
   pub traders : traders_of bytes.accounts ≡ m.traders
 
--- what stays beside events and funds: how many events fit the queue, how many were ever appended, each account's address and
--- market, and that each is accepted
+-- what stays beside events and funds: how many events fit the queue, how many were ever appended, each account's
+-- address and market, and that each is accepted
 pub record Keeps (before after : CrankBytes) : Type 0 where
   pub capacity : (ring_of after.queue).capacity ≡ (ring_of before.queue).capacity
   pub appended : (ring_of after.queue).seq_num ≡ (ring_of before.queue).seq_num

@@ -88,10 +88,11 @@ pub fn consume_with_pending(
 /// Consumes events from the front of the queue, at most `limit`, up to the first one whose owner is not among the named
 /// addresses, and answers how many.
 ///
-/// Each is paid to its owner's account in place: a filled bid gets base, and its rebate is free; a filled ask gets quote;
-/// a filled new order's account keeps the fee's part for a referrer; and an out unlocks what it releases, and frees its
-/// slot where it leaves nothing locked. The queue's head and count move on; all other bytes stay. The queue and the
-/// accounts are to be those of one sound market: then each pending event's owner is open, and every amount fits.
+/// Each is paid to its owner's account in place: a filled bid gets base, and its rebate is free; a filled ask gets
+/// quote; a filled new order's account keeps the fee's part for a referrer; and an out unlocks what it releases, and
+/// frees its slot where it leaves nothing locked. The queue's head and count move on; all other bytes stay. The queue
+/// and the accounts are to be those of one sound market: then each pending event's owner is open, and every amount
+/// fits.
 pub fn consume(
     ring: &mut RingView<'_>,
     accounts: &mut [OrdersAccount],

@@ -11,8 +11,8 @@ ghost use Rattle.dex_accounts.specs.Parts.{AreOf, MarketParts};
 ghost use Rattle.dex_crank.specs.PaidBytes.{CrankBytes, after_calls, paid_bytes};
 ghost use Rattle.dex_crank.specs.Parts.{crank_given, with_cranked};
 
-/// What consuming events leaves of the queue's and the accounts' bytes depends on how many are consumed alone. So any two
-/// ways to split a crank into calls that consume as many events leave the same bytes.
+/// What consuming events leaves of the queue's and the accounts' bytes depends on how many are consumed alone. So any
+/// two ways to split a crank into calls that consume as many events leave the same bytes.
 pub fn a_crank_of_bytes_is_any_split_of_it()
     ensures sums { (first later : ℕ) (bytes : CrankBytes)
         → paid_bytes later (paid_bytes first bytes) ≡ paid_bytes (first + later) bytes }
@@ -22,8 +22,8 @@ pub fn a_crank_of_bytes_is_any_split_of_it()
         → after_calls counts bytes ≡ after_calls others bytes }
 {}
 
-/// The parts of a sound market in which events were consumed are those of the market behind them. How many a call consumes is
-/// the market's, and never more than are pending.
+/// The parts of a sound market in which events were consumed are those of the market after them. How many a call
+/// consumes is the market's, and never more than are pending.
 pub fn a_crank_of_bytes_leaves_the_market_behind_its_events()
     ensures leaves { (parts : MarketParts) (m : Market) (count : ℕ) → IsSound m → AreOf parts m
         → count ≤ length m.events

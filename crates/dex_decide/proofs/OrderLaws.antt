@@ -23,6 +23,7 @@ use Rattle.dex_match.specs.Ordering.{order_outcome, order_reason, ordering_in, p
 use Rattle.dex_match.proofs.PartsLaws.{given-of, ordering-is, reason-is}
 use Rattle.dex_orders.specs.OrdersAccount.{account_of}
 use Rattle.dex_reasons.proofs.FirstReasons.{first_of-one}
+use Rattle.dex_slab.specs.declared.slab_ref.SlabRef.{SlabRef}
 use Rattle.dex_slab.specs.Slab.{IsSlab, resting, room_in}
 use Rattle.dex_accounts.specs.Decoded.{AreSound, market_in}
 use Rattle.dex_accounts.specs.Parts.{HasOpen, parts_of, side_orders, side_room}
@@ -52,6 +53,21 @@ module _ (accounts : PlainMarketAccounts) (sound : AreSound accounts) where
       → given_by market requests events bytes (resting own_side own) (room_in own) (resting opposing_side opposing) ≡ order_given side bytes (parts_of accounts)
   order-shown side bytes market requests events own opposing own_side opposing_side a b c d e f g =
       rw (a, b, c, d, e, f, g, orders-on side, room-on side, orders-on (opposite side)) refl
+
+  -- what is shown of views of them, lent as one value
+  pub order-lent : (side : Side) (bytes account market requests events : List ℕ) (own opposing own_view opposing_view : SlabRef)
+      → account ≡ bytes → market ≡ accounts.market → requests ≡ accounts.requests → events ≡ accounts.events
+      → own ≡ own_view → opposing ≡ opposing_view → own_view.bytes.now ≡ bytes_on side accounts → opposing_view.bytes.now ≡ bytes_on (opposite side) accounts
+      → own_view.side ≡ side → opposing_view.side ≡ opposite side
+      → given_by market requests events account (resting own.side own.bytes.now) (room_in own.bytes.now) (resting opposing.side opposing.bytes.now)
+      ≡ order_given side bytes (parts_of accounts)
+  order-lent side bytes account market requests events own opposing own_view opposing_view held a b c is met d e f g =
+      rw (held, is, met)
+      (order-shown side bytes market requests events own_view.bytes.now opposing_view.bytes.now own_view.side opposing_view.side a b c d e f g)
+
+  -- a view of a side, lent, is a side
+  pub side-lent : (side : Side) (lent view : SlabRef) → lent ≡ view → view.bytes.now ≡ bytes_on side accounts → IsSlab lent.bytes.now
+  side-lent side lent view is bytes_is = subst IsSlab (sym (ap (λ (s : SlabRef). s.bytes.now) is ∙ bytes_is)) (slab-on side)
 
   pub order-given : (side : Side) (named : List Address) (owner address : Address) (bytes : List ℕ) → IsActing named accounts.orders address bytes
       → owner ≡ address → IsGiven side owner (order_given side bytes (parts_of accounts))

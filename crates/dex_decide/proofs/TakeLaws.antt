@@ -16,6 +16,7 @@ use Rattle.dex_take.specs.TakeGiven.{IsOfSound, TakeRead, given, read_of, take_g
 use Rattle.dex_take.specs.Taking.{left_in, plan_by, plan_in, take_reason}
 use Rattle.dex_take.proofs.TakeAmounts.{given-of, read-of}
 use Rattle.dex_take.proofs.TakeReasons.{reason-given}
+use Rattle.dex_slab.specs.declared.slab_ref.SlabRef.{SlabRef}
 use Rattle.dex_slab.specs.Slab.{resting}
 use Rattle.dex_accounts.specs.Decoded.{AreSound, market_in}
 use Rattle.dex_accounts.specs.Parts.{parts_of}
@@ -30,6 +31,12 @@ module _ (accounts : PlainMarketAccounts) (sound : AreSound accounts) where
       → opposing ≡ bytes_on (opposite side) accounts → opposing_side ≡ opposite side
       → given market events (resting opposing_side opposing) ≡ take_given side (parts_of accounts)
   take-shown side market events opposing opposing_side a b c d = rw (a, b, c, d, orders-on accounts sound (opposite side)) refl
+
+  -- what is shown of views of them, lent as one value
+  pub take-lent : (side : Side) (market events : List ℕ) (opposing view : SlabRef) → market ≡ accounts.market → events ≡ accounts.events → opposing ≡ view
+      → view.bytes.now ≡ bytes_on (opposite side) accounts → view.side ≡ opposite side
+      → given market events (resting opposing.side opposing.bytes.now) ≡ take_given side (parts_of accounts)
+  take-lent side market events opposing view a b is c d = rw (is) (take-shown side market events view.bytes.now view.side a b c d)
 
   pub take-sound : (side : Side) → IsOfSound side (take_given side (parts_of accounts))
   take-sound side = record { whole = parts_of accounts; sound = sound-parts accounts sound; is = refl }

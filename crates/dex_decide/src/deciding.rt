@@ -19,7 +19,7 @@ ghost use Rattle.dex_plan.specs.Plans as planning;
 
 use crate::named::{Acting, named_first, open_named};
 use dex_cancel::CancelWhat;
-use dex_cancel_slots::decide_cancel_by_slots;
+use dex_cancel_slots::{Owner, decide_cancel_by_slots};
 use dex_market::MarketRef;
 use dex_orders::OrdersRef;
 use dex_plan::Plan;
@@ -150,8 +150,11 @@ fn decide_cancel_of(
     ensures { result ≡ answered (reasons.why_cancelled (named_by what) acting.entry.address (market_of accounts.now))
         (plans.Cancel what) }
 {
-    let orders = OrdersRef {
-        bytes: acting.bytes,
+    let owner = Owner {
+        account: acting.address,
+        orders: OrdersRef {
+            bytes: acting.bytes,
+        },
     };
     let bids = SlabRef {
         bytes: &accounts.bids,
@@ -161,14 +164,7 @@ fn decide_cancel_of(
         bytes: &accounts.asks,
         side: Side::Ask,
     };
-    match decide_cancel_by_slots(
-        &bids,
-        &asks,
-        room_in(&accounts.events),
-        acting.address,
-        &orders,
-        &what,
-    ) {
+    match decide_cancel_by_slots(&bids, &asks, room_in(&accounts.events), owner, &what) {
         Ok(_) => Ok(Plan::Cancel(what)),
         Err(why) => Err(why),
     }

@@ -17,7 +17,7 @@ ghost use Rattle.dex_plan.specs.Plans.{order_answer, order_by, order_planned};
 use crate::named::{Acting, open_named};
 use crate::taking::is_disabled;
 use dex_market::{MarketRef, RequestRef};
-use dex_match::{Decided, Taker, decide_order_with_pending};
+use dex_match::{Decided, Taker, decide_order_with_pending, gathered};
 use dex_meet::PendingFills;
 use dex_orders::OrdersRef;
 use dex_plan::Plan;
@@ -53,7 +53,7 @@ pub fn side_of(accounts: &MarketAccounts, side: Side) -> SlabRef<'_>
     }
 }
 
-/// The wallet that pays for an order or a take of the side, where it stands.
+/// The wallet that pays for an order or a take of the side, lent from what the row sees.
 #[inline(never)]
 pub fn payer_seen(side: Side, seen: &Seen) -> &Option<WalletSeen>
     ensures { result.now ≡ reasons.payer side seen.now }
@@ -115,7 +115,7 @@ fn wallet_reason(
     not_signed(row.signer, seen.discount)
 }
 
-/// Why the discount wallet, where one is named, is of another mint. It is not handed on where there is none.
+/// Why the discount wallet, where one is named, is of another mint.
 fn discount_mint_reason(seen: &Seen) -> Option<Refusal>
     ensures { result ≡ each.other_discount_mint seen.now seen.now.discount }
 {
@@ -156,41 +156,46 @@ fn decide_order_with(
     };
     let own = side_of(accounts, taker.id_side);
     let opposite = side_of(accounts, taker.id_side.opposite());
-    decide_order_with_pending(
-        &market, &requests, &own, &opposite, &ring, &orders, taker, balance, pending,
-    )
+    let input = gathered(market, requests, ring, orders, &own, &opposite);
+    decide_order_with_pending(&input, taker, balance, pending)
+}
+
+/// A row, and what it sees.
+#[derive(Clone, Copy)]
+struct Asked<'a> {
+    row: &'a Row,
+    seen: &'a Seen,
 }
 
 /// A new order of an open account.
 fn decide_order_by(
     accounts: &MarketAccounts,
-    row: &Row,
-    seen: &Seen,
+    asked: Asked<'_>,
     acting: Acting<'_>,
     taker: &Taker,
     pending: &PendingFills,
     answer: &mut Result<Plan, Refusal>,
 )
     requires sound { AreSound (market_accounts_of accounts.now) }
-    requires acting { IsActing row.now.named.items (market_accounts_of accounts.now).orders
+    requires acting { IsActing asked.row.now.named.items (market_accounts_of accounts.now).orders
         acting.address acting.bytes.now }
     requires account { taker.now.account ≡ acting.address }
     requires pending { pending.now ≡ pending_fills_of (market_of accounts.now).events }
     ensures { answer.new ≡ each.answered (reasons.why_order_of taker.entry.now.id_side (order_of taker.entry.now)
-        (asked_by row.entry.now) seen.now (market_of accounts.now)
+        (asked_by asked.entry.row.now) asked.entry.seen.now (market_of accounts.now)
         (party_by acting.entry.address acting.entry.bytes.now))
         (order_planned taker.entry.now.id_side (order_of taker.entry.now) (market_of accounts.now)
         (account_of acting.entry.bytes.now)) }
 {
-    let Some(wallet) = payer_seen(taker.id_side, seen) else {
+    let Some(wallet) = payer_seen(taker.id_side, asked.seen) else {
         *answer = Err(Refusal::NoAccount);
         return;
     };
-    if let Some(why) = wallet_reason(accounts, row, seen, acting, taker.id_side) {
+    if let Some(why) = wallet_reason(accounts, asked.row, asked.seen, acting, taker.id_side) {
         *answer = Err(why);
         return;
     }
-    match decide_order_with(accounts, row, acting, taker, wallet.balance, pending) {
+    match decide_order_with(accounts, asked.row, acting, taker, wallet.balance, pending) {
         Ok(decided) => {
             *answer = Ok(Plan::Order {
                 taker: *taker,
@@ -229,7 +234,8 @@ pub fn decide_order_row(
                 account: acting.address,
                 ..taker
             };
-            decide_order_by(accounts, row, seen, acting, &taker, pending, answer);
+            let asked = Asked { row, seen };
+            decide_order_by(accounts, asked, acting, &taker, pending, answer);
         }
     }
 }

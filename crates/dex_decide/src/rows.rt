@@ -23,10 +23,11 @@ use dex_instruction::decode;
 use dex_match::Taker;
 use dex_meet::PendingFills;
 use dex_plan::Plan;
+use dex_take::LeastFill;
 use dex_types::{Ix, MarketAccounts, OrderType, Refusal, Row, Seen, SelfTrade};
 
-/// The taker of a new order or of a take, as its row states it. Of an order the signer stands in the place of the
-/// account; a take has none, and no order that could rest.
+/// The taker of a new order or of a take, as its row states it. An order has the signer in place of the account;
+/// a take has none, and no order that could rest.
 pub fn taker_of(row: &Row, seen: &Seen, ix: &Ix) -> Taker
     requires { IsSome (taker_in ix.now (asked_by row.now) seen.now) }
     ensures { taker_in ix.entry.now (asked_by row.entry.now) seen.now ≡ Some result }
@@ -83,6 +84,7 @@ pub fn taker_of(row: &Row, seen: &Seen, ix: &Ix) -> Taker
             max_ts: None,
             program,
         },
+        // By the condition the instruction is one of the two.
         _ => unreachable!(),
     }
 }
@@ -122,12 +124,13 @@ fn decide_instruction(
             *answer = decide_cancel_row(accounts, row, CancelWhat::ByClient(client_order_id));
         }
         Ix::SendTake {
-            min_coin_qty: min_lots,
-            min_native_pc_qty: min_pc,
+            min_coin_qty: lots,
+            min_native_pc_qty: pc,
             ..
         } => {
             let taker = taker_of(row, seen, &ix);
-            *answer = decide_take_row(accounts, row, seen, taker, min_lots, min_pc, pending);
+            let least = LeastFill { lots, pc };
+            *answer = decide_take_row(accounts, row, seen, taker, least, pending);
         }
         Ix::CloseOpenOrders => *answer = decide_close_row(accounts, row),
         Ix::InitOpenOrders => *answer = decide_init_row(accounts, row),
@@ -160,7 +163,7 @@ pub fn decide(
     answer
 }
 
-/// The same, written where it is wanted.
+/// What `decide` answers, written where it is wanted: a plan has some 250 bytes.
 pub fn decide_into(
     accounts: &MarketAccounts,
     row: &Row,

@@ -19,7 +19,7 @@ use dex_meet::PendingFills;
 use dex_plan::Plan;
 use dex_reasons::{disabled, missing, not_signed, other_discount_mint, other_mint};
 use dex_ring::RingRef;
-use dex_take::{DecidedTake, decide_take_with_pending};
+use dex_take::{DecidedTake, LeastFill, decide_take_with_pending, gathered};
 use dex_types::{MarketAccounts, Refusal, Row, Seen, Side};
 
 /// The market is disabled.
@@ -56,14 +56,13 @@ fn wallet_reason(accounts: &MarketAccounts, row: &Row, seen: &Seen, side: Side) 
 fn decide_take_with(
     accounts: &MarketAccounts,
     taker: Taker,
-    min_lots: u64,
-    min_pc: u64,
+    least: LeastFill,
     seen: &Seen,
     pending: &PendingFills,
 ) -> Result<DecidedTake, Refusal>
     requires sound { AreSound (market_accounts_of accounts.now) }
     requires pending { pending.now ≡ pending_fills_of (market_of accounts.now).events }
-    ensures { result ≡ take_outcome taker.id_side (take_of taker min_lots min_pc)
+    ensures { result ≡ take_outcome taker.id_side (take_of taker least.lots least.pc)
         (read_of (take_given_on taker.id_side accounts.now)) seen.now }
 {
     let market = MarketRef {
@@ -73,9 +72,8 @@ fn decide_take_with(
         bytes: &accounts.events,
     };
     let opposite = side_of(accounts, taker.id_side.opposite());
-    decide_take_with_pending(
-        &market, &opposite, &ring, &taker, min_lots, min_pc, seen, pending,
-    )
+    let input = gathered(market, &opposite, ring, seen);
+    decide_take_with_pending(&input, &taker, least, pending)
 }
 
 /// A take.
@@ -85,19 +83,18 @@ pub fn decide_take_row(
     row: &Row,
     seen: &Seen,
     taker: Taker,
-    min_lots: u64,
-    min_pc: u64,
+    least: LeastFill,
     pending: &PendingFills,
 ) -> Result<Plan, Refusal>
     requires sound { AreSound (market_accounts_of accounts.now) }
     requires pending { pending.now ≡ pending_fills_of (market_of accounts.now).events }
-    ensures { result ≡ take_answer taker (take_of taker min_lots min_pc) (asked_by row.entry.now)
+    ensures { result ≡ take_answer taker (take_of taker least.lots least.pc) (asked_by row.entry.now)
         seen.now (market_of accounts.now) }
 {
     if let Some(why) = wallet_reason(accounts, row, seen, taker.id_side) {
         return Err(why);
     }
-    match decide_take_with(accounts, taker, min_lots, min_pc, seen, pending) {
+    match decide_take_with(accounts, taker, least, seen, pending) {
         Ok(decided) => Ok(Plan::Take {
             taker,
             plan: decided.plan,

@@ -55,7 +55,7 @@ number-kept before after said acted =
     ⊎_elim (λ (none : HadNone before after said). ap (λ (b : PlainBlock). b.number) none.same)
     (λ (have : HaveActed before after said). ap (λ (b : PlainBlock). b.number) have.left) acted
 
--- and behind that something was said
+-- and after that something was said
 pub said-behind : (before after : PlainBlock) (text old mid new : List ℕ) → ActedIn before after old mid → new ≡ mid ++ text → SaidIn before after text old new
 said-behind before after text old mid new acted more = record {
   said = acted.said ++ text;

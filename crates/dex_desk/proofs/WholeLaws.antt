@@ -244,7 +244,7 @@ with-legs block after said words since is =
     (All-push Same (one ∷ []) other (All-push Same [] one (All-nil Same) refl) refl)
     (made ∙ ap (λ (d : PlainDraft). record { draft = d; number = next_number block.number }) (sym row.is))
 
--- behind a `clock` row
+-- after a `clock` row
 later : (block : PlainBlock) (now : ℤ) (said : List ℕ) → Since block said → Since (with_time block now) said
 later block now said since = record {
   set_up = since.set_up;
@@ -303,7 +303,7 @@ acted-in block after said old new since is =
 
 -- ---- a set-up
 
--- the rows of a script are numbered below the row behind it
+-- the rows of a script are numbered below the row after it
 record IsNumbered (number : ℕ) (draft : PlainDraft) : Type 0 where
   below : AreBelow number draft.script.rows
   small : number ≤ 2 ^ 32 - 1

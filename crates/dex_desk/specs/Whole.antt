@@ -1,4 +1,4 @@
--- A session as one replay: of its set-up's script, and behind it of the rows that were accepted and have acted.
+-- A session as one replay: of its set-up's script, and after it of the rows that were accepted and have acted.
 use Rattle.std.specs.Prelude.{◌≡◌, ◌⊎◌, ℕ, false, List, [], ◌∷◌, ◌++◌, map}
 use Rattle.std.specs.List.{flat_map}
 use Rattle.dex_types.specs.declared.terms.Program.{Program}
@@ -30,13 +30,14 @@ rows_in parts = flat_map (λ (part : PlainPart). part.script.rows) parts
 abbrev pub answers_in : PlainPart → List ℕ
 answers_in part = answers_to part.outcome.markets part.script.rows
 
--- each part is replayed, under this program, and starts with the accounts that the one before left; the first with these
+-- each part is replayed, under this program, and starts with the accounts that the one before left; the first with
+-- these
 abbrev pub AreLinked : Program → PlainAccounts → List PlainPart → Type 0
 AreLinked program accounts [] = Unit {0}
 AreLinked program accounts (part ∷ parts) =
     (part.script.start ≡ accounts) × (part.script.program ≡ program) × IsReplayOf part.script part.outcome × AreLinked program part.outcome.accounts parts
 
--- what is left behind all parts, each journal behind those before
+-- what is left after all parts, each journal after those before
 abbrev pub left_in : PlainOutcome → List PlainPart → PlainOutcome
 left_in before [] = before
 left_in before (part ∷ parts) = left_in (outcome_behind before part.outcome) parts
@@ -45,13 +46,13 @@ left_in before (part ∷ parts) = left_in (outcome_behind before part.outcome) p
 abbrev pub with_rows : PlainScript → List PlainRow → PlainScript
 with_rows script rows = record script { rows = script.rows ++ rows }
 
--- these stand in a text, one behind the other
+-- these stand in a text, one after the other
 abbrev pub AreAmong : List (List ℕ) → List ℕ → Type 0
 AreAmong [] text = Unit {0}
 AreAmong (piece ∷ pieces) text = (front rest : List ℕ) × (text ≡ front ++ (piece ++ rest)) × AreAmong pieces rest
 
--- the text of a set-up is a script; the rows that were accepted behind it acted in parts; what these leave together is a replay of all these
--- rows, and has these accounts; and the answers of each part stand in what was said
+-- the text of a set-up is a script; the rows that were accepted after it acted in parts; what these leave together is a
+-- replay of all these rows, and has these accounts; and the answers of each part stand in what was said
 pub record IsOneReplay (text : List ℕ) (accounts : PlainAccounts) (said : List ℕ) : Type 0 where
   pub script : PlainScript
   pub reads : Reads false text script
@@ -74,7 +75,7 @@ abbrev pub HasEnded : List ℕ → List ℕ → Type 0
 HasEnded line said =
     Unit {0} ⊎ ((set_up before : List ℕ) × (accounts : PlainAccounts) × IsOneReplay set_up accounts before × (said ≡ (before ++ dump_text accounts) ++ line))
 
--- it is one replay, where a desk is open, and where its session is over; for want of memory nothing is told
+-- it is one replay, where a desk is open, and where its session is over; for lack of memory nothing is told
 abbrev pub IsWhole : Session → List ℕ → Type 0
 IsWhole (Sets kept text) said = Unit {0}
 IsWhole (Serves block text) said = (set_up : List ℕ) × IsOneReplay set_up block.draft.script.start said

@@ -85,7 +85,7 @@ pub fn answer_all(alloc: Global, block: Block, buffers: &mut Buffers) -> Result<
     act(alloc, block, &mut buffers.text, &mut buffers.line)
 }
 
-/// Takes a row: an instruction row without a fault is kept to act, and any other is answered behind the rows before.
+/// Takes a row: an instruction row without a fault is kept to act, and any other is answered after the rows before.
 fn take_row(
     alloc: Global,
     block: Block,

@@ -24,8 +24,8 @@ use dex_types::{Accounts, Address, MarketAccounts, NoMemory, Program, Row, RowPl
 use std::alloc::Global;
 use std::marker::Model;
 
-/// Rows that were accepted and have not acted yet: a script so far, which starts with the accounts that the rows before left. A
-/// contract sees it as that, and the number of the next row.
+/// Rows that were accepted and have not acted yet: a script so far, which starts with the accounts that the rows before
+/// left. A contract sees it as that, and the number of the next row.
 #[derive(Drop)]
 pub struct Block {
     pub(crate) start: Accounts,
@@ -114,7 +114,7 @@ impl Block {
         }
     }
 
-    /// Behind a `clock` row.
+    /// After a `clock` row.
     pub fn set_clock(&mut self, now: i64)
         requires { (row : FieldsOf) × (statement_of row ≡ Ok (statement.Clock now)) }
         ensures { self.new ≡ spec.with_time self.old now }
@@ -123,7 +123,7 @@ impl Block {
         self.number = self.number.saturating_add(1);
     }
 
-    /// Adds an instruction row, or says what is wrong with it behind the rows before.
+    /// Adds an instruction row, or says what is wrong with it after the rows before.
     pub fn add_instruction(&mut self, words: &mut InstructionWords) -> Result<(), RowError>
         requires { (row : FieldsOf) × (statement_of row ≡ Ok (statement.Instruction words.old)) }
         ensures { TellsRow result self.old self.new (spec.with_words self.old words.old) }
@@ -150,7 +150,7 @@ impl Block {
         Ok(())
     }
 
-    /// Adds the two legs of a swap row, or says what is wrong with it behind the rows before.
+    /// Adds the two legs of a swap row, or says what is wrong with it after the rows before.
     pub fn add_swap(&mut self, alloc: Global, words: SwapWords) -> Result<(), RowError>
         requires { (row : FieldsOf) × (statement_of row ≡ Ok (statement.Swap words)) }
         ensures { TellsRow result self.old self.new (spec.with_both self.old words) }
@@ -194,7 +194,7 @@ impl Block {
         Ok(())
     }
 
-    /// The rows, as a script; and what is needed to go on behind it.
+    /// The rows, as a script; and what is needed to go on after it.
     pub fn into_script(self, alloc: Global) -> Result<(Script, Behind), NoMemory>
         ensures script { IfOk result (λ made. made.0 ≡ self.draft.script) }
         ensures is { IsScript self.draft.script }
@@ -233,7 +233,7 @@ impl Block {
     }
 }
 
-/// What stands behind the rows of a block.
+/// What stands after the rows of a block.
 #[derive(Drop)]
 pub struct Behind {
     pub names: Names,
@@ -251,14 +251,14 @@ fn place_of_market(markets: &[MarketAccounts], address: Address) -> Option<usize
         .position(|accounts| is_same(address, accounts.address))
 }
 
-/// Whether no row of this number finds room behind so many items.
+/// Whether no row of this number finds room after so many items.
 fn is_full(items: u32, number: u32) -> bool
     ensures { result ≡ (nat_le 100000 items || (number == 2 ^ 32 - 1)) }
 {
     100_000 <= items || number == u32::MAX
 }
 
-/// Whether no swap of this number finds room behind so many items, or one of its legs passes a limit.
+/// Whether no swap of this number finds room after so many items, or one of its legs passes a limit.
 fn exceeds_swap(
     items: u32,
     number: u32,

@@ -102,7 +102,7 @@ fn write_level(alloc: Global, text: &mut Vec<u8>, level: Level) -> Result<(), No
     }
 }
 
-/// What rests at the price of an order that is the first there, and the first order behind it.
+/// What rests at the price of an order that is the first there, and the first order after it.
 fn level_at(side: &SlabRef<'_>, first: Order) -> (Level, Option<Order>)
     requires slab { IsSlab side.now.bytes.now }
     requires rests { order_with first.id (resting side.now.side side.now.bytes.now) ≡ Some first }

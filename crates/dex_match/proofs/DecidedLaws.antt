@@ -1,5 +1,5 @@
 -- what a new order is answered, from what was read and what was foreseen
-use Rattle.std.proofs.Common.{◌≡◌, ℕ, ◌+◌, ◌-◌, ◌*◌, ◌∙◌, List, [], ◌∷◌, ◌++◌, Option, Some, None, length, refl, sym, ap, subst, arith}
+use Rattle.std.proofs.Common.{◌≡◌, ℕ, ◌+◌, ◌-◌, ◌*◌, ◌∙◌, List, [], ◌∷◌, Option, Some, None, length, refl, sym, ap, subst, arith}
 use Rattle.dex_types.specs.declared.refusals.Refusal.{Refusal}
 use Rattle.dex_types.specs.declared.terms.Lots.{Lots}
 use Rattle.dex_types.specs.declared.terms.Side.{Side}
@@ -11,7 +11,7 @@ use Rattle.dex_types.specs.Solvency.{all_leaving}
 use Rattle.dex_types.specs.Why.{ordering_reasons, standing_reasons}
 use Rattle.dex_market.specs.MarketAccount.{sizes_of, vault_of}
 use Rattle.dex_market.specs.declared.funds.Vaults.{Vaults}
-use Rattle.dex_reasons.proofs.FirstReasons.{first_of-early, first_of-late, first_of-one}
+use Rattle.dex_reasons.proofs.FirstReasons.{first_of-late, first_of-one}
 use Rattle.dex_ring.specs.declared.pending_fills.PendingFills.{PendingFills}
 use Rattle.dex_ring.specs.Ring.{room_of}
 use Rattle.dex_match.specs.declared.foreseeing.Foreseen.{Foreseen}
@@ -24,10 +24,7 @@ use Rattle.dex_match.specs.OrderParts.{OrderParts, standing_in}
 use Rattle.dex_match.specs.OrderTerms.{order_of}
 use Rattle.dex_match.proofs.ForeseenLaws.{leaving-after}
 
--- of two groups of reasons the first that holds
-first-early : (early late : List (Option Refusal)) (why : Refusal) → first_of early ≡ Some why → first_of (first_of early ∷ first_of late ∷ []) ≡ Some why
-first-early early late why is = ap (λ (r : Option Refusal). first_of (r ∷ first_of late ∷ [])) is
-
+-- of two groups of reasons the first that holds, where none of the first group does
 first-late : (early late : List (Option Refusal)) → first_of early ≡ None → first_of (first_of early ∷ first_of late ∷ []) ≡ first_of late
 first-late early late none = ap (λ (r : Option Refusal). first_of (r ∷ first_of late ∷ [])) none ∙ first_of-one (first_of late)
 
@@ -52,16 +49,6 @@ told parts taker foreseen sizes sequence room early read =
     subst (λ (z : Lots). Foretells foreseen (standing_at z parts.next_sequence parts.own parts.own_room parts.opposing) parts.account taker) read.sizes_read
     (subst (λ k. Foretells foreseen (standing_at sizes k parts.own parts.own_room parts.opposing) parts.account taker) read.next read.foretold)
 
--- an early reason is why the order is refused
-pub refused-early : (parts : OrderParts) (taker : Taker) (balance : ℕ) (sizes : Lots) (early : Option Refusal) (why : Refusal) → sizes ≡ sizes_of parts.words
-    → early ≡ first_of (no_slot parts.account ∷ ask_too_large taker.id_side sizes taker.lots ∷ used_up parts.next_sequence ∷ time_past taker.now taker.max_ts ∷ [])
-    → early ≡ Some why → order_reason taker.id_side (order_of taker) parts balance ≡ Some why
-refused-early parts taker balance sizes early why read is some =
-    let n : NewOrder = order_of taker in
-    let o : Ordering = ordering_in taker.id_side n parts in
-    first-early (standing_reasons taker.id_side n (sizes_of parts.words) parts.next_sequence parts.account) (ordering_reasons o (limits_in taker.id_side parts o balance)) why
-    (sym (early-same parts sizes taker read) ∙ sym is ∙ some)
-
 -- the three reasons that need no vault, and the two that do
 abbrev without_vaults : Ordering → OrderParts → ℕ → List (Option Refusal)
 without_vaults o parts balance = would_self_trade o.met.aborts ∷ no_room (length o.events) (room_of parts.ring) ∷ short_by o.deposit (Some balance) ∷ []
@@ -79,20 +66,6 @@ late-read parts taker balance foreseen sizes sequence room early read =
     let is = told parts taker foreseen sizes sequence room early read in
     late-same parts (ordering_in taker.id_side (order_of taker) parts) balance foreseen.aborts foreseen.plan.needed room foreseen.plan.deposit
     is.aborts (ap (λ (p : OrderPlan). p.needed) is.plan) (omega (arith, read.room_read)) (ap (λ (p : OrderPlan). p.deposit) is.plan)
-
--- a later reason that needs no vault is why it is refused
-pub refused-late : (parts : OrderParts) (taker : Taker) (balance : ℕ) (foreseen : Foreseen) (sizes : Lots) (sequence room : ℕ) (early late : Option Refusal) (why : Refusal)
-    → AreRead parts taker foreseen sizes sequence room early → early ≡ None
-    → late ≡ first_of (would_self_trade foreseen.aborts ∷ no_room foreseen.plan.needed room ∷ short_by foreseen.plan.deposit (Some balance) ∷ []) → late ≡ Some why
-    → order_reason taker.id_side (order_of taker) parts balance ≡ Some why
-refused-late parts taker balance foreseen sizes sequence room early late why read none is some =
-    let n : NewOrder = order_of taker in
-    let o : Ordering = ordering_in taker.id_side n parts in
-    let later : List (Option Refusal) = beyond (vault_after Coin taker.id_side parts o) (all_leaving Coin (parts.ring.events ++ o.events))
-    ∷ beyond (vault_after Pc taker.id_side parts o) (all_leaving Pc (parts.ring.events ++ o.events)) ∷ [] in
-    first-late (standing_reasons taker.id_side n (sizes_of parts.words) parts.next_sequence parts.account) (ordering_reasons o (limits_in taker.id_side parts o balance))
-    (sym (early-same parts sizes taker read.sizes_read) ∙ sym read.early_is ∙ none)
-    ∙ first_of-early (without_vaults o parts balance) later why (sym (late-read parts taker balance foreseen sizes sequence room early read) ∙ sym is ∙ some)
 
 -- the vaults and the sums that were read are those after the order
 pub record AreSums (parts : OrderParts) (side : Side) (foreseen : Foreseen) (sizes : Lots) (vaults : Vaults) (pending : PendingFills) : Type 0 where

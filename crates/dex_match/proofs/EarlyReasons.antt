@@ -1,6 +1,6 @@
 -- when an account has no free slot
-use Rattle.std.proofs.Common.{◌≡◌, ℕ, ◌<◌, ◌≤◌, List, [], ◌∷◌, Option, Some, None, length, sym, ◌∙◌, arith, refl}
-use Rattle.std.proofs.lemmas.Bool.{cond-true, cond-false, eq-eqb, ne_eqb}
+use Rattle.std.proofs.Common.{◌≡◌, ℕ, ◌≤◌, List, [], ◌∷◌, Option, Some, None, length, sym, ◌∙◌, arith, refl}
+use Rattle.std.proofs.lemmas.Bool.{cond-true, eq-eqb}
 use Rattle.dex_orders.specs.OrdersAccount.{account_of, slots_of}
 use Rattle.dex_orders.proofs.SlotLaw.{length-slots_of}
 use Rattle.dex_types.specs.declared.refusals.Refusal.TheVariants.{TooManyOpenOrders}
@@ -27,6 +27,3 @@ free_slot-all bytes all = free_slot-none (slots_of bytes) (all ∙ sym (length-s
 pub no_slot-all : (bytes : List ℕ) → taken_slots (account_of bytes).slots ≡ 128 → no_slot (account_of bytes) ≡ Some TooManyOpenOrders
 no_slot-all bytes all =
     cond-true _ _ _ (eq-eqb (free_slot (slots_of bytes)) 128 (free_slot-all bytes all))
-
-pub no_slot-free : (bytes : List ℕ) (slot : ℕ) → slot ≡ free_slot (account_of bytes).slots → slot < 128 → no_slot (account_of bytes) ≡ None
-no_slot-free bytes slot lowest within = cond-false _ _ _ (ne_eqb (free_slot (slots_of bytes)) 128 (λ all. omega (arith, lowest, within, all)))

@@ -1,13 +1,7 @@
 -- what the parts of one sound market are by themselves
-use Rattle.std.proofs.Common.{◌≡◌, ℕ, ◌^◌, ◌<◌, Bool, true, false, cond, eqb, List, refl, ap, sym, subst}
-use Rattle.std.proofs.lemmas.Bool.{eqb-true}
-use Rattle.dex_fields.specs.declared.open_orders.TheConstants.{ACCOUNT_FLAGS}
-use Rattle.dex_fields.specs.Bytes.{number_in}
+use Rattle.std.proofs.Common.{◌≡◌, ◌^◌, ◌<◌, Bool, true, false, cond, List, refl, ap, sym, subst}
 use Rattle.dex_laws.specs.Locks.{locked}
 use Rattle.dex_market.specs.MarketAccount.{market_words}
-use Rattle.dex_orders.proofs.Verdicts.{open_from_flags}
-use Rattle.dex_orders.specs.OrdersAccount.{IsOpen, account_of}
-use Rattle.dex_orders.specs.StandsFor.{StandsForTrader}
 use Rattle.dex_types.specs.declared.addresses.Address.{Address}
 use Rattle.dex_types.specs.declared.orders.Order.{Order}
 use Rattle.dex_types.specs.declared.terms.Lots.{Lots}
@@ -23,12 +17,6 @@ open-by : (is_open is_closed : Bool) (account known : Account) → cond is_open 
 open-by true is_closed account known is = refl
 open-by false true account known is = absurd cc
 open-by false false account known is = absurd cc
-
--- bytes that stand for an open trader are an open account
-pub is-open : (bytes : List ℕ) (market : Address) (account : Account) → StandsForTrader bytes market (Open account) → IsOpen bytes
-is-open bytes market account stands =
-    open_from_flags bytes stands.accepted
-    (eqb-true _ _ (open-by (eqb (number_in bytes ACCOUNT_FLAGS) 5) (eqb (number_in bytes ACCOUNT_FLAGS) 256) (account_of bytes) account stands.stands))
 
 -- what the other side locks fits
 pub locks-given : (side : Side) (owner : Address) (given : OrderGiven) → SoundGiven side owner given

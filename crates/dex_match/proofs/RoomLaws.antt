@@ -1,4 +1,5 @@
--- what was decided of a new order on a sound market has room there: in the book, the queue, the market's words and the trader's funds
+-- what was decided of a new order on a sound market has room there: in the book, the queue, the market's words and the
+-- trader's funds
 use Rattle.std.proofs.Common.{◌≡◌, ◌≢◌, eqb, ℕ, ◌+◌, ◌-◌, ◌*◌, ◌^◌, ◌<◌, ◌≤◌, true, false, ◌&&◌, [], ◌∷◌, Option, Some, None, length, refl, sym, ap, ◌∙◌, subst, arith, slice_index_or}
 use Rattle.std.proofs.Math.Nat.{min-le_left}
 use Rattle.std.proofs.lemmas.Bool.{eqb-false, eqb-true, leb-false, ltb-false, and_parts, false_from_ne_true}

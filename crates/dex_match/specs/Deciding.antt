@@ -28,7 +28,8 @@ abbrev pub ordering_at : Standing → Account → Taker → Ordering
 ordering_at s account taker =
     ordering_of taker.id_side s account (order_of taker) (meeting_of taker.id_side s (order_of taker))
 
--- what was foreseen of an order at this standing is what it would do; the base of its fills fits 64 bits, and the rebates are at most the quote
+-- what was foreseen of an order at this standing is what it would do; the base of its fills fits 64 bits, and the
+-- rebates are at most the quote
 pub record Foretells (foreseen : Foreseen) (s : Standing) (account : Account) (taker : Taker) : Type 0 where
   pub plan : foreseen.plan ≡ plan_by (order_of taker) (ordering_at s account taker)
   pub aborts : foreseen.aborts ≡ (meeting_of taker.id_side s (order_of taker)).aborts
@@ -38,7 +39,8 @@ pub record Foretells (foreseen : Foreseen) (s : Standing) (account : Account) (t
   pub base_fits : foreseen.sums.lots * s.sizes.coin < 2 ^ 64
   pub rebates_within : foreseen.sums.rebates ≤ foreseen.sums.pc
 
--- the sums are what makers' fills among these events are to take off totals, and are below 2^80, so that adding to them fits
+-- the sums are what makers' fills among these events are to take off totals, and are below 2^80, so that adding to them
+-- fits
 pub record IsKnown (sums : PendingFills) (events : List QueuedEvent) : Type 0 where
   pub coin : sums.coin ≡ all_leaving Coin events
   pub pc : sums.pc ≡ all_leaving Pc events

@@ -19,6 +19,7 @@ use Rattle.dex_types.specs.declared.replies.Reply.{Reply}
 use Rattle.dex_types.specs.NewOrder.{order_reply}
 use Rattle.dex_types.specs.Side.{opposite}
 use Rattle.dex_types.specs.QueuedEvent.{QueuedEvent}
+use Rattle.dex_match.specs.declared.order_input.OrderInput.{OrderInput}
 use Rattle.dex_match.specs.declared.order_plan.Decided.{Decided}
 use Rattle.dex_match.specs.declared.order_plan.OrderPlan.{OrderPlan}
 use Rattle.dex_match.specs.declared.order_terms.Taker.{Taker}
@@ -59,6 +60,11 @@ abbrev pub shown : {B A : Type 0} → (B → List Order) → (B → ℕ) → (A 
 shown own_orders own_room opposing market requests ring account own opposite =
     given_by market.bytes.now requests.bytes.now ring.bytes.now account.bytes.now (own_orders own) (own_room own) (opposing opposite)
 
+-- what deciding it is shown in one value
+abbrev pub shown_in : {B A : Type 0} → (B → List Order) → (B → ℕ) → (A → List Order) → OrderInput B A → OrderGiven
+shown_in own_orders own_room opposing input =
+    shown own_orders own_room opposing input.market input.requests input.ring input.orders input.own.now input.opposite.now
+
 -- what is decided of it, with the balance of the wallet that pays, a native amount
 abbrev pub decided_in : Taker → OrderGiven → ℕ → Result OrderPlan Refusal
 decided_in taker given balance = order_answer taker.id_side (order_of taker) (parts_of given) balance
@@ -75,8 +81,9 @@ events_in taker given = (ordering_over taker.id_side (order_of taker) given).eve
 abbrev pub reply_in : Taker → OrderGiven → Reply
 reply_in taker given = order_reply (order_of taker) (ordering_over taker.id_side (order_of taker) given)
 
--- accounts, sides and queue after the order: four words of the market and the sequence number are written, its events appended;
--- its account holds it and is paid; what it met has left the opposite side, what is left of it rests on its own
+-- accounts, sides and queue after the order: four words of the market and the sequence number are written, its events
+-- appended; its account holds it and is paid; what it met has left the opposite side, what is left of it rests on its
+-- own
 abbrev pub ordered : Taker → OrderGiven → OrderGiven
 ordered taker given =
     let side = taker.id_side in
@@ -92,8 +99,8 @@ ordered taker given =
       opposing = o.met.left;
     }
 
--- an order was done on what was handed, and was answered: its reply, what it leaves, and the queue with its events behind the
--- others; each view looks at the same slice, the accounts are accepted, and the trader's is open
+-- an order was done on what was handed, and was answered: its reply, what it leaves, and the queue with its events
+-- after the others; each view looks at the same slice, the accounts are accepted, and the trader's is open
 pub record HasOrdered (taker : Taker) (reply : Reply) (before after : Handed) : Type 0 where
   pub reply_is : reply ≡ reply_in taker (given_in before)
   pub does : given_in after ≡ ordered taker (given_in before)
@@ -110,8 +117,8 @@ with_ordered taker given parts =
     (with_side (opposite taker.id_side) given.opposing
     (with_side taker.id_side given.own (record parts { market = given.market; requests = given.requests; events = given.events })))
 
--- an order was done on what was given: its numbers fit their fields, it was decided with some balance, and the queue holds its
--- events behind the others
+-- an order was done on what was given: its numbers fit their fields, it was decided with some balance, and the queue
+-- holds its events after the others
 pub record IsDone (taker : Taker) (given after : OrderGiven) : Type 0 where
   pub price : 1 ≤ taker.price
   pub price_fits : taker.price < 2 ^ 64

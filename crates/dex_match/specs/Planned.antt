@@ -14,8 +14,9 @@ use Rattle.dex_match.specs.declared.intake.Intake.{Intake}
 use Rattle.dex_match.specs.Applying.{CanPay, CanTakeIn, CanTrade, bytes_with, events_by, funds_with, intake_by, met_with, moves_by, posted_by, requests_after}
 use Rattle.dex_match.specs.OrderParts.{OrderGiven, OrderParts, parts_of}
 
--- a plan can be done on what is read: a sequence number is left, the book, the queue and the market's words have room, the fee covers
--- the referrer's part and the rebates, the slot is free, no slot holds its id, and the trader's funds pay
+-- a plan can be done on what is read: a sequence number is left, the book, the queue and the market's words have room,
+-- the fee covers the referrer's part and the rebates, the slot is free, no slot holds its id, and the trader's funds
+-- pay
 pub record CanApply (side : Side) (n : NewOrder) (plan : OrderPlan) (parts : OrderParts) : Type 0 where
   pub left : parts.next_sequence < 2 ^ 64 - 1
   pub trades : CanTrade side (sizes_of parts.words) n plan parts.own_room parts.own parts.opposing parts.ring
@@ -37,8 +38,9 @@ posted_in side n plan parts = posted_by side n plan parts.own_room parts.own
 abbrev pub intake_in : Side → NewOrder → OrderPlan → OrderParts → Intake
 intake_in side n plan parts = intake_by side plan.deposit plan.fee (met_in side n parts).rebates
 
--- what a plan leaves of accounts and sides: four words of the market and the sequence number are written, its events appended,
--- its slot taken and the funds paid; what it met has left the opposite side, what is left of it rests on its own
+-- what a plan leaves of accounts and sides: four words of the market and the sequence number are written, its events
+-- appended, its slot taken and the funds paid; what it met has left the opposite side, what is left of it rests on its
+-- own
 abbrev pub planned : Side → NewOrder → OrderPlan → OrderGiven → OrderGiven
 planned side n plan given =
     let parts = parts_of given in
@@ -53,6 +55,6 @@ planned side n plan given =
       opposing = (met_in side n parts).left;
     }
 
--- the queue, as it is read, with a plan's events behind those that wait
+-- the queue, as it is read, with a plan's events after those that wait
 abbrev pub planned_list : Side → NewOrder → OrderPlan → OrderParts → Ring
 planned_list side n plan parts = appended (events_by side (sizes_of parts.words) n plan (met_in side n parts) (posted_in side n plan parts)) parts.ring

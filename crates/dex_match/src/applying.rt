@@ -33,18 +33,20 @@ fn reply_by(plan: &OrderPlan) -> Reply
     }
 }
 
-/// An order's lots and lock are below 2^64. No code: it comes by value, since behind a reference no range is known.
-fn amounts_fit(taker: Taker)
+/// An order's lots and lock are below 2^64. No code: it comes by value, since after a reference no range is known.
+pub fn amounts_fit(taker: Taker)
     ensures lots { taker.lots < 2 ^ 64 }
     ensures lock { taker.lock < 2 ^ 64 }
 {}
 
-/// Does a new order as it was decided. It meets the other side, and what it meets leaves the book or loses lots there; what is
-/// left of it rests on its own side, where the last order of a full side leaves for it; all its events are appended; the
-/// market gives out one more sequence number, and its words take in the deposit and the fee; and the trader's account pays,
-/// gets what the fills bring in, and holds the order in its lowest free slot. It is answered by its id, slot, fills and fee,
-/// and by the lots that rest. It is never refused. All other bytes of the market account, the request queue and the trader's
-/// account stay.
+/// Does a new order as it was decided. It meets the other side, and what it meets leaves the book or loses lots there;
+/// what is left of it rests on its own side, where the last order of a full side leaves for it; all its events are
+/// appended; the market gives out one more sequence number, and its words take in the deposit and the fee; and the
+/// trader's account pays, gets what the fills bring in, and holds the order in its lowest free slot. It is answered by
+/// its id, slot, fills and fee, and by the lots that rest. It is never refused. All other bytes of the market account,
+/// the request queue and the trader's account stay.
+///
+/// It has eight arguments: the checker follows no record of lent views.
 pub fn apply_order<B: SideBook, A: SideBook>(
     plan: &OrderPlan,
     taker: &Taker,

@@ -1,23 +1,20 @@
 //! What a new order does, or why it is refused, before anything is changed.
 
-ghost use Rattle.std.specs.Prelude.{◌≡◌, ◌+◌, ◌^◌, ◌<◌, ◌≤◌, [], ◌∷◌, Option, Some, IfSome};
-ghost use Rattle.dex_laws.specs.Locks.{locked};
+ghost use Rattle.std.specs.Prelude.{◌≡◌, ◌+◌, ◌^◌, ◌<◌, [], ◌∷◌, Option, Some, IfSome};
 ghost use Rattle.dex_market.specs.MarketAccount.{IsMarket, market_words};
-ghost use Rattle.dex_market.specs.RequestQueue.{IsRequestQueue};
-ghost use Rattle.dex_match.specs.LentParts.{decided_in, outcome_in, shown};
+ghost use Rattle.dex_match.specs.LentParts.{decided_in, outcome_in, shown, shown_in};
 ghost use Rattle.dex_match.specs.OrderParts.{IsGiven};
-ghost use Rattle.dex_market.specs.MarketAccount.{sizes_of};
 ghost use Rattle.dex_match.specs.Deciding.{IsKnown};
 ghost use Rattle.dex_ring.specs.PendingFills.{pending_fills_of};
 ghost use Rattle.dex_types.specs.declared.refusals.Refusal.{Refusal};
 ghost use Rattle.dex_match.specs.declared.order_plan.Decided.{Decided};
 ghost use Rattle.dex_market.specs.MarketAccount.{vault_of};
-ghost use Rattle.dex_orders.specs.OrdersAccount.{IsOpen};
 ghost use Rattle.dex_ring.specs.Ring.{IsEventQueue, ring_of};
 ghost use Rattle.dex_types.specs.Reasons as reasons;
 ghost use Rattle.dex_types.specs.Side as book;
 
 use crate::foreseeing::{Foreseen, foresee_order};
+use crate::order_input::{OrderInput, gathered};
 use crate::order_plan::{Decided, OrderPlan};
 use crate::order_refusals::{refused_early, sequence_of};
 use crate::order_terms::Taker;
@@ -115,43 +112,38 @@ fn plan_of(decided: Result<Decided, Refusal>) -> Result<OrderPlan, Refusal>
     }
 }
 
-/// What is decided, with the sums of what is pending as they are known, where the orders of the other side lock less than 2^64
-/// and the own side has room for one.
+/// What is decided, with the sums of what is pending where they are known.
 fn decide_with<B: SideRead, A: SideRead>(
     known: Option<PendingFills>,
-    market: &MarketRef<'_>,
-    requests: &RequestRef<'_>,
-    own: &B,
-    opposite: &A,
-    ring: &RingRef<'_>,
-    orders: &OrdersRef<'_>,
+    input: &OrderInput<'_, B, A>,
     taker: &Taker,
     balance: u64,
 ) -> Result<Decided, Refusal>
-    requires market { IsMarket market.now.bytes.now }
-    requires own { B.holds own.now }
-    requires opposite { A.holds opposite.now }
-    requires requests { IsRequestQueue requests.now.bytes.now }
-    requires events { IsEventQueue ring.now.bytes.now }
-    requires account { IsOpen orders.now.bytes.now }
-    requires room { 1 ≤ B.room own.now }
-    requires locks { locked (book.opposite taker.now.id_side) (sizes_of (market_words market.now.bytes.now))
-        (A.orders opposite.now) < 2 ^ 64 }
-    requires known { IfSome known (λ sums. IsKnown sums (ring_of ring.now.bytes.now).events) }
-    ensures { result ≡ outcome_in taker.entry.now (shown B.orders B.room A.orders market.now requests.now ring.now
-        orders.now own.now opposite.now) balance }
+    requires own { B.holds input.now.own.now }
+    requires opposite { A.holds input.now.opposite.now }
+    requires given { IsGiven taker.now.id_side taker.now.account (shown_in B.orders B.room A.orders input.now) }
+    requires known { IfSome known (λ sums. IsKnown sums (ring_of input.now.ring.bytes.now).events) }
+    ensures { result ≡ outcome_in taker.entry.now (shown_in B.orders B.room A.orders input.entry.now) balance }
 {
     let taker = *taker;
+    let OrderInput {
+        market,
+        requests,
+        ring,
+        orders,
+        own,
+        opposite,
+    } = *input;
     let sizes = market.sizes();
-    if let Some(why) = refused_early(sizes, taker, requests, orders) {
+    if let Some(why) = refused_early(sizes, taker, &requests, &orders) {
         return Err(why);
     }
-    let foreseen = foresee_order(sizes, taker, sequence_of(requests), own, opposite, orders);
+    let foreseen = foresee_order(sizes, taker, sequence_of(&requests), own, opposite, &orders);
     if let Some(why) = refused_late(&foreseen, ring.room(), balance) {
         return Err(why);
     }
-    let vaults = vaults_after(market, taker.id_side, foreseen.plan.deposit);
-    let pending = with_fills(fills_now(known, ring), taker.id_side, sizes, foreseen.sums);
+    let vaults = vaults_after(&market, taker.id_side, foreseen.plan.deposit);
+    let pending = with_fills(fills_now(known, &ring), taker.id_side, sizes, foreseen.sums);
     let decided = Decided {
         plan: foreseen.plan,
         pending,
@@ -159,14 +151,16 @@ fn decide_with<B: SideRead, A: SideRead>(
     answered(refused_beyond(vaults, pending), decided)
 }
 
-/// What a new order of an open account does, or why it is refused; `own` is the order's side of the book, `opposite` the
-/// one that it meets, and the balance that of the wallet which pays the deposit, a native amount. It reads only.
+/// What a new order of an open account does, or why it is refused; `own` is the order's side of the book, `opposite`
+/// the one that it meets, and the balance that of the wallet which pays the deposit, a native amount. It reads only.
 ///
 /// Refused are, in this order: an account without a free slot; an ask of 2^64 native base or more; any order once all
-/// sequence numbers are given out; an order whose latest time is past; one that would have to abort at an own order; one
-/// whose events are more than the free places of the event queue; one whose deposit is more than the balance; and one that
-/// would leave a vault, with what pending makers' fills are still to take off totals, at 2^64 or more, base before quote. Only
-/// for the last does it pass over the events that are pending.
+/// sequence numbers are given out; an order whose latest time is past; one that would have to abort at an own order;
+/// one whose events are more than the free places of the event queue; one whose deposit is more than the balance; and
+/// one that would leave a vault, with what pending makers' fills are still to take off totals, at 2^64 or more, base
+/// before quote. Only for the last does it pass over the events that are pending.
+///
+/// The accounts are lent one by one, as `apply_order` has to take them. The program calls `decide_order_with_pending`.
 pub fn decide_order<B: SideRead>(
     market: &MarketRef<'_>,
     requests: &RequestRef<'_>,
@@ -184,34 +178,24 @@ pub fn decide_order<B: SideRead>(
     ensures { result ≡ decided_in taker.entry.now
         (shown B.orders B.room B.orders market.now requests.now ring.now orders.now own.now opposite.now) balance }
 {
-    plan_of(decide_with(
-        None, market, requests, own, opposite, ring, orders, taker, balance,
-    ))
+    let input = gathered(*market, *requests, *ring, *orders, own, opposite);
+    plan_of(decide_with(None, &input, taker, balance))
 }
 
-/// What a new order does, or why it is refused, where the sums of pending makers' fills are handed in: no event is
-/// read. Beside the plan stand these sums after the order.
-pub fn decide_order_with_pending<B: SideRead>(
-    market: &MarketRef<'_>,
-    requests: &RequestRef<'_>,
-    own: &B,
-    opposite: &B,
-    ring: &RingRef<'_>,
-    orders: &OrdersRef<'_>,
+/// What a new order does, or why it is refused, where the sums of pending makers' fills are known: no event is read.
+/// The balance is that of the wallet which pays the deposit, a native amount. With the plan come these sums after the
+/// order. The reasons are those of `decide_order`.
+pub fn decide_order_with_pending<B: SideRead, A: SideRead>(
+    input: &OrderInput<'_, B, A>,
     taker: &Taker,
     balance: u64,
     pending: &PendingFills,
 ) -> Result<Decided, Refusal>
-    requires own { B.holds own.now }
-    requires opposite { B.holds opposite.now }
-    requires given { IsGiven taker.now.id_side taker.now.account
-        (shown B.orders B.room B.orders market.now requests.now ring.now orders.now own.now opposite.now) }
-    requires pending { pending.now ≡ pending_fills_of (ring_of ring.now.bytes.now).events }
-    ensures { result ≡ outcome_in taker.entry.now
-        (shown B.orders B.room B.orders market.now requests.now ring.now orders.now own.now opposite.now) balance }
+    requires own { B.holds input.now.own.now }
+    requires opposite { A.holds input.now.opposite.now }
+    requires given { IsGiven taker.now.id_side taker.now.account (shown_in B.orders B.room A.orders input.now) }
+    requires pending { pending.now ≡ pending_fills_of (ring_of input.now.ring.bytes.now).events }
+    ensures { result ≡ outcome_in taker.entry.now (shown_in B.orders B.room A.orders input.entry.now) balance }
 {
-    let known = Some(*pending);
-    decide_with(
-        known, market, requests, own, opposite, ring, orders, taker, balance,
-    )
+    decide_with(Some(*pending), input, taker, balance)
 }

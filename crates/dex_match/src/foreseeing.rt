@@ -18,7 +18,8 @@ use dex_meet::prices::id_of;
 use dex_orders::OrdersRef;
 use dex_types::{Lots, Side, SideRead};
 
-/// What a new order would do: its plan, the id of the own order at which it would have to abort, and the sums of its fills.
+/// What a new order would do: its plan, the id of the own order at which it would have to abort, and the sums of its
+/// fills.
 #[derive(Clone, Copy)]
 pub(crate) struct Foreseen {
     pub(crate) plan: OrderPlan,
@@ -58,8 +59,8 @@ fn own_events(pc: u64, rested: u64, is_full: bool) -> u32
     fills + last
 }
 
-/// What a new order with this sequence number would do, where it is no ask that is too large and the orders of the other
-/// side lock less than 2^64.
+/// What a new order with this sequence number would do, where it is no ask that is too large and the orders of the
+/// other side lock less than 2^64.
 pub(crate) fn foresee_order<B: SideRead, A: SideRead>(
     sizes: Lots,
     taker: Taker,

@@ -10,8 +10,8 @@ use dex_fees::referrer_part;
 use dex_market::{MarketFunds, MarketView};
 use dex_types::Side;
 
-/// What a new order brings to its market, in native amounts: coin and pc into the vaults, and of the taker's fee, in pc, what
-/// the market keeps and the referrer's part.
+/// What a new order brings to its market, in native amounts: coin and pc into the vaults, and of the taker's fee, in
+/// pc, what the market keeps and the referrer's part.
 #[derive(Clone, Copy)]
 pub struct Intake {
     pub coin: u64,
@@ -20,7 +20,8 @@ pub struct Intake {
     pub referrer: u64,
 }
 
-/// What a plan brings to its market, where the makers get these rebates of its fee: a bid's deposit is pc, an ask's coin.
+/// What a plan brings to its market, where the makers get these rebates of its fee: a bid's deposit is pc, an ask's
+/// coin.
 pub(crate) fn intake_by(side: Side, plan: &OrderPlan, rebates: u64) -> Intake
     requires { fees.referrer_part plan.now.fee + rebates ≤ plan.now.fee }
     ensures { result ≡ applying.intake_by side plan.now.deposit plan.now.fee rebates }

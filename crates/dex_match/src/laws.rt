@@ -1,5 +1,5 @@
-//! What a new order decides over the accounts' bytes is what it decides on their market. The law is a function that does
-//! nothing, whose contract says it.
+//! What a new order decides over the accounts' bytes is what it decides on their market. The law is a function that
+//! does nothing, whose contract says it.
 
 ghost use Rattle.std.specs.Prelude.{◌≡◌, ℕ, List, Some};
 ghost use Rattle.dex_accounts.specs.Parts.{AreOf, HasOpen, MarketParts};
@@ -18,9 +18,9 @@ ghost use Rattle.dex_types.specs.NewOrder.{NewOrder, after_order, order_on};
 ghost use Rattle.dex_types.specs.Soundness.{IsSound};
 ghost use Rattle.dex_types.specs.Why.{order_reading, payer, why_ordering};
 
-/// What a new order of an open account decides over parts of a market is what it decides on that market. And why it is refused
-/// over parts of a sound market is why the market refuses it, apart from the reasons that ask for the row's accounts and
-/// signer alone.
+/// What a new order of an open account decides over parts of a market is what it decides on that market. And why it is
+/// refused over parts of a sound market is why the market refuses it, apart from the reasons that ask for the row's
+/// accounts and signer alone.
 pub fn what_is_decided_is_the_markets()
     ensures ordering { (side : Side) (n : NewOrder) (parts : MarketParts) (m : Market) (bytes : List ℕ)
         → AreOf parts m → HasOpen n.owner bytes parts →

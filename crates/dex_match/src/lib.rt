@@ -6,6 +6,7 @@ mod deciding;
 mod foreseeing;
 mod intake;
 pub mod laws;
+mod order_input;
 mod order_outlook;
 mod order_plan;
 mod order_refusals;
@@ -14,8 +15,9 @@ mod payment;
 pub mod side_laws;
 mod trading;
 
-pub use applying::apply_order;
+pub use applying::{amounts_fit, apply_order};
 pub use deciding::{decide_order, decide_order_with_pending};
 pub use dex_meet::post_or_boot;
+pub use order_input::{OrderInput, gathered};
 pub use order_plan::{Decided, OrderPlan};
 pub use order_terms::{Taker, want_of};

@@ -15,8 +15,8 @@ use dex_meet::resting::{affordable, can_rest};
 use dex_meet::{Prospect, Sums, foresee};
 use dex_types::{Lots, Side, SideRead};
 
-/// What becomes of a new order: what it meets, its fee, the native amount that its fills take from its lock, and the lots
-/// that rest.
+/// What becomes of a new order: what it meets, its fee, the native amount that its fills take from its lock, and the
+/// lots that rest.
 #[derive(Clone, Copy)]
 pub(crate) struct OrderOutlook {
     pub(crate) prospect: Prospect,

@@ -10,9 +10,9 @@ use dex_meet::prices::quotient;
 use dex_meet::{Terms, Want};
 use dex_types::{Address, Lots, OrderType, Program, SelfTrade, Side, Tier};
 
-/// A new order of a trader: its side, its limit price in quote lots per base lot, its base lots, the native quote that a
-/// bid may use with its fee, how many orders it may meet, the trader's open-orders account, the clock, and the last clock
-/// at which it is taken.
+/// A new order of a trader: its side, its limit price in quote lots per base lot, its base lots, the native quote that
+/// a bid may use with its fee, how many orders it may meet, the trader's open-orders account, the clock, and the last
+/// clock at which it is taken.
 #[derive(Clone, Copy, Debug)]
 pub struct Taker {
     pub id_side: Side,

@@ -13,8 +13,8 @@ use dex_meet::fills::lock;
 use dex_orders::{Funds, OrdersView};
 use dex_types::{Lots, Side};
 
-/// What a new order moves of its trader's funds, in native amounts: of the token that it locks what was free and is locked,
-/// what of its lock the fills leave, and what of that stays locked; of the other token what the fills bring in.
+/// What a new order moves of its trader's funds, in native amounts: of the token that it locks what was free and is
+/// locked, what of its lock the fills leave, and what of that stays locked; of the other token what the fills bring in.
 #[derive(Clone, Copy)]
 pub struct Moves {
     pub from_free: u64,
@@ -61,8 +61,8 @@ pub(crate) fn moves_by(sizes: Lots, taker: Taker, plan: &OrderPlan) -> Moves
     }
 }
 
-/// The funds after a new order: its lock is taken from what is free and from the deposit, the fills are paid, and all that
-/// neither fills nor rests is free.
+/// The funds after a new order: its lock is taken from what is free and from the deposit, the fills are paid, and all
+/// that neither fills nor rests is free.
 fn funds_with(side: Side, moves: Moves, funds: Funds) -> Funds
     requires { applying.CanPay side moves funds }
     ensures { result ≡ applying.funds_with side moves funds }

@@ -9,8 +9,9 @@ ghost use Rattle.dex_types.specs.NewOrder.{NewOrder, full_lock, meeting_of, stan
 ghost use Rattle.dex_types.specs.Side.{opposite};
 ghost use Rattle.dex_types.specs.Soundness.{IsSound};
 
-/// In a sound market what a new order meets fits 64 bits, where its lots and its lock do: what the opposite side locks is in
-/// its vault, and the lock pays the fills with their fee, which covers the rebates. So a meeting's conditions can be met.
+/// In a sound market what a new order meets fits 64 bits, where its lots and its lock do: what the opposite side locks
+/// is in its vault, and the lock pays the fills with their fee, which covers the rebates. So a meeting's conditions can
+/// be met.
 pub fn what_a_new_order_meets_fits()
     ensures sums { (side : Side) (m : Market) (n : NewOrder) → IsSound m → n.lots < 2 ^ 64
         → full_lock side m.listing.sizes n < 2 ^ 64 →

@@ -154,8 +154,8 @@ fn rest_or_end<B: SideBook>(
     push_last(ring, side, sizes, order, booted);
 }
 
-/// Meets the opposite side, appends the event of all fills, and lets the rest of the order rest or end. It answers the makers'
-/// rebates.
+/// Meets the opposite side, appends the event of all fills, and lets the rest of the order rest or end. It answers the
+/// makers' rebates.
 pub(crate) fn trade<B: SideBook, A: SideBook>(
     plan: &OrderPlan,
     sizes: Lots,

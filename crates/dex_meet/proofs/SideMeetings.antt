@@ -1,4 +1,5 @@
--- how a meeting with a side of the book goes on: what is met so far, joined to the meeting of what is left, is the whole meeting
+-- how a meeting with a side of the book goes on: what is met so far, joined to the meeting of what is left, is the
+-- whole meeting
 use Rattle.std.proofs.Common.{◌≡◌, ℕ, ◌+◌, ◌*◌, ◌^◌, ◌<◌, ◌≤◌, List, [], ◌∷◌, ◌++◌, Option, Some, eqb, length, drop, refl, sym, ap, ◌∙◌, subst, arith, inl, inr, length-append}
 use Rattle.std.specs.List.{All}
 use Rattle.std.proofs.Math.Nat.{mul-le-mul_right}
@@ -224,7 +225,7 @@ All-found P id order (first ∷ others) found all =
     (λ same e. let is : first ≡ order = cc in subst P is (All-head P first others all))
     (λ apart e. All-found P id order others e (All-tail P first others all)) found
 
--- a walk along a side that has reached an order: it can rest, and behind it stand the others
+-- a walk along a side that has reached an order: it can rest, and after it stand the others
 pub record WalksOn (order : Order) (orders : List Order) (next : Option Order) : Type 0 where
   pub others : List Order
   pub is : orders_from next orders ≡ order ∷ others

@@ -9,8 +9,8 @@ use Rattle.dex_types.specs.declared.terms.Side.TheVariants.{Bid}
 use Rattle.dex_types.specs.Meeting.{Meeting}
 use Rattle.dex_types.specs.Posting.{still_crosses}
 
--- the sums of a meeting fit 64 bits: its lots, their native base, the native quote, and the rebates, which asks that are
--- met get on top of the quote
+-- the sums of a meeting fit 64 bits: its lots, their native base, the native quote, and the rebates, which asks that
+-- are met get on top of the quote
 pub record FitsSums (side : Side) (sizes : Lots) (met : Meeting) : Type 0 where
   pub lots : met.lots < 2 ^ 64
   pub base : met.lots * sizes.coin < 2 ^ 64
@@ -25,8 +25,8 @@ pub record IsMet (meeting : Meeting) (met : Met) : Type 0 where
   pub pc : met.sums.pc ≡ meeting.pc
   pub rebates : met.sums.rebates ≡ meeting.rebates
 
--- what was foreseen of a meeting: what it leaves of the taker, how many events it has, whether the best order left still
--- crosses the limit price, and the own order at which the taker has to abort
+-- what was foreseen of a meeting: what it leaves of the taker, how many events it has, whether the best order left
+-- still crosses the limit price, and the own order at which the taker has to abort
 pub record IsForeseen (side : Side) (limit : ℕ) (meeting : Meeting) (prospect : Prospect) : Type 0 where
   pub met : IsMet meeting prospect.met
   pub events : prospect.events ≡ length meeting.events

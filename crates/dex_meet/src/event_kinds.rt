@@ -4,7 +4,7 @@ ghost use Rattle.std.specs.Prelude.{◌≡◌};
 ghost use Rattle.dex_types.specs.QueuedEvent.{flags_of};
 ghost use Rattle.dex_meet.specs.EventKinds.{kind_on};
 
-use dex_types::Side;
+use dex_types::{EventFlags, Side};
 
 /// What an event tells, apart from the side of its order.
 #[derive(Clone, Copy)]
@@ -23,18 +23,19 @@ pub struct Amounts {
     pub fee_or_rebate: u64,
 }
 
-/// The flags of an event: Fill 1, Out 2, Bid 4, Maker 8 and ReleaseFunds 16.
+/// The flags of an event of this kind, by the side of its order.
 pub(crate) fn flags(kind: Kind, side: Side) -> u8
     ensures { result ≡ flags_of (kind_on kind side) }
 {
-    let of_kind = match kind {
-        Kind::MakerFill => 9,
-        Kind::TakerFill => 1,
-        Kind::PlainOut => 2,
-        Kind::ReleasingOut => 18,
+    let flags = match (kind, side) {
+        (Kind::MakerFill, Side::Bid) => EventFlags::MAKER_FILL_OF_BID,
+        (Kind::MakerFill, Side::Ask) => EventFlags::MAKER_FILL_OF_ASK,
+        (Kind::TakerFill, Side::Bid) => EventFlags::TAKER_FILL_OF_BID,
+        (Kind::TakerFill, Side::Ask) => EventFlags::TAKER_FILL_OF_ASK,
+        (Kind::PlainOut, Side::Bid) => EventFlags::OUT_OF_BID,
+        (Kind::PlainOut, Side::Ask) => EventFlags::OUT_OF_ASK,
+        (Kind::ReleasingOut, Side::Bid) => EventFlags::RELEASING_OUT_OF_BID,
+        (Kind::ReleasingOut, Side::Ask) => EventFlags::RELEASING_OUT_OF_ASK,
     };
-    match side {
-        Side::Bid => of_kind + 4,
-        Side::Ask => of_kind,
-    }
+    flags.0
 }

@@ -7,12 +7,13 @@ ghost use Rattle.dex_types.specs.Solvency.{all_leaving};
 
 use crate::wants::Sums;
 use dex_ring::{PendingFills, RingRef};
-use dex_types::{Event, Lots, Side};
+use dex_types::{Event, EventFlags, Lots, Side};
 
-/// The flags of the fill of a resting ask, whose owner pays base, and of a resting bid, whose owner pays quote.
-const ASK_FILL: u8 = 9;
+/// The flags of the fill of a resting ask, whose owner pays base.
+const ASK_FILL: u8 = EventFlags::MAKER_FILL_OF_ASK.0;
 
-const BID_FILL: u8 = 13;
+/// The flags of the fill of a resting bid, whose owner pays quote.
+const BID_FILL: u8 = EventFlags::MAKER_FILL_OF_BID.0;
 
 /// The native amount that the owner pays by an event with these flags, or 0 by another one.
 fn paid_by(event: Event, flags: u8) -> u64
@@ -39,7 +40,7 @@ pub fn pending_fills(ring: &RingRef<'_>) -> PendingFills
     PendingFills { coin, pc }
 }
 
-/// What pending makers' fills are still to take off totals, with those of a taker's fills behind them: a bid's makers
+/// What pending makers' fills are still to take off totals, with those of a taker's fills after them: a bid's makers
 /// pay base, and an ask's makers pay quote less their rebates.
 pub fn with_fills(pending: PendingFills, side: Side, sizes: Lots, sums: Sums) -> PendingFills
     requires base { sums.lots * sizes.coin < 2 ^ 64 }

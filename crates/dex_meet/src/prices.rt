@@ -44,7 +44,7 @@ pub fn crosses(side: Side, limit: u64, price: u64) -> bool
     }
 }
 
-/// An order with the first id stands before one with the second.
+/// An order with the first id comes before one with the second.
 pub fn precedes(side: Side, id: u128, other: u128) -> bool
     ensures { result ≡ book.precedes side id other }
 {

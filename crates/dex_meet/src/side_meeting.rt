@@ -18,8 +18,8 @@ use crate::wants::{Terms, Want};
 use dex_ring::RingView;
 use dex_types::{Side, SideBook};
 
-/// A taker of the side meets the opposite side from the best order on. What it meets leaves the book or loses lots there,
-/// and the events are appended to the queue.
+/// A taker of the side meets the opposite side from the best order on. What it meets leaves the book or loses lots
+/// there, and the events are appended to the queue.
 pub fn meet_side<B: SideBook>(
     side: Side,
     taker: Terms,

@@ -13,8 +13,9 @@ use crate::taking::{is_own, reaches, taken};
 use crate::wants::{Sums, Terms, Want};
 use dex_types::{Order, SelfTrade, Side, SideRead};
 
-/// What a taker would meet: what it would still want with the sums of its fills, how many events there would be, whether
-/// the best order left would still cross its limit price, and the id of the own order at which it would have to abort.
+/// What a taker would meet: what it would still want with the sums of its fills, how many events there would be,
+/// whether the best order left would still cross its limit price, and the id of the own order at which it would have to
+/// abort.
 #[derive(Clone, Copy)]
 pub struct Prospect {
     pub met: Met,

@@ -11,7 +11,8 @@ pub struct Terms {
     pub owner: Option<Address>,
 }
 
-/// What a taker still wants: base lots, the quote lots that a bid can still spend, and how many orders it may still meet.
+/// What a taker still wants: base lots, the quote lots that a bid can still spend, and how many orders it may still
+/// meet.
 #[derive(Clone, Copy)]
 pub struct Want {
     pub lots: u64,

@@ -195,7 +195,7 @@ module _ (start : PlainAccounts) where
         ap (λ (found : Option ℕ). number_at found of_markets) placed.market
         ∙ market-shard at.market (market-within row.market start.markets at.market placed.market)
 
-    -- a row, and all behind it of its number
+    -- a row, and all after it of its number
     legs-fall : (row : PlainRow) (at : RowPlaces) (rows : List PlainRow) (places : List RowPlaces) → IsPlaced start row at → IsBeside row at → ArePlaced start rows places
         → AreBeside rows places → All (λ (other : PlainRow). row.number ≤ other.number) rows → EachTwo (λ (one other : PlainRow). one.number ≤ other.number) rows
         → EachTwo (AreOfOneShard sharding) rows → All (HasOne labels) (leg_links at places) → All (AreOfOneShard sharding row) rows

@@ -29,8 +29,8 @@ ghost use Rattle.dex_parts.specs.Together.{bare_world, world_behind};
 
 use dex_replay::laws::a_script_has_one_replay;
 
-/// Items that act behind others leave the markets and wallets that they leave by themselves, and each journal goes on behind the
-/// one that was there: so it makes no difference where rows are cut into parts.
+/// Items that act after others leave the markets and wallets that they leave by themselves, and each journal goes on
+/// after the one that was there: so it makes no difference where rows are cut into parts.
 pub fn items_behind_others_act_as_by_themselves()
     ensures cut { (items later : List Item) (world : World)
         → fold_items (items ++ later) world ≡ fold_items later (fold_items items world) }
@@ -38,9 +38,9 @@ pub fn items_behind_others_act_as_by_themselves()
         → fold_items items world ≡ world_behind world (fold_items items (bare_world world)) }
 {}
 
-/// A script in parts, each of which starts with the accounts that the part before left, under the same program, is one replay: the
-/// journals of the parts, each behind those before, and the accounts of the last part. Two of its replays are alike, so it makes no
-/// difference where it is cut.
+/// A script in parts, each of which starts with the accounts that the part before left, under the same program, is one
+/// replay: the journals of the parts, each after those before, and the accounts of the last part. Two of its replays
+/// are alike, so it makes no difference where it is cut.
 pub fn a_chain_is_one_replay()
     ensures two { (script first second : PlainScript) (one two : PlainOutcome)
         → AreTwoParts script first one second → IsReplayOf first one → IsReplayOf second two
@@ -61,8 +61,8 @@ pub fn rows_counted_anew_leave_the_same()
         → IsReplayOf script outcome → IsReplayOf (script_with number script) (outcome_with number outcome) }
 {}
 
-/// A script that falls into shards is these shards: what a shard leaves by itself is what the whole leaves of the shard's markets and
-/// wallets. So no row of another shard is missed, and shards may be replayed apart.
+/// A script that falls into shards is these shards: what a shard leaves by itself is what the whole leaves of the
+/// shard's markets and wallets. So no row of another shard is missed, and shards may be replayed apart.
 pub fn shards_are_the_whole()
     ensures world { (sharding : Sharding) (shard : ℕ) (items : List Item) (world : World)
         → All (IsItemOfOneShard sharding) items
@@ -78,7 +78,8 @@ pub fn shards_are_the_whole()
         ≡ filter (λ (row : PlainWorthRow). has_market sharding shard row.market) (table_told script all) }
 {}
 
-/// What wallets and vaults hold of a mint is the sum of what they hold in the shards: a mint's supply is of all shards together.
+/// What wallets and vaults hold of a mint is the sum of what they hold in the shards: a mint's supply is of all shards
+/// together.
 pub fn shards_hold_together_what_the_whole_holds()
     ensures { (sharding : Sharding) (count : ℕ) (accounts : PlainAccounts)
         → All (λ (market : PlainMarketAccounts). sharding.market market.address < count) accounts.markets
@@ -87,8 +88,8 @@ pub fn shards_hold_together_what_the_whole_holds()
         ≡ sum_over count (λ (shard : ℕ). held_of mint (accounts_in sharding shard accounts)) }
 {}
 
-/// A script that is cut so (`chained`) is a chain: whatever parts have these rows, each from where the one before ends, under the script's
-/// program.
+/// A script that is cut so (`chained`) is a chain: whatever parts have these rows, each from where the one before ends,
+/// under the script's program.
 pub fn a_script_that_is_cut_is_a_chain()
     ensures { (most : ℕ) (counts : List ℕ) (script : PlainScript) (parts : List PlainScript)
         → (outcomes : List PlainOutcome) → AreCutBy most counts (numbers_of script.rows)
@@ -96,8 +97,8 @@ pub fn a_script_that_is_cut_is_a_chain()
         → AreLinked script.program script.start parts outcomes → IsChainOf script parts outcomes }
 {}
 
-/// What an audit finds of markets, by each of its rules, it finds in their shards; and what it compares a mint's supply with is what
-/// all shards hold together.
+/// What an audit finds of markets, by each of its rules, it finds in their shards; and what it compares a mint's supply
+/// with is what all shards hold together.
 pub fn an_audit_finds_in_shards_what_it_finds_in_all()
     ensures markets { (sharding : Sharding) (count : ℕ) (rule : Rule) (markets : List PlainMarketAccounts)
         → All (λ (market : PlainMarketAccounts). sharding.market market.address < count) markets

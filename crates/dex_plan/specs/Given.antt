@@ -1,4 +1,5 @@
--- What deciding a row is given: the market that accounts tell, what the row asks of it, and what an order and a take read.
+-- What deciding a row is given: the market that accounts tell, what the row asks of it, and what an order and a take
+-- read.
 use Rattle.std.specs.Prelude.{ℕ, List, Option}
 use Rattle.dex_types.specs.declared.account_bytes.MarketAccounts.{MarketAccounts}
 use Rattle.dex_types.specs.declared.rows.Row.{Row}

@@ -49,7 +49,8 @@ taker_of side n = record {
   program = n.program;
 }
 
--- a take as its taker states it, who has no account and no order that could rest; the signer stands in the account's place
+-- a take as its taker states it, who has no account and no order that could rest; the signer stands in the account's
+-- place
 abbrev pub taker_of_take : Side → Request → Take → Taker
 taker_of_take side request t = record {
   id_side = side;
@@ -84,7 +85,7 @@ answered_by why planned party = answered (of_party why party) (by_party planned 
 abbrev pub settle_plan : Seen → Party → Plan
 settle_plan seen party = plans.Settle (plan_of (settlement (is_some seen.referrer) party.account))
 
--- what makers' fills are to take off totals, once these events are pending behind those of the market
+-- what makers' fills are to take off totals, once these events are pending after those of the market
 abbrev pub sums_with : List QueuedEvent → Market → PendingFills
 sums_with events m = pending_fills_of (m.events ++ events)
 

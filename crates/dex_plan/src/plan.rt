@@ -17,7 +17,7 @@ use dex_types::Side;
 pub enum Plan {
     /// Nothing: orders are matched as they come in.
     Nothing,
-    /// Consume events, at most so many.
+    /// Consume events, up to the limit.
     Consume {
         limit: u16,
     },

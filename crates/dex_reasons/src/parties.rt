@@ -3,16 +3,13 @@
 ghost use Rattle.std.specs.Prelude.{◌≡◌, ◌==◌};
 ghost use Rattle.dex_types.specs.Reasons as reasons;
 
-use dex_types::{Address, Refusal, is_same};
-
-/// The flags of a disabled market.
-pub const DISABLED_FLAGS: u64 = 131;
+use dex_types::{AccountFlags, Address, Refusal, is_same};
 
 /// The market is disabled.
 pub fn disabled(flags: u64) -> Option<Refusal>
     ensures { result ≡ reasons.when_disabled (flags == 131) }
 {
-    if flags == DISABLED_FLAGS {
+    if flags == AccountFlags::DISABLED_MARKET_ACCOUNT.0 {
         Some(Refusal::MarketDisabled)
     } else {
         None

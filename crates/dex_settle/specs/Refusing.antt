@@ -1,4 +1,5 @@
--- Why a call is refused, by what it reads alone: the terms and flags of the market account, an account, the signer, and what the row sees.
+-- Why a call is refused, by what it reads alone: the terms and flags of the market account, an account, the signer, and
+-- what the row sees.
 use Rattle.std.specs.Prelude.{ℕ, List, [], ◌∷◌, Option, Some, Result, ◌==◌, is_some}
 use Rattle.dex_types.specs.declared.addresses.Address.{Address}
 use Rattle.dex_types.specs.declared.refusals.Refusal.{Refusal}

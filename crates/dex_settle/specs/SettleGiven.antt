@@ -1,4 +1,5 @@
--- What settling is handed, which parts of a market these are, and how they are put back; and that one wallet under two roles has one mint.
+-- What settling is handed, which parts of a market these are, and how they are put back; and that one wallet under two
+-- roles has one mint.
 use Rattle.std.specs.Prelude.{◌≡◌, ℕ, List, Option, Some}
 use Rattle.dex_types.specs.declared.addresses.Address.{Address}
 use Rattle.dex_types.specs.declared.rows.Seen.{Seen}

@@ -8,8 +8,8 @@ ghost use Rattle.dex_settle.specs.PayingOut.{with_disabled};
 ghost use Rattle.dex_settle.specs.Refusing as refusing;
 
 use dex_market::{MarketRef, MarketView};
-use dex_reasons::{DISABLED_FLAGS, disabled, not_authority};
-use dex_types::{Address, Refusal};
+use dex_reasons::{disabled, not_authority};
+use dex_types::{AccountFlags, Address, Refusal};
 
 /// Whether the market may be disabled, or why that is refused. It reads only.
 ///
@@ -35,5 +35,5 @@ pub fn apply_disable(market: &mut MarketView<'_>)
     ensures does { market.new.bytes.now ≡ with_disabled market.old.bytes.now }
     ensures account { KeepsMarket market.old market.new }
 {
-    market.set_account_flags(DISABLED_FLAGS);
+    market.set_account_flags(AccountFlags::DISABLED_MARKET_ACCOUNT.0);
 }

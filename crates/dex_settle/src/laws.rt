@@ -20,9 +20,9 @@ ghost use Rattle.dex_settle.specs.PayingOut.{PaysOut, plan_of, settled, settleme
 ghost use Rattle.dex_settle.specs.Refusing.{close_reason, disable_reason, init_reason, settle_reason, sweep_reason};
 ghost use Rattle.dex_settle.specs.SettleGiven.{settle_given, with_settled};
 
-/// By the parts of a market, an account, the signer and the wallets that are seen, each call is refused for the reason for
-/// which the market refuses the row: settling an account, sweeping, disabling, opening the account that the row names
-/// first, and closing it, whether it is open or not.
+/// By the parts of a market, an account, the signer and the wallets that are seen, each call is refused for the reason
+/// for which the market refuses the row: settling an account, sweeping, disabling, opening the account that the row
+/// names first, and closing it, whether it is open or not.
 pub fn what_is_refused_is_the_markets()
     ensures settle { (parts : MarketParts) (m : Market) (request : Request) (seen : Seen) (party : Party) →
         AreOf parts m →
@@ -64,8 +64,8 @@ pub fn an_upkeep_leaves_the_market_after_it()
         AreOf (record parts { market = with_disabled parts.market }) (after_disable m) }
 {}
 
-/// With an account's bytes put back, the parts of a market are those of the market after it was opened for its signer, or
-/// closed.
+/// With an account's bytes put back, the parts of a market are those of the market after it was opened for its signer,
+/// or closed.
 pub fn what_is_opened_or_closed_leaves_the_market_after_it()
     ensures opened { (parts : MarketParts) (m : Market) (owner signer : Address) (old bytes : List ℕ) →
         AreOf parts m → bytes_at owner parts.accounts ≡ Some old →

@@ -27,7 +27,8 @@ fn not_blank(account: &[u8]) -> Option<Refusal>
 
 /// Whether the account may be opened on the market, or why that is refused. It reads only.
 ///
-/// Refused are, in this order: an account of a disabled market; one that was opened before, whether closed since or not.
+/// Refused are, in this order: an account of a disabled market; one that was opened before, whether closed since or
+/// not.
 pub fn decide_init(market: &MarketRef<'_>, account: &[u8]) -> Result<(), Refusal>
     requires market { IsMarket market.now.bytes.now }
     requires account { IsOrders account.now }

@@ -10,16 +10,7 @@ use Rattle.dex_crank.specs.declared.crank.Consumed.{Consumed}
 use Rattle.dex_crank.specs.PaidBytes.{CrankBytes}
 use Rattle.dex_step.specs.CancelActs.{CancelBytes, HasCancelled, cancel_bytes}
 use Rattle.dex_step.specs.ConsumeActs.{HasConsumed}
-use Rattle.dex_step.specs.OrderActs.{HasOrderedIn, OrderAccounts, among}
-
-pub among-same : (market market' requests requests' events events' own own' met met' : List ℕ) (accounts accounts' : List PlainAccount) → market ≡ market' → requests ≡ requests'
-    → events ≡ events' → own ≡ own' → met ≡ met' → accounts ≡ accounts' → among market requests events own met accounts ≡ among market' requests' events' own' met' accounts'
-among-same market market' requests requests' events events' own own' met met' accounts accounts' a b c d e f = rw (a, b, c, d, e, f) refl
-
-pub ordered-same : (taker : Taker) (reply : Reply) (before before' after after' : OrderAccounts) → HasOrderedIn taker reply before after → before ≡ before' → after ≡ after'
-    → HasOrderedIn taker reply before' after'
-ordered-same taker reply before before' after after' done b a =
-    subst (λ (x : OrderAccounts). HasOrderedIn taker reply before' x) a (subst (λ (x : OrderAccounts). HasOrderedIn taker reply x after) b done)
+use Rattle.dex_step.specs.OrderActs.{HasOrdered, OrderBytes, order_bytes}
 
 pub cancel-bytes-same : (sizes : Lots) (bids bids' asks asks' events events' : List ℕ) → bids ≡ bids' → asks ≡ asks' → events ≡ events'
     → cancel_bytes sizes bids asks events ≡ cancel_bytes sizes bids' asks' events'
@@ -29,6 +20,16 @@ pub cancelled-same : (by : CancelBy) (owner : Address) (count : ℕ) (before bef
     → HasCancelled by owner count before' after'
 cancelled-same by owner count before before' after after' done b a =
     subst (λ (x : CancelBytes). HasCancelled by owner count before' x) a (subst (λ (x : CancelBytes). HasCancelled by owner count x after) b done)
+
+pub order-bytes-same : (market market' requests requests' events events' account account' own own' met met' : List ℕ) → market ≡ market' → requests ≡ requests'
+    → events ≡ events' → account ≡ account' → own ≡ own' → met ≡ met'
+    → order_bytes market requests events account own met ≡ order_bytes market' requests' events' account' own' met'
+order-bytes-same market market' requests requests' events events' account account' own own' met met' a b c d e f = rw (a, b, c, d, e, f) refl
+
+pub ordered-same : (taker : Taker) (reply : Reply) (before before' after after' : OrderBytes) → HasOrdered taker reply before after → before ≡ before' → after ≡ after'
+    → HasOrdered taker reply before' after'
+ordered-same taker reply before before' after after' done b a =
+    subst (λ (x : OrderBytes). HasOrdered taker reply before' x) a (subst (λ (x : OrderBytes). HasOrdered taker reply x after) b done)
 
 pub crank-bytes-same : (queue queue' : List ℕ) (accounts accounts' : List PlainAccount) → queue ≡ queue' → accounts ≡ accounts' →
     let by : List ℕ → List PlainAccount → CrankBytes = λ q a. record { queue = q; accounts = a } in by queue accounts ≡ by queue' accounts'

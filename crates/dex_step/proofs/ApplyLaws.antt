@@ -1,18 +1,16 @@
 -- What was decided of a row, by the kind of its plan, and what was done of it.
-use Rattle.std.proofs.Common.{◌≡◌, ◌<◌, List, ◌∷◌, Ok, length, refl, sym, subst, arith}
+use Rattle.std.proofs.Common.{◌≡◌, List, ◌∷◌, Ok, sym, subst}
 use Rattle.dex_types.specs.declared.addresses.Address.{Address}
 use Rattle.dex_types.specs.declared.replies.Reply.{Reply}
-use Rattle.dex_types.specs.declared.replies.Reply.TheVariants.{Done}
 use Rattle.dex_types.specs.declared.rows.Seen.{Seen}
 use Rattle.dex_types.specs.Accounts.{PlainMarketAccounts}
 use Rattle.dex_types.specs.Rows.{PlainRow}
-use Rattle.dex_types.specs.Steps.{Step, done}
+use Rattle.dex_types.specs.Steps.{Step}
 use Rattle.dex_accounts.specs.Decoded.{AreSound, market_in}
 use Rattle.dex_plan.specs.declared.plan.Plan.{Plan}
 use Rattle.dex_plan.specs.Plans.{decided}
 use Rattle.dex_history.specs.Journal.{request_of, row_step}
 use Rattle.dex_ring.specs.declared.pending_fills.PendingFills.{PendingFills}
-use Rattle.dex_ring.specs.PendingFills.{pending_fills_of}
 use Rattle.dex_step.specs.Acting.{HasStepped}
 use Rattle.dex_step.specs.Planned.{IsPlanned, OfFirst}
 use Rattle.dex_step.proofs.PlannedLaws.{row-planned}
@@ -30,21 +28,6 @@ pub stepped-as : (before after : PlainMarketAccounts) (reply : Reply) (pending n
     → HasStepped before after reply now s'
 stepped-as before after reply pending now s s' stepped same sums =
     subst (λ (l : PendingFills). HasStepped before after reply l s') (sym sums) (subst (HasStepped before after reply pending) (sym same) stepped)
-
--- nothing was done
-pub nothing-stepped : (accounts : PlainMarketAccounts) (pending : PendingFills) → AreSound accounts → pending ≡ pending_fills_of (market_in accounts).events
-    → HasStepped accounts accounts Done pending (done (market_in accounts))
-nothing-stepped accounts pending sound sums = record {
-  reply_is = refl;
-  market = refl;
-  sound = sound;
-  pending_is = sums;
-  kept = record { address = refl; authority = refl; addresses = refl; accepted = λ was. was };
-}
-
--- there is one that is named first, and it is the first
-pub some-named : (named : List Address) (P : Address → Type 0) → OfFirst named P → 0 < length named
-some-named named P of = subst (λ (l : List Address). 0 < length l) (sym of.is) (omega arith)
 
 pub first-holds : (named : List Address) (P : Address → Type 0) (first : Address) → OfFirst named P
     → ((address : Address) (others : List Address) → named ≡ address ∷ others → first ≡ address) → P first

@@ -1,5 +1,5 @@
--- Settling, sweeping, disabling, opening and closing over a sound market's accounts: that each can be done as it was decided, and
--- that what it leaves is the step's.
+-- Settling, sweeping, disabling, opening and closing over a sound market's accounts: that each can be done as it was
+-- decided, and that what it leaves is the step's.
 use Rattle.std.proofs.Common.{◌≡◌, ℕ, ◌+◌, ◌-◌, ◌<◌, ◌≤◌, ◌^◌, false, List, Option, Some, None, length, ltb, map, get_or, refl, sym, ap, ◌∙◌, subst, arith, inl, inr}
 use Rattle.std.proofs.lemmas.Bool.{or_parts, ltb-false}
 use Rattle.std.proofs.lemmas.List.{length-map}

@@ -1,10 +1,11 @@
--- A new order over a sound market's accounts: that it can be done as it was decided, and that what it leaves is the step's.
+-- A new order over a sound market's accounts: that it can be done as it was decided, and that what it leaves is the
+-- step's.
 use Rattle.std.proofs.Common.{◌≡◌, ℕ, ◌+◌, ◌<◌, ◌^◌, List, Option, Some, None, refl, sym, ap, ◌∙◌, subst, arith}
 use Rattle.dex_types.specs.declared.addresses.Address.{Address}
 use Rattle.dex_types.specs.declared.replies.Reply.{Reply}
 use Rattle.dex_types.specs.declared.terms.Side.{Side}
 use Rattle.dex_types.specs.declared.terms.Side.TheVariants.{Bid, Ask}
-use Rattle.dex_types.specs.Accounts.{PlainMarketAccounts}
+use Rattle.dex_types.specs.Accounts.{PlainAccount, PlainMarketAccounts}
 use Rattle.dex_types.specs.Market.{Market}
 use Rattle.dex_types.specs.NewOrder.{NewOrder, Ordering, after_order, order_on, order_reply}
 use Rattle.dex_types.specs.Requests.{open_party}
@@ -14,7 +15,7 @@ use Rattle.dex_types.specs.Steps.{Step, by_party, ordered as step_ordered}
 use Rattle.dex_types.specs.Trader.{Account, Trader}
 use Rattle.dex_types.specs.Why.{order_reading, why_ordering}
 use Rattle.dex_accounts.specs.Decoded.{AreSound, market_in}
-use Rattle.dex_accounts.specs.Owners.{IsFirst, bytes_at, changed_at}
+use Rattle.dex_accounts.specs.Owners.{changed_at}
 use Rattle.dex_accounts.specs.Parts.{AreOf, parts_of, with_account, with_side}
 use Rattle.dex_match.specs.declared.order_plan.OrderPlan.{OrderPlan}
 use Rattle.dex_match.specs.declared.order_terms.Taker.{Taker}
@@ -29,7 +30,7 @@ use Rattle.dex_ring.specs.Appended.{appended}
 use Rattle.dex_ring.specs.Ring.{ring_of}
 use Rattle.dex_slab.specs.Slab.{resting, room_in}
 use Rattle.dex_step.specs.Acting.{CanTakeIn, HasStepped, HaveTakenIn, KeepNames, bytes_on, coin_held, pc_held}
-use Rattle.dex_step.specs.OrderActs.{CanOrder, CanOrderAt, HasOrderedIn, among_of, bytes_with, given_of}
+use Rattle.dex_step.specs.OrderActs.{CanOrder, CanOrderAmong, HasOrderedAmong, OrderAccounts, among, among_of, bytes_with, given_of}
 use Rattle.dex_step.specs.OrderRows.{IsOrderDecided, order_step}
 use Rattle.dex_step.proofs.SteppedLaws.{leaves-stepped}
 use Rattle.dex_step.proofs.OwnerParts.{OpenAt, names-changed, open-at, open-named}
@@ -39,6 +40,19 @@ use Rattle.dex_step.proofs.SoundParts.{both-sides, coin-fits, coin-held, pc-fits
 pub given-bytes : (side : Side) (bytes : List ℕ) (accounts : PlainMarketAccounts) → order_given side bytes (parts_of accounts) ≡ given_of side (bytes_with bytes (among_of side accounts))
 given-bytes Bid bytes accounts = refl
 given-bytes Ask bytes accounts = refl
+
+-- what an order of the side did on these bytes it did on the accounts, whose open-orders accounts are these
+pub ordered-by-side : (taker : Taker) (reply : Reply) (side : Side) (before after : PlainMarketAccounts) (first last : List PlainAccount) → taker.id_side ≡ side
+    → first ≡ before.orders → after.orders ≡ last
+    → HasOrderedAmong taker reply (among before.market before.requests before.events (bytes_on side before) (bytes_on (opposite side) before) first)
+    (among after.market after.requests after.events (bytes_on side after) (bytes_on (opposite side) after) last)
+    → HasOrderedAmong taker reply (among_of taker.id_side before) (among_of taker.id_side after)
+ordered-by-side taker reply side before after first last is a b done =
+    let was : List PlainAccount → OrderAccounts = among before.market before.requests before.events (bytes_on side before) (bytes_on (opposite side) before) in
+    let now : List PlainAccount → OrderAccounts = among after.market after.requests after.events (bytes_on side after) (bytes_on (opposite side) after) in
+    subst (λ (s : Side). HasOrderedAmong taker reply (among_of s before) (among_of s after)) (sym is)
+    (subst (λ (l : List PlainAccount). HasOrderedAmong taker reply (was l) (now after.orders)) a
+    (subst (λ (l : List PlainAccount). HasOrderedAmong taker reply (was first) (now l)) (sym b) done))
 
 -- the vault that an order pays into is in bounds, with its deposit
 fits-in : (side : Side) (account : Account) (n : NewOrder) (o : Ordering) (accounts : PlainMarketAccounts) → AreSound accounts
@@ -108,11 +122,8 @@ module _ (accounts : PlainMarketAccounts) (taker : Taker) (plan : OrderPlan) (pe
       (order_on taker.id_side (market_in accounts) party.account (order_of taker))) (market_in accounts) (open_party taker.account t)) decided.known
 
   -- it can be done
-  pub order-found : bytes_at taker.account accounts.orders ≡ Some own.bytes
-  order-found = own.has.found
-
-  pub order-can : (place : ℕ) → IsFirst taker.account accounts.orders place → CanOrderAt place plan taker (among_of taker.id_side accounts)
-  order-can place first =
+  pub order-can : CanOrderAmong plan taker (among_of taker.id_side accounts)
+  order-can =
       let can : CanOrder plan taker (bytes_with own.bytes (among_of taker.id_side accounts)) = record {
         price = decided.price;
         own = sound-on accounts sound taker.id_side;
@@ -134,7 +145,7 @@ module _ (accounts : PlainMarketAccounts) (taker : Taker) (plan : OrderPlan) (pe
               ∙ ap (λ (g : OrderGiven). plan_by (order_of taker) (ordering_in taker.id_side (order_of taker) (read_of g))) (given-bytes taker.id_side own.bytes accounts);
         };
       } in
-      record { account = own.bytes; first = first; found = own.has.found; can = can }
+      record { account = own.bytes; found = own.has.found; can = can }
 
   sound_after : IsSound (after_order taker.id_side decided.account (order_of taker) (order_on taker.id_side (market_in accounts) decided.account (order_of taker)) (market_in accounts))
   sound_after = subst (λ (s : Step). IsSound s.market) step_is decided.sound
@@ -144,7 +155,7 @@ module _ (accounts : PlainMarketAccounts) (taker : Taker) (plan : OrderPlan) (pe
       subst (λ (p : OrderPlan). CanTakeIn taker.id_side p.deposit accounts) (sym decided.planned)
       (fits-in taker.id_side decided.account (order_of taker) (order_on taker.id_side (market_in accounts) decided.account (order_of taker)) accounts sound sound_after)
 
-  module _ (after : PlainMarketAccounts) (reply : Reply) (done : HasOrderedIn taker reply (among_of taker.id_side accounts) (among_of taker.id_side after))
+  module _ (after : PlainMarketAccounts) (reply : Reply) (done : HasOrderedAmong taker reply (among_of taker.id_side accounts) (among_of taker.id_side after))
       (vaults : HaveTakenIn taker.id_side plan.deposit accounts after)
       (price : taker.price < 2 ^ 64) (lots : taker.lots < 2 ^ 64) (lock : taker.lock < 2 ^ 64) (client : taker.client < 2 ^ 64) where
     left : OrderGiven

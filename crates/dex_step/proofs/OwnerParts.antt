@@ -1,4 +1,5 @@
--- The open account of an owner among a sound market's accounts, and what stays of the accounts where it is given other bytes.
+-- The open account of an owner among a sound market's accounts, and what stays of the accounts where it is given other
+-- bytes.
 use Rattle.std.proofs.Common.{◌≡◌, ℕ, List, Some, sym, ap, ◌∙◌, inl, inr}
 use Rattle.dex_types.specs.declared.addresses.Address.{Address}
 use Rattle.dex_types.specs.Accounts.{PlainAccount, PlainMarketAccounts}

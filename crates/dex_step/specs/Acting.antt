@@ -25,7 +25,8 @@ pub record Holds (before after : List ℕ) (amount : ℕ) : Type 0 where
 abbrev pub addresses_of : List PlainAccount → List Address
 addresses_of accounts = map (λ (account : PlainAccount). account.address) accounts
 
--- each account has the address that it had, and where each account that was ever opened named the market, each still does
+-- each account has the address that it had, and where each account that was ever opened named the market, each still
+-- does
 pub record KeepNames (market : Address) (before after : List PlainAccount) : Type 0 where
   pub addresses : addresses_of after ≡ addresses_of before
   pub named : All (NamesMarket market) before → All (NamesMarket market) after
@@ -37,7 +38,8 @@ pub record HaveVaults (before after : PlainMarketAccounts) (coin pc : ℕ) : Typ
   pub coin_vault : Holds before.coin_vault after.coin_vault coin
   pub pc_vault : Holds before.pc_vault after.pc_vault pc
 
--- the accounts have these parts now, and their vaults hold these native amounts of base and of quote; all else is as it was
+-- the accounts have these parts now, and their vaults hold these native amounts of base and of quote; all else is as it
+-- was
 pub record Leaves (before after : PlainMarketAccounts) (parts : MarketParts) (coin pc : ℕ) : Type 0 where
   pub vaults : HaveVaults before after coin pc
   pub parts_are : parts_of after ≡ parts
@@ -45,16 +47,16 @@ pub record Leaves (before after : PlainMarketAccounts) (parts : MarketParts) (co
   pub asks : IsSideAccount Ask after.asks
   pub names : KeepNames before.address before.orders after.orders
 
--- what stays of a market's accounts: the market's address, its authority, each open-orders account's address, and that all are
--- accepted, where they were
+-- what stays of a market's accounts: the market's address, its authority, each open-orders account's address, and that
+-- all are accepted, where they were
 pub record KeepsAccounts (before after : PlainMarketAccounts) : Type 0 where
   pub address : after.address ≡ before.address
   pub authority : after.authority ≡ before.authority
   pub addresses : addresses_of after.orders ≡ addresses_of before.orders
   pub accepted : IsAccepted before → IsAccepted after
 
--- a step of the market was done on its accounts: its reply was answered, they are those of the market that it leaves, which is
--- sound, and the sums are those of the events that are pending there
+-- a step of the market was done on its accounts: its reply was answered, they are those of the market that it leaves,
+-- which is sound, and the sums are those of the events that are pending there
 pub record HasStepped (before after : PlainMarketAccounts) (reply : Reply) (pending : PendingFills) (s : Step) : Type 0 where
   pub reply_is : reply ≡ s.reply
   pub market : market_in after ≡ s.market

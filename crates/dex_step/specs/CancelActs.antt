@@ -38,8 +38,8 @@ cancel_bytes_of accounts = cancel_bytes (sizes_of (market_words accounts.market)
 abbrev pub cancel_of : CancelBytes → CancelGiven
 cancel_of bytes = record { sizes = bytes.sizes; bids = resting Bid bytes.bids; asks = resting Ask bytes.asks; queue = bytes.events }
 
--- a cancel can be done: both sides are accepted, the bytes are of one sound market, in which the owner's account is open with
--- these bytes, and it is not refused by them
+-- a cancel can be done: both sides are accepted, the bytes are of one sound market, in which the owner's account is
+-- open with these bytes, and it is not refused by them
 pub record CanCancel (by : CancelBy) (owner : Address) (account : List ℕ) (bytes : CancelBytes) : Type 0 where
   pub bids : IsSideAccount Bid bytes.bids
   pub asks : IsSideAccount Ask bytes.asks
@@ -61,7 +61,8 @@ pub record HasCancelled (by : CancelBy) (owner : Address) (count : ℕ) (before 
 abbrev pub cancel_step : CancelBy → Address → Market → Step
 cancel_step by owner m = cancelled_all (cancelled by owner m.bids m.asks) m
 
--- the cancel was decided on the market: the owner's account is open, no reason holds against it, and the market after it is sound
+-- the cancel was decided on the market: the owner's account is open, no reason holds against it, and the market after
+-- it is sound
 pub record IsCancelDecided (by : CancelBy) (owner : Address) (m : Market) : Type 0 where
   pub account : Account
   pub known : trader_at owner m.traders ≡ Some (Open account)

@@ -11,8 +11,8 @@ use Rattle.dex_crank.specs.PaidBytes.{CrankBytes, paid_bytes}
 use Rattle.dex_crank.specs.Parts.{Keeps}
 use Rattle.dex_ring.specs.Ring.{IsEventQueue, events_of}
 
--- events were consumed: so many, each paid, and what they were to take off totals is what the sums over pending events lost; the
--- queue is accepted, and all else stays
+-- events were consumed: so many, each paid, and what they were to take off totals is what the sums over pending events
+-- lost; the queue is accepted, and all else stays
 pub record HasConsumed (limit : ℕ) (named : List Address) (consumed : Consumed) (before after : CrankBytes) : Type 0 where
   pub count : consumed.count ≡ consumable limit named (events_of before.queue)
   pub coin : all_leaving Coin (events_of before.queue) ≡ consumed.fills.coin + all_leaving Coin (events_of after.queue)
@@ -21,6 +21,6 @@ pub record HasConsumed (limit : ℕ) (named : List Address) (consumed : Consumed
   pub queue : IsEventQueue after.queue
   pub kept : Keeps before after
 
--- the step of consuming at most so many events, of the accounts that are named
+-- the step of consuming at most this many events, of the accounts that are named
 abbrev pub consume_step : ℕ → List Address → Market → Step
 consume_step limit named m = act_consume limit named m

@@ -1,4 +1,5 @@
--- What was decided of settling, sweeping, disabling, opening and closing on a market, and the steps that they make there.
+-- What was decided of settling, sweeping, disabling, opening and closing on a market, and the steps that they make
+-- there.
 use Rattle.std.specs.Prelude.{◌≡◌, ℕ, Some, None}
 use Rattle.dex_types.specs.declared.addresses.Address.{Address}
 use Rattle.dex_types.specs.Market.{Market}
@@ -15,8 +16,8 @@ use Rattle.dex_settle.specs.PayingOut.{PaysOut, settlement_by}
 abbrev pub settle_step : SettlePlan → Address → Market → Step
 settle_step plan owner m = by_party (λ party. settled m party (settlement_by plan)) m (open_party owner (trader_at owner m.traders))
 
--- settling was decided on the market: the account is open, the plan pays out all that is free in it, and the market after it is
--- sound
+-- settling was decided on the market: the account is open, the plan pays out all that is free in it, and the market
+-- after it is sound
 pub record IsSettleDecided (plan : SettlePlan) (owner : Address) (m : Market) : Type 0 where
   pub account : Account
   pub known : trader_at owner m.traders ≡ Some (Open account)

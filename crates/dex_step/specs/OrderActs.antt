@@ -4,7 +4,7 @@ use Rattle.dex_types.specs.declared.replies.Reply.{Reply}
 use Rattle.dex_types.specs.declared.terms.Side.{Side}
 use Rattle.dex_types.specs.Accounts.{PlainAccount, PlainMarketAccounts}
 use Rattle.dex_types.specs.Side.{opposite}
-use Rattle.dex_accounts.specs.Owners.{IsFirst, bytes_at, changed_at}
+use Rattle.dex_accounts.specs.Owners.{bytes_at, changed_at}
 use Rattle.dex_match.specs.declared.order_plan.OrderPlan.{OrderPlan}
 use Rattle.dex_match.specs.declared.order_terms.Taker.{Taker}
 use Rattle.dex_match.specs.LentParts.{events_in, ordered, reply_in}
@@ -18,8 +18,8 @@ use Rattle.dex_slab.specs.Slab.{resting, room_in}
 use Rattle.dex_slab.specs.StandsFor.{IsSideAccount}
 use Rattle.dex_step.specs.Acting.{bytes_on}
 
--- the bytes that a new order reads and writes: of the market account, the two queues, its account, its own side, and the side
--- that it meets
+-- the bytes that a new order reads and writes: of the market account, the two queues, its account, its own side, and
+-- the side that it meets
 pub record OrderBytes : Type 0 where
   pub market : List ℕ
   pub requests : List ℕ
@@ -38,7 +38,8 @@ abbrev pub given_of : Side → OrderBytes → OrderGiven
 given_of side bytes =
     given_by bytes.market bytes.requests bytes.events bytes.account (resting side bytes.own) (room_in bytes.own) (resting (opposite side) bytes.met)
 
--- an order can be done as it was decided: both sides are accepted, the bytes are of one sound market, and it was decided on them
+-- an order can be done as it was decided: both sides are accepted, the bytes are of one sound market, and it was
+-- decided on them
 pub record CanOrder (plan : OrderPlan) (taker : Taker) (bytes : OrderBytes) : Type 0 where
   pub price : 1 ≤ taker.price
   pub own : IsSideAccount taker.id_side bytes.own
@@ -46,7 +47,8 @@ pub record CanOrder (plan : OrderPlan) (taker : Taker) (bytes : OrderBytes) : Ty
   pub given : IsGiven taker.id_side taker.account (given_of taker.id_side bytes)
   pub decided : IsDecided plan taker.id_side (order_of taker) (parts_of (given_of taker.id_side bytes))
 
--- it was done: what it made of what it was given stands in the bytes, which are accepted, and the side that it met has its room
+-- it was done: what it made of what it was given stands in the bytes, which are accepted, and the side that it met has
+-- its room
 pub record HasOrdered (taker : Taker) (reply : Reply) (before after : OrderBytes) : Type 0 where
   pub reply_is : reply ≡ reply_in taker (given_of taker.id_side before)
   pub does : given_of taker.id_side after ≡ ordered taker (given_of taker.id_side before)
@@ -59,7 +61,7 @@ pub record HasOrdered (taker : Taker) (reply : Reply) (before after : OrderBytes
 
 -- ---- its account among others
 
--- the same bytes, with all open-orders accounts in the place of the order's own
+-- these bytes, with all open-orders accounts in the place of the order's own
 pub record OrderAccounts : Type 0 where
   pub market : List ℕ
   pub requests : List ℕ
@@ -68,7 +70,7 @@ pub record OrderAccounts : Type 0 where
   pub met : List ℕ
   pub accounts : List PlainAccount
 
--- the same with all open-orders accounts, of these bytes
+-- what a new order reads and writes, with all open-orders accounts, of these bytes
 abbrev pub among : List ℕ → List ℕ → List ℕ → List ℕ → List ℕ → List PlainAccount → OrderAccounts
 among market requests events own met accounts =
     record { market = market; requests = requests; events = events; own = own; met = met; accounts = accounts }
@@ -82,15 +84,14 @@ among_of side accounts =
 abbrev pub bytes_with : List ℕ → OrderAccounts → OrderBytes
 bytes_with account all = order_bytes all.market all.requests all.events account all.own all.met
 
--- an order can be done as it was decided, by the account that stands first at its address, at this place
-pub record CanOrderAt (place : ℕ) (plan : OrderPlan) (taker : Taker) (all : OrderAccounts) : Type 0 where
+-- an order can be done as it was decided, by its account, which is among these
+pub record CanOrderAmong (plan : OrderPlan) (taker : Taker) (all : OrderAccounts) : Type 0 where
   pub account : List ℕ
-  pub first : IsFirst taker.account all.accounts place
   pub found : bytes_at taker.account all.accounts ≡ Some account
   pub can : CanOrder plan taker (bytes_with account all)
 
 -- it was done, and no account changed but its own
-pub record HasOrderedIn (taker : Taker) (reply : Reply) (before after : OrderAccounts) : Type 0 where
+pub record HasOrderedAmong (taker : Taker) (reply : Reply) (before after : OrderAccounts) : Type 0 where
   pub was : List ℕ
   pub now : List ℕ
   pub found : bytes_at taker.account before.accounts ≡ Some was

@@ -22,8 +22,8 @@ order_step taker m =
     by_party (λ party. ordered taker.id_side (order_of taker) m party (order_on taker.id_side m party.account (order_of taker))) m
     (open_party taker.account (trader_at taker.account m.traders))
 
--- the order was decided on the market: its account is open, no reason holds against it with the wallet that pays for it as some
--- row saw it, and the plan and the sums are those of what it does; and the market after it is sound
+-- the order was decided on the market: its account is open, no reason holds against it with the wallet that pays for it
+-- as some row saw it, and the plan and the sums are those of what it does; and the market after it is sound
 pub record IsOrderDecided (taker : Taker) (plan : OrderPlan) (pending : PendingFills) (m : Market) : Type 0 where
   pub account : Account
   pub known : trader_at taker.account m.traders ≡ Some (Open account)

@@ -34,13 +34,15 @@ take_bytes_of side accounts = take_bytes accounts.market accounts.events (bytes_
 abbrev pub taken_of : Side → TakeBytes → TakeGiven
 taken_of side bytes = given bytes.market bytes.events (resting (opposite side) bytes.met)
 
--- a take can be done as it was decided: the side is accepted, the bytes are of one sound market, and it was decided on them
+-- a take can be done as it was decided: the side is accepted, the bytes are of one sound market, and it was decided on
+-- them
 pub record CanTake (plan : TakePlan) (taker : Taker) (bytes : TakeBytes) : Type 0 where
   pub met : IsSideAccount (opposite taker.id_side) bytes.met
   pub given_is : IsOfSound taker.id_side (taken_of taker.id_side bytes)
   pub decided : IsDecided plan taker (read_of (taken_of taker.id_side bytes))
 
--- it was done: what it made of what it was given stands in the bytes, which are accepted, and the side that it met has its room
+-- it was done: what it made of what it was given stands in the bytes, which are accepted, and the side that it met has
+-- its room
 pub record HasTaken (taker : Taker) (reply : Reply) (before after : TakeBytes) : Type 0 where
   pub reply_is : reply ≡ reply_in taker (taken_of taker.id_side before)
   pub does : taken_of taker.id_side after ≡ taken taker (taken_of taker.id_side before)

@@ -18,8 +18,8 @@ use Rattle.dex_take.specs.Taking.{plan_by}
 abbrev pub take_step : Taker → Market → Step
 take_step taker m = act_take taker.id_side (bare_take taker) m
 
--- the take was decided on the market: with some least fill no reason holds against it, with the wallets as some row saw them, and
--- the plan and the sums are those of what it does; and the market after it is sound
+-- the take was decided on the market: with some least fill no reason holds against it, with the wallets as some row saw
+-- them, and the plan and the sums are those of what it does; and the market after it is sound
 pub record IsTakeDecided (taker : Taker) (plan : TakePlan) (pending : PendingFills) (m : Market) : Type 0 where
   pub min_lots : ℕ
   pub min_pc : ℕ

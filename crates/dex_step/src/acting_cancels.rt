@@ -10,9 +10,9 @@ ghost use Rattle.dex_step.specs.CancelActs.{CanCancel, HasCancelled, IsCancelDec
 ghost use Rattle.dex_types.specs.Accounts.{market_accounts_of, orders_account_of};
 ghost use Rattle.std.specs.Prelude.{◌≡◌, IsSome, Some, map};
 
-use dex_accounts::find_bytes;
+use dex_accounts::place_of;
 use dex_cancel::CancelWhat;
-use dex_cancel_slots::apply_cancel_by_slots;
+use dex_cancel_slots::{Owner, apply_cancel_by_slots};
 use dex_market::MarketRef;
 use dex_orders::OrdersRef;
 use dex_ring::RingView;
@@ -24,31 +24,27 @@ fn bytes_of(accounts: &[OrdersAccount], address: Address) -> &[u8]
     requires { IsSome (bytes_at address (map orders_account_of accounts.now)) }
     ensures { bytes_at address (map orders_account_of accounts.now) ≡ Some result.now }
 {
-    match find_bytes(accounts, address) {
-        Some(bytes) => bytes,
-        None => unreachable!(),
-    }
+    let place = place_of(accounts, address);
+    &accounts[place].bytes
 }
 
-/// A cancel, on the bytes of the accounts that it is handed: `held` are the owner's. It answers how many orders it
-/// took.
+/// A cancel, on the bytes of its accounts. It answers how many orders it took.
 fn cancel_on_bytes(
     what: &CancelWhat,
-    owner: Address,
-    held: &[u8],
+    owner: Owner<'_>,
     sizes: Lots,
     bids: &mut [u8],
     asks: &mut [u8],
     events: &mut [u8],
 ) -> u32
-    requires { CanCancel (named_by what.now) owner held.now (cancel_bytes sizes bids.old asks.old events.old) }
-    ensures { HasCancelled (named_by what.entry.now) owner result (cancel_bytes sizes bids.old asks.old events.old)
-        (cancel_bytes sizes bids.new asks.new events.new) }
+    requires { CanCancel (named_by what.now) owner.account owner.orders.bytes.now
+        (cancel_bytes sizes bids.old asks.old events.old) }
+    ensures { HasCancelled (named_by what.entry.now) owner.entry.account result
+        (cancel_bytes sizes bids.old asks.old events.old) (cancel_bytes sizes bids.new asks.new events.new) }
 {
     apply_cancel_by_slots(
         what,
         owner,
-        &OrdersRef { bytes: held },
         sizes,
         &mut SlabView {
             bytes: bids,
@@ -76,10 +72,13 @@ pub(crate) fn cancel_row(accounts: &mut MarketAccounts, owner: Address, what: &C
     };
     let sizes = market.sizes();
     let held = bytes_of(&accounts.orders, owner);
+    let owner = Owner {
+        account: owner,
+        orders: OrdersRef { bytes: held },
+    };
     let count = cancel_on_bytes(
         what,
         owner,
-        held,
         sizes,
         &mut accounts.bids,
         &mut accounts.asks,

@@ -13,7 +13,7 @@ use dex_crank::{Consumed, consume_with_pending};
 use dex_ring::{PendingFills, RingView};
 use dex_types::{Address, MarketAccounts, OrdersAccount, Reply};
 
-/// Consumes events, on the bytes of the accounts that it is handed.
+/// Consumes events, on the bytes of the queue and of the accounts.
 fn consume_on_bytes(
     events: &mut [u8],
     accounts: &mut [OrdersAccount],

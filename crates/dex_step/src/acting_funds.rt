@@ -38,15 +38,7 @@ fn settle_on_bytes(plan: &SettlePlan, market: &mut [u8], account: &mut [u8])
     );
 }
 
-/// The same with the account's bytes in their buffer.
-fn settle_in_buffer(plan: &SettlePlan, market: &mut [u8], account: &mut Vec<u8>)
-    requires { CanSettle plan.now market.old account.old.items }
-    ensures { HasSettled plan.entry.now market.old market.new account.old.items account.new.items }
-{
-    settle_on_bytes(plan, market, account);
-}
-
-/// The same of the owner's account among the others.
+/// Settling the owner's account among the others.
 fn settle_among(
     plan: &SettlePlan,
     owner: Address,
@@ -58,7 +50,7 @@ fn settle_among(
         (map orders_account_of accounts.old) (map orders_account_of accounts.new) }
 {
     let place = place_of(accounts, owner);
-    settle_in_buffer(plan, market, &mut accounts[place].bytes);
+    settle_on_bytes(plan, market, &mut accounts[place].bytes);
 }
 
 /// An account settled as it was decided: all its free funds and its referrer part leave the vaults, but for what of
@@ -121,14 +113,6 @@ pub(crate) fn disable_row(accounts: &mut MarketAccounts) -> Reply
     Reply::Done
 }
 
-/// Opening, with the account's bytes in their buffer.
-fn init_in_buffer(account: &mut Vec<u8>, market: Address, person: Address)
-    requires { IsBlank account.old.items }
-    ensures { HasOpened market person account.old.items account.new.items }
-{
-    init(account, market, person);
-}
-
 /// Opening the owner's account among the others.
 fn init_among(owner: Address, market: Address, person: Address, accounts: &mut [OrdersAccount])
     requires { CanChange owner IsBlank (map orders_account_of accounts.old) }
@@ -136,7 +120,7 @@ fn init_among(owner: Address, market: Address, person: Address, accounts: &mut [
         (map orders_account_of accounts.old) (map orders_account_of accounts.new) }
 {
     let place = place_of(accounts, owner);
-    init_in_buffer(&mut accounts[place].bytes, market, person);
+    init(&mut accounts[place].bytes, market, person);
 }
 
 /// An account that was never opened is opened for the signer, as it was decided.
@@ -151,14 +135,6 @@ pub(crate) fn init_row(accounts: &mut MarketAccounts, owner: Address, signer: Ad
     Reply::Done
 }
 
-/// Closing, with the account's bytes in their buffer.
-fn close_in_buffer(account: &mut Vec<u8>)
-    requires { CanClose account.old.items }
-    ensures { HasClosed account.old.items account.new.items }
-{
-    close(account);
-}
-
 /// Closing the owner's account among the others.
 fn close_among(owner: Address, accounts: &mut [OrdersAccount])
     requires { CanChange owner CanClose (map orders_account_of accounts.old) }
@@ -166,7 +142,7 @@ fn close_among(owner: Address, accounts: &mut [OrdersAccount])
         (map orders_account_of accounts.old) (map orders_account_of accounts.new) }
 {
     let place = place_of(accounts, owner);
-    close_in_buffer(&mut accounts[place].bytes);
+    close(&mut accounts[place].bytes);
 }
 
 /// An account without funds and orders is closed for good, as it was decided.

@@ -5,9 +5,9 @@ ghost use Rattle.dex_accounts.specs.Decoded.{AreSound, market_in};
 ghost use Rattle.dex_step.specs.Acting.{CanTakeIn, HasStepped, HaveTakenIn};
 ghost use Rattle.dex_step.specs.OrderActs.{
   CanOrder,
-  CanOrderAt,
+  CanOrderAmong,
   HasOrdered,
-  HasOrderedIn,
+  HasOrderedAmong,
   among,
   among_of,
   order_bytes,
@@ -24,7 +24,8 @@ use dex_ring::{PendingFills, RingView};
 use dex_slab::SlabView;
 use dex_types::{MarketAccounts, OrdersAccount, Reply, Side};
 
-/// A new order, on the bytes of the accounts that it is handed.
+/// A new order, on the bytes of its accounts: as many as `apply_order` takes, since the checker follows no record of
+/// lent views.
 fn order_on_bytes(
     plan: &OrderPlan,
     taker: Taker,
@@ -56,35 +57,10 @@ fn order_on_bytes(
     )
 }
 
-/// The same with the bytes in their buffers.
-fn order_in_buffers(
+/// A new order of an account among others. It takes the market's accounts one by one, for the same reason.
+fn order_among(
     plan: &OrderPlan,
     taker: Taker,
-    market: &mut Vec<u8>,
-    requests: &mut Vec<u8>,
-    events: &mut Vec<u8>,
-    account: &mut Vec<u8>,
-    own: &mut Vec<u8>,
-    opposite: &mut Vec<u8>,
-) -> Reply
-    requires { CanOrder plan.now taker (order_bytes market.old.items requests.old.items events.old.items
-        account.old.items own.old.items opposite.old.items) }
-    ensures { HasOrdered taker result
-        (order_bytes market.old.items requests.old.items events.old.items account.old.items own.old.items
-        opposite.old.items)
-        (order_bytes market.new.items requests.new.items events.new.items account.new.items own.new.items
-        opposite.new.items) }
-{
-    order_on_bytes(
-        plan, taker, market, requests, events, account, own, opposite,
-    )
-}
-
-/// The same of the account at this place.
-fn order_in_place(
-    plan: &OrderPlan,
-    taker: Taker,
-    place: usize,
     market: &mut Vec<u8>,
     requests: &mut Vec<u8>,
     events: &mut Vec<u8>,
@@ -92,25 +68,26 @@ fn order_in_place(
     own: &mut Vec<u8>,
     opposite: &mut Vec<u8>,
 ) -> Reply
-    requires { CanOrderAt place plan.now taker (among market.old.items requests.old.items events.old.items
+    requires { CanOrderAmong plan.now taker (among market.old.items requests.old.items events.old.items
         own.old.items opposite.old.items (map orders_account_of accounts.old)) }
-    ensures { HasOrderedIn taker result
+    ensures { HasOrderedAmong taker result
         (among market.old.items requests.old.items events.old.items own.old.items opposite.old.items
         (map orders_account_of accounts.old))
         (among market.new.items requests.new.items events.new.items own.new.items opposite.new.items
         (map orders_account_of accounts.new)) }
 {
+    let place = place_of(accounts, taker.account);
     let account = &mut accounts[place].bytes;
-    order_in_buffers(
+    order_on_bytes(
         plan, taker, market, requests, events, account, own, opposite,
     )
 }
 
 /// A new order of either side, with its deposit in the vault.
-fn order_at(accounts: &mut MarketAccounts, plan: &OrderPlan, taker: Taker, place: usize) -> Reply
-    requires can { CanOrderAt place plan.now taker (among_of taker.id_side (market_accounts_of accounts.old)) }
+fn order_by_side(accounts: &mut MarketAccounts, plan: &OrderPlan, taker: Taker) -> Reply
+    requires can { CanOrderAmong plan.now taker (among_of taker.id_side (market_accounts_of accounts.old)) }
     requires vault { CanTakeIn taker.id_side plan.now.deposit (market_accounts_of accounts.old) }
-    ensures does { HasOrderedIn taker result (among_of taker.id_side (market_accounts_of accounts.old))
+    ensures does { HasOrderedAmong taker result (among_of taker.id_side (market_accounts_of accounts.old))
         (among_of taker.id_side (market_accounts_of accounts.new)) }
     ensures vaults { HaveTakenIn taker.id_side plan.now.deposit (market_accounts_of accounts.old)
         (market_accounts_of accounts.new) }
@@ -129,15 +106,11 @@ fn order_at(accounts: &mut MarketAccounts, plan: &OrderPlan, taker: Taker, place
     match taker.id_side {
         Side::Bid => {
             bring(pc_vault, plan.deposit);
-            order_in_place(
-                plan, taker, place, market, requests, events, orders, bids, asks,
-            )
+            order_among(plan, taker, market, requests, events, orders, bids, asks)
         }
         Side::Ask => {
             bring(coin_vault, plan.deposit);
-            order_in_place(
-                plan, taker, place, market, requests, events, orders, asks, bids,
-            )
+            order_among(plan, taker, market, requests, events, orders, asks, bids)
         }
     }
 }
@@ -156,8 +129,7 @@ pub(crate) fn order_row(
     ensures { HasStepped (market_accounts_of accounts.old) (market_accounts_of accounts.new) result pending.new
         (order_step taker (market_in (market_accounts_of accounts.old))) }
 {
-    let place = place_of(&accounts.orders, taker.account);
-    let reply = order_at(accounts, plan, taker, place);
+    let reply = order_by_side(accounts, plan, taker);
     *pending = left;
     reply
 }

@@ -14,7 +14,7 @@ use dex_slab::SlabView;
 use dex_take::{TakePlan, apply_take};
 use dex_types::{MarketAccounts, Reply, Side};
 
-/// A take, on the bytes of the accounts that it is handed.
+/// A take, on the bytes of its accounts.
 fn take_on_bytes(
     plan: &TakePlan,
     taker: Taker,

@@ -1,5 +1,5 @@
 -- what a take meets fits 64 bits, and a sound market holds what it pays out
-use Rattle.std.proofs.Common.{◌≡◌, ℕ, ◌+◌, ◌*◌, ◌^◌, ◌<◌, ◌≤◌, List, None, refl, sym, ap, subst, arith}
+use Rattle.std.proofs.Common.{◌≡◌, ℕ, ◌+◌, ◌*◌, ◌^◌, ◌<◌, ◌≤◌, List, None, refl, sym, subst, arith}
 use Rattle.std.proofs.lemmas.Bool.{leb-false}
 use Rattle.dex_types.specs.declared.orders.Order.{Order}
 use Rattle.dex_types.specs.declared.terms.Lots.{Lots}
@@ -8,8 +8,7 @@ use Rattle.dex_types.specs.declared.terms.Side.TheVariants.{Bid, Ask}
 use Rattle.dex_types.specs.Market.{Market, orders}
 use Rattle.dex_types.specs.Meeting.{Meeting}
 use Rattle.dex_types.specs.Reasons.{ask_too_large}
-use Rattle.dex_types.specs.Side.{Token, Coin, Pc, by_side, opposite}
-use Rattle.dex_types.specs.Solvency.{all_leaving}
+use Rattle.dex_types.specs.Side.{Coin, Pc, by_side, opposite}
 use Rattle.dex_types.specs.Soundness.{IsSound}
 use Rattle.dex_types.specs.Take.{Take, take_demand, take_fee, take_lock, take_meeting, take_paid, take_terms}
 use Rattle.dex_fees.proofs.FeeLaws.{fee-covers, taker_fee-le}
@@ -118,13 +117,6 @@ pub backed-sound : (side : Side) (given : TakeGiven) → IsOfSound side given �
 backed-sound side given is =
     let found : IsGivenOfSound side given = given-of_sound side given is in
     backed side given found.market found.sound found.of
-
--- what pending fills are to take off totals is below 2^64
-pub leaving-small : (side : Side) (given : TakeGiven) (token : Token) → IsOfSound side given → all_leaving token (read_of given).ring.events < 2 ^ 64
-leaving-small side given token is =
-    let found : IsGivenOfSound side given = given-of_sound side given is in
-    let same : all_leaving token (read_of given).ring.events ≡ all_leaving token found.market.events = ap (λ (r : TakeRead). all_leaving token r.ring.events) (read-of side given found.market found.of) in
-    omega (arith, same, found.sound.funds.bounded token)
 
 -- so what a take pays out is there
 pub record IsPaidOut (side : Side) (t : Take) (parts : TakeRead) : Type 0 where

@@ -1,13 +1,11 @@
 -- what a take that is not refused leaves of a sound market
-use Rattle.std.proofs.Common.{◌≡◌, ℕ, ◌+◌, ◌-◌, ◌^◌, ◌<◌, List, None, length, refl, sym, ap, subst, ◌∙◌, arith, ◌≤◌, Option, Some, Ok}
-use Rattle.std.proofs.lemmas.Bool.{ltb-false}
-use Rattle.dex_types.specs.declared.refusals.Refusal.{Refusal}
+use Rattle.std.proofs.Common.{◌≡◌, ℕ, ◌+◌, ◌-◌, ◌^◌, ◌<◌, List, None, length, refl, sym, ap, subst, ◌∙◌, arith}
 use Rattle.dex_types.specs.declared.rows.Seen.{Seen}
 use Rattle.dex_types.specs.declared.terms.Side.{Side}
 use Rattle.dex_types.specs.declared.terms.Side.TheVariants.{Bid, Ask}
 use Rattle.dex_types.specs.Market.{Market}
 use Rattle.dex_types.specs.Meeting.{Meeting}
-use Rattle.dex_types.specs.Reasons.{answered, ask_too_large, no_room}
+use Rattle.dex_types.specs.Reasons.{ask_too_large}
 use Rattle.dex_types.specs.Side.{Coin, Pc}
 use Rattle.dex_types.specs.Soundness.{IsSound}
 use Rattle.dex_types.specs.Take.{Take, after_take, take_demand, take_terms, take_transfers}
@@ -22,16 +20,15 @@ use Rattle.dex_ring.specs.StandsFor.{StandsForEvents, ring_of_market}
 use Rattle.dex_take.specs.Taken.{IsDone}
 use Rattle.dex_match.specs.declared.order_terms.Taker.{Taker}
 use Rattle.dex_market.specs.MarketAccount.{sizes_of}
-use Rattle.dex_ring.specs.Ring.{room_of}
 use Rattle.dex_ring.specs.Appended.{HasRoom, appended}
 use Rattle.dex_ring.specs.Ring.{ring_of}
-use Rattle.dex_sound.proofs.OrderSoundReasons.{queue_full-none, refused_where-none, taking-none}
+use Rattle.dex_sound.proofs.OrderSoundReasons.{queue_full-none, taking-none}
 use Rattle.dex_sound.proofs.TakeSound.{met_of, taken_market, taking-sound}
 use Rattle.dex_take.specs.declared.plan.TakePlan.{TakePlan}
 use Rattle.dex_take.specs.Exchanging.{CanExchange, bytes_after, funds_after, kept_of, words_after}
 use Rattle.dex_take.specs.TakeGiven.{TakeGiven, TakeRead, read_of, take_given, with_taken}
 use Rattle.dex_take.specs.TakeTerms.{bare_take, take_of}
-use Rattle.dex_take.specs.Taking.{CanBeDone, IsDecided, meeting_in, moved_in, plan_in, reading_in, take_answer, take_reason, transfers_by}
+use Rattle.dex_take.specs.Taking.{CanBeDone, IsDecided, meeting_in, moved_in, plan_in, take_reason}
 use Rattle.dex_take.proofs.TakeAmounts.{IsGivenOf, bare-meeting, given-of, of_market, read-of, take-covers, take_fee-part}
 use Rattle.dex_take.proofs.TakeReasons.{reason-given}
 
@@ -206,36 +203,3 @@ after-put plan taker min_lots min_pc parts left m sound are done =
     done.list ∙ ap (λ (x : Meeting). appended x.events (ring_of parts.events)) same ∙ ap (appended met.events) are.events.ring in
     subst (λ (x : Meeting). AreOf (with_taken side left parts) (after_take side t x m)) on
     (put-parts side t met parts left m are (record { accepted = done.market_accepted; words = words }) (record { accepted = done.events_accepted; ring = ring }) opposing)
-
--- so can what was answered, where the words can exchange it
-answered-ok : {X : Type 0} (reason : Option Refusal) (x y : X) → answered reason x ≡ Ok y → (reason ≡ None) × (y ≡ x)
-answered-ok None x y is = (refl, cc)
-answered-ok (Some why) x y is = absurd cc
-
-no_room-none : (needed room : ℕ) → no_room needed room ≡ None → needed ≤ room
-no_room-none needed room none = omega (arith, ltb-false room needed (refused_where-none _ _ none))
-
-pub answered-can_be_done : (taker : Taker) (min_lots min_pc : ℕ) (seen : Seen) (plan : TakePlan) (parts : TakeRead)
-    → take_answer taker.id_side (take_of taker min_lots min_pc) parts seen ≡ Ok plan
-    → length parts.ring.events ≤ parts.ring.capacity → parts.ring.seq_num < 2 ^ 64
-    → ((kept : ℕ) → kept ≤ plan.fee → CanExchange (transfers_by taker.id_side plan) kept parts.words) → CanBeDone plan taker parts
-answered-can_be_done taker min_lots min_pc seen plan parts is within counted can =
-    let t = take_of taker min_lots min_pc in
-    let side = taker.id_side in
-    let met : Meeting = meeting_in side t parts in
-    let ok = answered-ok (take_reason side t parts seen) (plan_in side t parts) plan is in
-    let held = taking-none side t seen (reading_in side t seen parts) ok.0 in
-    let planned : plan ≡ plan_in side (bare_take taker) parts = ok.1 ∙ any-plan side taker min_lots min_pc 0 0 parts in
-    record {
-      planned = planned;
-      size = held.size;
-      room = omega (
-        arith,
-        within,
-        no_room-none (length met.events) (room_of parts.ring) held.taking.1.0,
-        ap (λ (m : Meeting). length m.events) (bare-meeting side (sizes_of parts.words) taker min_lots min_pc parts.opposing),
-      );
-      counted = counted;
-      can = subst (λ (p : TakePlan). CanExchange (transfers_by side p) (kept_of (bare_take taker) (meeting_in side (bare_take taker) parts)) parts.words) planned
-          (can (kept_of (bare_take taker) (meeting_in side (bare_take taker) parts)) (omega (arith, ap (λ (p : TakePlan). p.fee) planned)));
-    }

@@ -18,7 +18,6 @@ use Rattle.dex_types.specs.Transfers.{Transfers, payout}
 use Rattle.dex_types.specs.Why.{TakeReading, payer, take_reading, taking_reasons, why_taking}
 use Rattle.dex_laws.proofs.TotalLaws.{total-append}
 use Rattle.dex_market.specs.StandsFor.{words_of}
-use Rattle.dex_match.specs.declared.order_terms.Taker.{Taker}
 use Rattle.dex_market.specs.MarketAccount.{sizes_of}
 use Rattle.dex_ring.specs.Ring.{room_of}
 use Rattle.dex_reasons.proofs.FirstReasons.{first_of-early, first_of-late, first_of-one}
@@ -30,8 +29,7 @@ use Rattle.dex_take.specs.declared.plan.DecidedTake.{DecidedTake}
 use Rattle.dex_take.specs.declared.plan.TakePlan.{TakePlan}
 use Rattle.dex_take.specs.TakeGiven.{TakeGiven, TakeRead, read_of}
 use Rattle.dex_take.specs.Taking.{IsForeseen, IsWithin, at_bound, before_bound, leaving_after, left_in, meeting_in, plan_by, plan_in, reading_in, take_outcome, take_reason, too_little_by, transfers_by, vault_after}
-use Rattle.dex_take.specs.TakeTerms.{bare_take, take_of}
-use Rattle.dex_take.proofs.TakeAmounts.{IsGivenOf, bare-meeting, bare-plan, of_market, read-of}
+use Rattle.dex_take.proofs.TakeAmounts.{IsGivenOf, of_market, read-of}
 
 -- on a sound market the vaults after a take are what its words say, so the reasons are the market's
 vault-coin : (t : Transfers) (m : Market) → IsSound m → vault_after Coin t (words_of m) ≡ m.coin_vault + t.coin_in - t.coin_out
@@ -105,12 +103,6 @@ reasons-in : (side : Side) (t : Take) (parts : TakeRead) (seen : Seen)
 reasons-in side t parts seen =
     rw (← (too_little-by side (sizes_of parts.words) t (meeting_in side t parts))) refl
 
--- a take of too much base is refused for that
-pub answer-size : (side : Side) (t : Take) (parts : TakeRead) (seen : Seen) (why : Refusal) → ask_too_large side (sizes_of parts.words) t.lots ≡ Some why
-    → take_reason side t parts seen ≡ Some why
-answer-size side t parts seen why is =
-    ap (λ (r : Option Refusal). first_of (r ∷ first_of (taking_reasons side t seen (reading_in side t seen parts)) ∷ [])) is
-
 -- then it is refused for the first reason before the bound
 pub answer-early : (side : Side) (t : Take) (parts : TakeRead) (seen : Seen) (why : Refusal) → ask_too_large side (sizes_of parts.words) t.lots ≡ None
     → first_of (before_bound side (plan_in side t parts) t.min_lots t.min_pc (length (meeting_in side t parts).events) (room_of parts.ring) seen) ≡ Some why
@@ -155,17 +147,3 @@ outcome-late side t parts seen outlook left within is left_is =
     sym (first_of-late early late within.rest) ∙ ap first_of (reasons-in side t parts seen) ∙ sym (first_of-one reasons)
     ∙ ap (λ (r : Option Refusal). first_of (r ∷ reasons ∷ [])) (sym within.size) in
     rw (is.plan, left_is) (ap (λ (r : Option Refusal). answered r (decided_as (plan_in side t parts) (left_in side t parts))) same)
-
--- what is foreseen of a taker's take without a least fill is foreseen of each one
-pub foreseen-bare : (taker : Taker) (min_lots min_pc : ℕ) (parts : TakeRead) (outlook : TakeOutlook) → IsForeseen taker.id_side (bare_take taker) parts outlook
-    → IsForeseen taker.id_side (take_of taker min_lots min_pc) parts outlook
-foreseen-bare taker min_lots min_pc parts outlook is =
-    let same : meeting_in taker.id_side (bare_take taker) parts ≡ meeting_in taker.id_side (take_of taker min_lots min_pc) parts =
-    bare-meeting taker.id_side (sizes_of parts.words) taker min_lots min_pc parts.opposing in
-    record {
-      plan = is.plan ∙ bare-plan taker.id_side (sizes_of parts.words) taker min_lots min_pc parts.opposing;
-      events = is.events ∙ ap (λ (m : Meeting). length m.events) same;
-      lots = is.lots ∙ ap (λ (m : Meeting). m.lots) same;
-      pc = is.pc ∙ ap (λ (m : Meeting). m.pc) same;
-      rebates = is.rebates ∙ ap (λ (m : Meeting). m.rebates) same;
-    }

@@ -9,6 +9,7 @@ use Rattle.dex_market.specs.MarketAccount.{MarketWords, market_words}
 use Rattle.dex_ring.specs.Ring.{Ring, ring_of}
 use Rattle.dex_ring.specs.declared.ring_ref.RingRef.{RingRef}
 use Rattle.dex_ring.specs.declared.ring_view.RingView.{RingView}
+use Rattle.dex_take.specs.declared.take_input.TakeInput.{TakeInput}
 use Rattle.dex_accounts.specs.Parts.{AreSoundParts, MarketParts, side_orders, with_side}
 
 -- the bytes of the market account and of the event queue, and the orders of the side that is met
@@ -38,6 +39,10 @@ handed orders market opposite ring = given market.bytes.now ring.bytes.now (orde
 -- what a call that decides a take is shown
 abbrev pub shown : {B : Type 0} → (B → List Order) → MarketRef → B → RingRef → TakeGiven
 shown orders market opposite ring = given market.bytes.now ring.bytes.now (orders opposite)
+
+-- what a call that decides a take is shown in one value
+abbrev pub shown_in : {B : Type 0} → (B → List Order) → TakeInput B → TakeGiven
+shown_in orders input = shown orders input.market input.opposite.now input.ring
 
 -- what a take of the side is given of the parts of a market
 abbrev pub take_given : Side → MarketParts → TakeGiven

@@ -17,7 +17,8 @@ use Rattle.dex_take.specs.Taking.{IsDecided, meeting_in, moved_in}
 abbrev pub met_in : Taker → TakeGiven → Meeting
 met_in taker given = meeting_in taker.id_side (bare_take taker) (read_of given)
 
--- what is left: the market's funds are written, the makers' events are appended, and the orders that were met are gone or smaller
+-- what is left: the market's funds are written, the makers' events are appended, and the orders that were met are gone
+-- or smaller
 abbrev pub taken : Taker → TakeGiven → TakeGiven
 taken taker given = record {
   market = bytes_after (moved_in taker.id_side (bare_take taker) (read_of given)) (kept_of (bare_take taker) (met_in taker given)) given.market;

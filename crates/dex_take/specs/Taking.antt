@@ -105,8 +105,8 @@ pub record IsBacked (side : Side) (read : TakeRead) : Type 0 where
   pub fits : locked (opposite side) (sizes_in read) read.opposing < 2 ^ 64
   pub held : locked (opposite side) (sizes_in read) read.opposing ≤ vault_of (gained_token side) read.words
 
--- the plan says what the take does with what is given, and it can be done there: its native base fits, its events have room,
--- and the words of the market can take in and pay out what it moves
+-- the plan says what the take does with what is given, and it can be done there: its native base fits, its events have
+-- room, and the words of the market can take in and pay out what it moves
 pub record CanBeDone (plan : TakePlan) (taker : Taker) (read : TakeRead) : Type 0 where
   pub planned : plan ≡ plan_in taker.id_side (bare_take taker) read
   pub size : ask_too_large taker.id_side (sizes_in read) taker.lots ≡ None

@@ -8,12 +8,12 @@ ghost use Rattle.dex_ring.specs.Ring.{IsEventQueue, ring_of};
 ghost use Rattle.dex_take.specs.Exchanging as exchanging;
 ghost use Rattle.dex_take.specs.TakeGiven.{IsOfSound, handed, read_of};
 ghost use Rattle.dex_take.specs.Taken.{met_in, reply_in, taken};
-ghost use Rattle.dex_take.specs.Taking.{CanBeDone, IsBacked, IsDecided};
+ghost use Rattle.dex_take.specs.Taking.{IsDecided};
 
 use crate::plan::{Exchange, TakePlan, exchange_of};
 use crate::terms::{terms_of, want_of};
 use dex_market::{MarketFunds, MarketView};
-use dex_match::Taker;
+use dex_match::{Taker, amounts_fit};
 use dex_meet::meet_side;
 use dex_ring::RingView;
 use dex_types::{Reply, SideBook};
@@ -35,44 +35,9 @@ fn pay(market: &mut MarketView<'_>, moved: Exchange, kept: u64)
     market.set_funds(funds);
 }
 
-/// Does a take that can be done, and answers what it filled.
-pub(crate) fn apply<B: SideBook>(
-    plan: &TakePlan,
-    taker: Taker,
-    market: &mut MarketView<'_>,
-    opposite: &mut B,
-    ring: &mut RingView<'_>,
-) -> Reply
-    requires holds { B.holds opposite.old }
-    requires market { IsMarket market.old.bytes.now }
-    requires events { IsEventQueue ring.old.bytes.now }
-    requires backed { IsBacked taker.id_side (read_of (handed B.orders market.old opposite.old ring.old)) }
-    requires can { CanBeDone plan.now taker (read_of (handed B.orders market.old opposite.old ring.old)) }
-    ensures reply { result ≡ reply_in taker (handed B.orders market.old opposite.old ring.old) }
-    ensures does { handed B.orders market.new opposite.new ring.new
-        ≡ taken taker (handed B.orders market.old opposite.old ring.old) }
-    ensures list { let before = handed B.orders market.old opposite.old ring.old in
-        ring_of ring.new.bytes.now ≡ appended (met_in taker before).events (ring_of before.events) }
-    ensures account { KeepsMarket market.old market.new }
-    ensures queue { KeepsEvents ring.old ring.new }
-    ensures side { KeepsSide B.holds B.same_place B.side B.room opposite.old opposite.new }
-{
-    let sizes = market.sizes();
-    let side = taker.id_side;
-    let terms = terms_of(sizes, taker);
-    let want = want_of(sizes, taker);
-    let met = meet_side(side, terms, want, opposite, ring);
-    pay(market, exchange_of(side, plan), plan.fee - met.sums.rebates);
-    Reply::Took {
-        lots: plan.lots,
-        pc: plan.pc,
-        fee: plan.fee,
-    }
-}
-
-/// Does a take as it was decided, and answers what it filled. The orders that it meets leave the book or lose lots, their
-/// events are appended to the queue; of the market account the deposits and the pc fees are written, which keep the fee
-/// less the makers' rebates; all other bytes of that account stay.
+/// Does a take as it was decided, and answers what it filled. The orders that it meets leave the book or lose lots,
+/// their events are appended to the queue; of the market account the deposits and the pc fees are written, which keep
+/// the fee less the makers' rebates; all other bytes of that account stay.
 pub fn apply_take<B: SideBook>(
     plan: &TakePlan,
     taker: &Taker,
@@ -92,5 +57,17 @@ pub fn apply_take<B: SideBook>(
     ensures queue { KeepsEvents ring.old ring.new }
     ensures side { KeepsSide B.holds B.same_place B.side B.room opposite.old opposite.new }
 {
-    apply(plan, *taker, market, opposite, ring)
+    let taker = *taker;
+    amounts_fit(taker);
+    let sizes = market.sizes();
+    let side = taker.id_side;
+    let terms = terms_of(sizes, taker);
+    let want = want_of(sizes, taker);
+    let met = meet_side(side, terms, want, opposite, ring);
+    pay(market, exchange_of(side, plan), plan.fee - met.sums.rebates);
+    Reply::Took {
+        lots: plan.lots,
+        pc: plan.pc,
+        fee: plan.fee,
+    }
 }

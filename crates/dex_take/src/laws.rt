@@ -28,8 +28,8 @@ pub fn what_is_decided_is_the_markets()
         ≡ why_taking side t seen (take_reading side t seen m) }
 {}
 
-/// With what a take left put back, the parts of a sound market are those of the market after it, whatever its least fill;
-/// and its reply is the market's.
+/// With what a take left put back, the parts of a sound market are those of the market after it, whatever its least
+/// fill; and its reply is the market's.
 pub fn a_take_leaves_the_market_after_it()
     ensures after { (plan : TakePlan) (taker : Taker) (min_lots min_pc : ℕ) (parts : MarketParts)
         (left : TakeGiven) (m : Market) →

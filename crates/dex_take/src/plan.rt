@@ -9,9 +9,9 @@ use dex_meet::Sums;
 use dex_ring::PendingFills;
 use dex_types::{Lots, Side};
 
-/// What an accepted take does: the native amount from the paying wallet into its vault and the one from the other vault to
-/// the other wallet, the base lots and the native quote that fill, and its fee in native quote. A bid pays quote and the
-/// fee and gets base; an ask pays base and gets quote less the fee.
+/// What an accepted take does: the native amount from the paying wallet into its vault and the one from the other vault
+/// to the other wallet, the base lots and the native quote that fill, and its fee in native quote. A bid pays quote and
+/// the fee and gets base; an ask pays base and gets quote less the fee.
 #[derive(Clone, Copy, Debug, PartialEq, Eq)]
 pub struct TakePlan {
     pub deposit: u64,

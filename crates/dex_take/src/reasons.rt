@@ -15,9 +15,9 @@ use dex_types::{Refusal, Seen, Side};
 
 /// What a take has to fill at least, in base lots and in native quote with its fee.
 #[derive(Clone, Copy)]
-pub(crate) struct LeastFill {
-    pub(crate) lots: u64,
-    pub(crate) pc: u64,
+pub struct LeastFill {
+    pub lots: u64,
+    pub pc: u64,
 }
 
 /// The plan fills too few lots, or else too little quote: a bid's with its fee, an ask's less its fee.
@@ -61,8 +61,8 @@ pub(crate) fn fill_reason(
         .or(too_full(seen, paid, seen.pc))
 }
 
-/// The first vault, base before quote, that would be 2^64 or more with what pending makers' fills are then still to take
-/// off totals, which are these two sums.
+/// The first vault, base before quote, that would be 2^64 or more with what pending makers' fills are then still to
+/// take off totals, which are these two sums.
 pub(crate) fn bound_reason(
     market: &MarketRef<'_>,
     side: Side,

@@ -10,8 +10,8 @@ use dex_match::Taker;
 use dex_meet::{Terms, Want};
 use dex_types::{Lots, OrderType, SelfTrade};
 
-/// What a take keeps to while it meets the opposite side. It has no owner, so no order is its own and the self-trade rule
-/// decides nothing.
+/// What a take keeps to while it meets the opposite side. It has no owner, so no order is its own and the self-trade
+/// rule decides nothing.
 pub(crate) fn terms_of(sizes: Lots, taker: Taker) -> Terms
     ensures keeps { taking result ≡ take_terms sizes (bare_take taker) }
     ensures sizes { result.sizes ≡ sizes }

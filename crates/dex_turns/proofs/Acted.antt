@@ -1,4 +1,4 @@
--- A row that acts on its market and on the cells in hand, or is held back there, and what is told of it.
+-- A row that acts on its market and on the cells in hand, or is held back there, and what is recorded of it.
 use Rattle.std.proofs.Common.{◌≡◌, ℕ, ◌&&◌, ◌||◌, not, Bool, true, false, List, [], ◌∷◌, is_some, Option, Some, None, Result, Ok, Err, refl, sym, ap, ◌∙◌, subst}
 use Rattle.dex_fold.proofs.Common.{AllZip, Refusal, Row, decoded, false≢true, row_of, All-cons, All-nil, Call, Market, PlainMarketAccounts, PlainRow, Seen, Sees, Step, asked_of, idle-step, is_done, is_held, is_refusal, is_refused, is_take, request_of, row_step, row_wallets, seen_by, step-refused, why}
 use Rattle.dex_turns.proofs.Common.{AreAllOrNone, AreInHand, CellState, Fits, HasEntry, IsAsOthers, IsSight, MarketCellState, PlainScript, SeesCells, Stamped, roles_of, world_with}
@@ -33,7 +33,7 @@ module _ (script : PlainScript) (row : PlainRow) (cells lent : List CellState) (
   sees-own fits =
       subst (λ (s : Seen). SeesCells s cells) (sym seen-is) (sees-hand script row cells hand (subst (λ (s : Seen). All Fits (roles_of s)) seen-is fits))
 
-  -- what is told of its call
+  -- what is recorded of its call
   pub is-told : (waits : Bool) (m : Market) (stamp : ℕ) → IsTold script (record { item = made_by waits row seen m; stamp = stamp })
   is-told waits m stamp =
       let s : Step = row_step (doing waits row) seen m in

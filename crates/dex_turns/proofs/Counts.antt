@@ -81,7 +81,7 @@ calls-pass q calls rows are =
     ∙ ap (λ (asked : List Asked). length (filter q asked)) are
     ∙ length-filter_map q asked_of rows
 
--- a row that is still to come, behind so many rows and some between
+-- a row that is still to come, after so many rows and some between
 pub record IsAhead (rows : List PlainRow) (done : ℕ) (row : PlainRow) : Type 0 where
   pub between : List PlainRow
   pub later : List PlainRow

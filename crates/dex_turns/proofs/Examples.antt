@@ -33,7 +33,7 @@ use Rattle.dex_turns.specs.Turns.{AreRising, HoldsTurn, IsAboveMarkets, IsAboveW
 
 -- ---- items
 
--- two rows of one number are one item, in their order, and the row behind them is another
+-- two rows of one number are one item, in their order, and the row after them is another
 abbrev numbered : ℕ → PlainRow → PlainRow
 numbered number row = record row { number = number }
 

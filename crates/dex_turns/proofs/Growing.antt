@@ -36,7 +36,7 @@ module _ {A : Type 0} (key : A → Address) where
         let parts = or_parts (is_same address (key x)) (list_any (λ y. is_same address (key y)) xs) none in
         (others x (is_same-sym (key x) address ∙ parts.0) p q all.0, rest-three xs before after parts.1 all.1)
 
-    -- what holds where one place was set before and is set behind
+    -- what holds where one place was set before and is set after
     pub set-three : (xs : List A) (before mid : List P) (place : ℕ) (out left : P) → Differ xs → place < length xs → ((d : A) → key (get_or xs place d) ≡ address)
         → AllThree R xs (set before place out) mid → ((d : A) (e : P) → S (get_or xs place d) (get_or before place e) left)
         → AllThree S xs before (set mid place left)

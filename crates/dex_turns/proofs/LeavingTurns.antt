@@ -41,7 +41,7 @@ module _ (written : Written) (trail : TrailState) (cell : CellState) (entry : Ha
         length-append trail.before.entries (entry.entry ∷ []),
       )
 
-  -- its journal has the item's entry behind the others
+  -- its journal has the item's entry after the others
   pub entries-put : IsBankWallet put_back → wallet_entries put_back ≡ wallet_entries (left_by trail) ++ written.at trail.before.address
   entries-put kept =
       ap (λ (l : List WalletEntry). stamped l (trail.stamps ++ written.stamp ∷ [])) entry.entries

@@ -1,4 +1,4 @@
--- The cells in hand of two legs that share no wallet: what the second sees behind the first, and what both write.
+-- The cells in hand of two legs that share no wallet: what the second sees after the first, and what both write.
 use Rattle.std.proofs.Common.{◌≡◌, ℕ, ◌<◌, ◌||◌, Bool, true, false, cond, List, [], ◌∷◌, ◌++◌, length, map, Option, Some, None, refl, sym, ap, ◌∙◌, subst, arith, ⊎_elim}
 use Rattle.dex_fold.proofs.Common.{Address, All-cons, All-head, All-nil, All-tail, AllZip, Call, Market, PlainRow, Seen, Sees, ShareNothing, Step, Transfers, WalletEntry, WalletState, act, acted, asked_of, cases_Bool, false≢true, is_same, list_any, movement_of, names, row_step, row_wallets, seen_by, wallet_acted, wallet_moved}
 use Rattle.dex_turns.proofs.Common.{CellState, HasEntry, IsWalletCell, PlainScript, Stamped, entries_in, made_of, wallet_state_of, world_with}
@@ -109,7 +109,7 @@ among-addresses : (address : Address) (cells : List CellState) → is_among addr
 among-addresses address [] = refl
 among-addresses address (cell ∷ cells) = ap (λ (b : Bool). is_same address cell.address || b) (among-addresses address cells)
 
--- so the second can be seen to and act behind the first
+-- so the second can be seen to and act after the first
 pub hands-behind : (first second : PlainRow) → ShareNothing first second → (waits : Bool) (seen : Seen) (t : Transfers) (script : PlainScript) (before after : List CellState)
     → HaveActed (doing waits first) seen t before after → HasHands script second before → HasHands script second after
 hands-behind first second share waits seen t script before after moved hands =

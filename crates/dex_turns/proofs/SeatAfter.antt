@@ -50,7 +50,7 @@ within-gates bank kept address place at =
 abbrev IsAtMarket : GateView (Stamped Call) MarketOrigin → MarketPass → Type 0
 IsAtMarket gate pass = pass.gate ≡ Some gate
 
--- what holds of all holds of those behind
+-- what holds of all holds of those after
 all-back : {A : Type 0} (P : A → Type 0) (front rest : List A) → All P (front ++ rest) → All P rest
 all-back P [] rest all = all
 all-back P (x ∷ front) rest all = all-back P front rest (All-tail P x (front ++ rest) all)

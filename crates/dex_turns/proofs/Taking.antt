@@ -78,7 +78,7 @@ module _ (bank : BankState) (named : List Address) (lane : ℕ) (address : Addre
       all-midst (λ (a : Address). list_any (is_same a) named ≡ true) (map address_in hands) address others
       (subst (All (λ (a : Address). list_any (is_same a) named ≡ true)) (sym hand.are) (each-any named))
 
-  -- and lower than those behind it, so none of them
+  -- and lower than those after it, so none of them
   rising : AreRising (address ∷ others)
   rising = rising-behind (map address_in hands) (address ∷ others) (subst AreRising (sym hand.are) may.rising)
 
@@ -308,7 +308,7 @@ module _ {bank : BankState} {named : List Address} {lane : ℕ} {address : Addre
 
 -- ---- the wallets still to come
 
--- those behind the first
+-- those after the first
 abbrev pub rest_of : List (Option Address) → List (Option Address)
 rest_of others = take (length others - 1) (drop 1 others)
 

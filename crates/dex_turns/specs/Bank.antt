@@ -16,7 +16,7 @@ pub record BankState : Type 0 where
   pub markets : List (GateView (Stamped Call) MarketOrigin)
   pub wallets : List (GateView (Stamped WalletEntry) WalletOrigin)
 
--- a gate that was opened so, with nothing made yet, and has a pass for each of so many lanes
+-- a gate that was opened so, with nothing made yet, and has a pass for each of this many lanes
 pub record IsGate {E O : Type 0} (lanes : ℕ) (from : O) (gate : GateView E O) : Type 0 where
   pub origin : gate.origin ≡ from
   pub opening : gate.opening ≡ []

@@ -1,4 +1,4 @@
--- What is told of the two legs of a swap, and what they write.
+-- What is recorded of the two legs of a swap, and what they write.
 use Rattle.dex_types.specs.declared.rows.Row.{Row}
 use Rattle.dex_history.specs.Journal.{Call}
 use Rattle.dex_stamps.specs.Stamped.{Stamped}

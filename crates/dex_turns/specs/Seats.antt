@@ -15,8 +15,8 @@ use Rattle.dex_fold.specs.Items.{rows_of_lane}
 use Rattle.dex_journals.specs.Lanes.{IsLane, Lane}
 use Rattle.dex_turns.specs.Bank.{BankState}
 
--- a lane of a script, the calls that it made so far and the last stamp of them (0 where there is none), and its pass for each
--- market and each wallet, in declared order
+-- a lane of a script, the calls that it made so far and the last stamp of them (0 where there is none), and its pass
+-- for each market and each wallet, in declared order
 pub record SeatState : Type 0 where
   pub lane : ℕ
   pub script : PlainScript

@@ -35,8 +35,8 @@ pub record HasMade {E O : Type 0} (made : List E) (Legal : List E → Type 0) (b
   pub last : after.seen ≡ earlier ++ made
   pub legal : Legal after.seen
 
--- the row is one on this market: the pass has seen a longer history, which is legal from the market's start and ends with the
--- call, and has made the call
+-- the row is one on this market: the pass has seen a longer history, which is legal from the market's start and ends
+-- with the call, and has made the call
 abbrev pub HasCalled : Stamped Call → PlainMarketAccounts → PassView (Stamped Call) MarketOrigin
     → PassView (Stamped Call) MarketOrigin → Type 0
 HasCalled call start before after =
@@ -60,8 +60,8 @@ written_by_two one two = record {
 abbrev pub written_by : Stamped Call → Written
 written_by call = record { lane = call.item.asked.lane; stamp = call.stamp; at = λ address. entries_in address call }
 
--- the item names this wallet: the pass has seen a longer history of movements, which is legal from the wallet's first amount and
--- ends with what the item writes there, and has made that
+-- the item names this wallet: the pass has seen a longer history of movements, which is legal from the wallet's first
+-- amount and ends with what the item writes there, and has made that
 abbrev pub HasWritten : Written → PlainAccount → PassView (Stamped WalletEntry) WalletOrigin
     → PassView (Stamped WalletEntry) WalletOrigin → Type 0
 HasWritten written start before after =
@@ -78,7 +78,8 @@ abbrev pub Where : Bool → Type 0 → Type 0 → Type 0
 Where true here elsewhere = here
 Where false here elsewhere = elsewhere
 
--- where the first or the second of two acts on a market or wallet, this holds of its pass; and where neither does, it is as it was
+-- where the first or the second of two acts on a market or wallet, this holds of its pass; and where neither does, it
+-- is as it was
 pub record WhereEither (one other : Bool) (One Other Elsewhere : Type 0) : Type 0 where
   pub first : one ≡ true → One
   pub second : other ≡ true → Other
@@ -94,8 +95,8 @@ abbrev pub WalletGrows : PlainRow → Stamped Call → PlainAccount → PassView
     → PassView (Stamped WalletEntry) WalletOrigin → Type 0
 WalletGrows row call start before after = Where (names row start.address) (HasMoved call start before after) (after ≡ before)
 
--- the row is the next of the seat's lane, behind those of its calls, whose numbers are lower; and it is an item by itself: those behind
--- it have higher numbers
+-- the row is the next of the seat's lane, after those of its calls, whose numbers are lower; and it is an item by
+-- itself: those after it have higher numbers
 pub record IsNext (row : PlainRow) (seat : SeatState) : Type 0 where
   pub later : List PlainRow
   pub is : rows_of_lane seat.lane seat.script.rows
@@ -104,8 +105,9 @@ pub record IsNext (row : PlainRow) (seat : SeatState) : Type 0 where
       (take (length seat.calls) (rows_of_lane seat.lane seat.script.rows))
   pub alone : All (λ (other : PlainRow). row.number < other.number) later
 
--- a row was submitted at a seat: its lane has one call more, which is this row's, has this reply, was not held back, saw the script's wallets,
--- and moves each wallet that the row names once; and the passes of its market and of these wallets have grown by it, and no others
+-- a row was submitted at a seat: its lane has one call more, which is this row's, has this reply, was not held back,
+-- saw the script's wallets, and moves each wallet that the row names once; and the passes of its market and of these
+-- wallets have grown by it, and no others
 pub record HasSubmitted (row : PlainRow) (reply : Reply) (before after : SeatState) : Type 0 where
   pub call : Stamped Call
   pub asked : call.item.asked ≡ asked_of row
@@ -134,7 +136,8 @@ LegWalletGrows first second one two start before after =
     WhereEither (names first start.address) (names second start.address) (HasMoved one start before after)
     (HasMoved two start before after) (after ≡ before)
 
--- the rows are the two legs of one swap, and the next of the seat's lane, behind those of its calls, whose numbers are lower
+-- the rows are the two legs of one swap, and the next of the seat's lane, after those of its calls, whose numbers are
+-- lower
 pub record AreNext (first second : PlainRow) (seat : SeatState) : Type 0 where
   pub later : List PlainRow
   pub are : rows_of_lane seat.lane seat.script.rows
@@ -144,8 +147,8 @@ pub record AreNext (first second : PlainRow) (seat : SeatState) : Type 0 where
   pub together : second.number ≡ first.number
   pub legs : AreLegs first second
 
--- the replies to two legs: both took; or one at least is a refusal, neither took, and each that is no refusal tells that nothing was
--- done, which it does only where the other is a refusal
+-- the replies to two legs: both took; or one at least is a refusal, neither took, and each that is no refusal tells
+-- that nothing was done, which it does only where the other is a refusal
 pub record AreLegReplies (one other : Reply) : Type 0 where
   pub both : is_took one ≡ is_took other
   pub refused : is_took one ≡ false → (is_refusal one || is_refusal other) ≡ true
@@ -154,9 +157,10 @@ pub record AreLegReplies (one other : Reply) : Type 0 where
   pub told : (is_took one || is_refusal one || is_done one) ≡ true
   pub other_told : (is_took other || is_refusal other || is_done other) ≡ true
 
--- two legs were submitted at a seat: its lane has two calls more, which are theirs, under one stamp; both acted, or one at least was
--- refused and each other held back; each saw the script's wallets and moves each wallet that its leg names once; and the passes of
--- their markets and wallets have grown by them, each by that of the leg that acts there, and no others
+-- two legs were submitted at a seat: its lane has two calls more, which are theirs, under one stamp; both acted, or one
+-- at least was refused and each other held back; each saw the script's wallets and moves each wallet that its leg names
+-- once; and the passes of their markets and wallets have grown by them, each by that of the leg that acts there, and no
+-- others
 pub record HaveSubmitted (first second : PlainRow) (replies : Reply × Reply) (before after : SeatState) : Type 0 where
   pub one : Stamped Call
   pub two : Stamped Call

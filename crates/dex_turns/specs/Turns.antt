@@ -76,7 +76,8 @@ pub record MayCall (row : PlainRow) (market : BankMarketState) : Type 0 where
   pub lane : calls_by row.lane market.cell.calls
       < length (rows_of_market row.lane market.cell.start.address market.script.rows)
 
--- the pass may draw at the gate of the row's market: it is of the row's lane, which has made fewer calls there than it has rows
+-- the pass may draw at the gate of the row's market: it is of the row's lane, which has made fewer calls there than it
+-- has rows
 pub record MayEnter (script : PlainScript) (row : PlainRow) (gate : GateView (Stamped Call) MarketOrigin)
     (pass : PassView (Stamped Call) MarketOrigin) : Type 0 where
   pub home : pass.gate ≡ Some gate
@@ -97,7 +98,7 @@ pub record IsMarketOut (gate : GateView (Stamped Call) MarketOrigin)
       (added gate.opening (market_calls market)) ≡ before.mine
   pub kept : IsBankMarket market
 
--- the market has the call behind its others
+-- the market has the call after its others
 pub record HasCall (call : Stamped Call) (before after : BankMarketState) : Type 0 where
   pub calls : after.cell.calls ≡ before.cell.calls ++ call.item ∷ []
   pub stamps : after.stamps ≡ before.stamps ++ call.stamp ∷ []
@@ -216,7 +217,7 @@ pub record AreInHand (script : PlainScript) (named : List Address) (others : Lis
   pub ready : All (IsReady script) cells
   pub are : map (λ (cell : CellState). cell.address) cells ++ others ≡ named
 
--- the cell has the item's entry behind its others
+-- the cell has the item's entry after its others
 pub record HasEntry (written : Written) (before after : CellState) : Type 0 where
   pub entry : WalletEntry
   pub is : written.at before.address ≡ record { item = entry; stamp = written.stamp } ∷ []
@@ -227,8 +228,8 @@ pub record HasEntry (written : Written) (before after : CellState) : Type 0 wher
 
 -- ---- the passes for its wallets
 
--- a pass is of the lane, and where its wallet is still to come it holds no ticket, and its lane has made fewer entries there than it
--- has rows that name the wallet; where it holds a turn its wallet is below all that are still to come
+-- a pass is of the lane, and where its wallet is still to come it holds no ticket, and its lane has made fewer entries
+-- there than it has rows that name the wallet; where it holds a turn its wallet is below all that are still to come
 pub record MayDraw (script : PlainScript) (lane : ℕ) (others : List Address) (start : PlainAccount)
     (pass : PassView (Stamped WalletEntry) WalletOrigin) : Type 0 where
   pub number : pass.number ≡ lane
@@ -293,7 +294,7 @@ pub record MayLeave (written : Written) (gate : GateView (Stamped WalletEntry) W
       < length (rows_of_wallet written.lane trail.before.address trail.script.rows)
   pub stamp : trail.last < written.stamp
 
--- the turn was left: the pass has seen the entry behind the others, and has made it
+-- the turn was left: the pass has seen the entry after the others, and has made it
 pub record HasLeft (written : Written) (trail : TrailState)
     (before after : PassView (Stamped WalletEntry) WalletOrigin) : Type 0 where
   pub pass : after ≡ record before {
@@ -331,7 +332,7 @@ pub record HaveLegsActed (script : PlainScript) (one two : Stamped Call) (before
   pub first : HasCall one before.first after.first
   pub second : HasCall two before.second after.second
 
--- what is told of two legs: both did what they ask, or neither, under one stamp above this one
+-- what is recorded of two legs: both did what they ask, or neither, under one stamp above this one
 pub record HaveLegsTold (script : PlainScript) (stamp : ℕ) (one two : Stamped Call) : Type 0 where
   pub together : two.stamp ≡ one.stamp
   pub all_or_none : AreAllOrNone (record { first = one; others = two ∷ [] })

@@ -17,7 +17,7 @@ use dex_wallet::WalletCell;
 pub(crate) trait Acts {
     /// The markets.
     type Markets;
-    /// What is told of the rows.
+    /// What is recorded of the rows.
     type Made;
 
     /// The lane of the rows.

@@ -22,7 +22,7 @@ pub(crate) struct TwoMarkets {
     pub(crate) second: BankMarket,
 }
 
-/// What is told of the legs.
+/// What is recorded of the legs.
 #[derive(Drop)]
 pub(crate) struct TwoRecords {
     pub(crate) first: StampedRecord,

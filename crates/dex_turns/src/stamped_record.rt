@@ -1,4 +1,4 @@
-//! What is told of a call beside its row.
+//! What is recorded of a call beside its row.
 
 ghost use Rattle.std.specs.Prelude.{◌≡◌};
 
@@ -17,7 +17,7 @@ pub struct StampedRecord {
 }
 
 impl StampedRecord {
-    /// What is told of an entry.
+    /// What is recorded of an entry.
     pub(crate) fn of(seen: &Seen, entry: &Entry, stamp: Stamp) -> StampedRecord
         ensures seen { result.seen.value ≡ seen.now }
         ensures entry { result.entry.value ≡ entry.now }

@@ -57,7 +57,7 @@ fn act_or_hold(
     }
 }
 
-/// A row acts or is held back, and this is what is told of it.
+/// A row acts or is held back, and this is what is recorded of it.
 pub(crate) fn act_or_wait(
     market: &mut BankMarket,
     hands: &mut Vec<WalletCell>,

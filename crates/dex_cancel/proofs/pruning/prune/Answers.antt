@@ -1,4 +1,4 @@
-use Rattle.std.proofs.Common.{◌-◌, length-append, take, sym, ap, ◌∙◌, arith}
+use Rattle.std.proofs.Common.{◌-◌, length-append, take, sym, ap, ◌∙◌, arith, rules}
 use Rattle.std.proofs.lemmas.List.{length-take}
 use Rattle.dex_types.specs.declared.terms.Side.TheVariants.{Bid, Ask}
 use Rattle.dex_types.specs.Cancel.{all_orders_of, orders_of}
@@ -31,8 +31,8 @@ prune_side-requires-clause-can g c =
           ));
     }
 
-pub returns-clause-left : goal.returns-clause-left
-returns-clause-left g c =
+pub returns : goal.returns
+returns g c =
     let bids = g.B.SideRead.orders c.args.bids.now in
     let asks = g.A.SideRead.orders c.args.asks.now in
     let own = orders_of c.args.account Bid bids in
@@ -43,12 +43,28 @@ returns-clause-left g c =
     let left = asks_of_first-left c.args.account c.args.limit _ _ bids c.from-limit.ensures c.prune_side-taken.ensures.count in
     let outs = first.queue ∙ ap (λ n. with_outs c.args.sizes (take n own) ring) c.from-limit.ensures in
     record {
-      bids = first.orders ∙ ap (λ n. without_all Bid (take n own) bids) c.from-limit.ensures ∙ sym (bids-pruned c.args.account c.args.limit bids asks);
-      asks = second.orders ∙ ap (λ n. without_all Ask (take n later) asks) left ∙ sym (asks-pruned c.args.account c.args.limit bids asks);
-      queue =
-          second.queue
-          ∙ ap (λ n. with_outs c.args.sizes (take n later) (queue_of c.prune_side-taken.new.ring.bytes.now)) left
-          ∙ ap (with_outs c.args.sizes (take (asks_of_first c.args.account c.args.limit bids) later)) outs
-          ∙ sym (outs-pruned c.args.sizes c.args.account c.args.limit bids asks ring);
-      accepted = second.accepted;
+      count =
+          omega (
+            arith,
+            c.from-limit.ensures,
+            c.prune_side-taken.ensures.count,
+            c.prune_side.ensures.count,
+            length-take c.from-limit.result own,
+            length-take (c.from-limit.result - c.prune_side-taken.result) later,
+            length-take c.args.limit (all_orders_of c.args.account bids asks),
+            length-append own later,
+          );
+      left = record {
+        bids = first.orders ∙ ap (λ n. without_all Bid (take n own) bids) c.from-limit.ensures ∙ sym (bids-pruned c.args.account c.args.limit bids asks);
+        asks = second.orders ∙ ap (λ n. without_all Ask (take n later) asks) left ∙ sym (asks-pruned c.args.account c.args.limit bids asks);
+        queue =
+            second.queue
+            ∙ ap (λ n. with_outs c.args.sizes (take n later) (queue_of c.prune_side-taken.new.ring.bytes.now)) left
+            ∙ ap (with_outs c.args.sizes (take (asks_of_first c.args.account c.args.limit bids) later)) outs
+            ∙ sym (outs-pruned c.args.sizes c.args.account c.args.limit bids asks ring);
+        accepted = second.accepted;
+      };
+      bids = search rules;
+      asks = search rules;
+      place = search rules;
     }

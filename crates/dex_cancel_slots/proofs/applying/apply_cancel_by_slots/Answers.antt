@@ -11,12 +11,12 @@ cancel_all-requires-clause-open g c = c.requires.market.has.accepted
 pub cancel_all-requires-clause-names : goal.cancel_all-requires-clause-names
 cancel_all-requires-clause-names g c =
     let given = handed c.args.sizes g.B.SideRead.orders g.A.SideRead.orders c.args.bids.now c.args.asks.now c.args.ring.now in
-    given-names c.args.account c.args.orders.now.bytes.now given c.requires.market
+    given-names c.args.owner.account c.args.owner.orders.bytes.now given c.requires.market
 
 pub cancel_all-requires-clause-can : goal.cancel_all-requires-clause-can
 cancel_all-requires-clause-can g c =
     let given = handed c.args.sizes g.B.SideRead.orders g.A.SideRead.orders c.args.bids.now c.args.asks.now c.args.ring.now in
-    can-leave (named_by c.args.what.now) c.args.account given (given-sound c.args.account c.args.orders.now.bytes.now given c.requires.market) c.requires.decided
+    can-leave (named_by c.args.what.now) c.args.owner.account given (given-sound c.args.owner.account c.args.owner.orders.bytes.now given c.requires.market) c.requires.decided
 
 pub returns-clause-does : goal.returns-clause-does
 returns-clause-does g c =

@@ -25,11 +25,11 @@ cancel_maybe-requires-clause-rests g c =
     let bids_held = g.met.B.SideRead.is_book_side c.args.bids.now c.requires.bids in
     let asks_held = g.met.A.SideRead.is_book_side c.args.asks.now c.requires.asks in
     subst (λ gone. DoRest gone bids asks) (sym (ap at_most_one c.find_oldest-found.ensures))
-    (oldest-rests c.args.account c.in-ByClient.client bids asks (all-mine c.args.account _ _ bids asks bids_held.in_order asks_held.in_order))
+    (oldest-rests c.args.owner.account c.in-ByClient.client bids asks (all-mine c.args.owner.account _ _ bids asks bids_held.in_order asks_held.in_order))
 
 pub find_oldest-found-requires-else-client-eq0-clause-names : goal.find_oldest-found-requires-else-client-eq0-clause-names
 find_oldest-found-requires-else-client-eq0-clause-names g c =
-    names-now c.args.account (slots_in c.args.orders.now) c.args.sizes _ _ (g.B.SideRead.orders c.args.bids.now) (g.A.SideRead.orders c.args.asks.now)
+    names-now c.args.owner.account (slots_in c.args.owner.orders) c.args.sizes _ _ (g.B.SideRead.orders c.args.bids.now) (g.A.SideRead.orders c.args.asks.now)
     (queue_of c.args.ring.now.bytes.now) (g.B.SideRead.orders c.loop-place.bids) (g.A.SideRead.orders c.loop-place.asks) (queue_of c.loop-place.ring.bytes.now)
     c.loop-place.invariant.left c.requires.names
 
@@ -44,15 +44,15 @@ taken-some client resting found some named is oldest_is = ap maybe_resting is �
 pub cancel_maybe-count-requires-clause-can : goal.cancel_maybe-count-requires-clause-can
 cancel_maybe-count-requires-clause-can g c =
     let named : maybe_resting c.if-client-eq0.found ≡ taken_by (get_or c.in-ByClients.ids.ids c.loop-place.place 0)
-    (all_orders_of c.args.account (g.B.SideRead.orders c.loop-place.bids) (g.A.SideRead.orders c.loop-place.asks)) =
+    (all_orders_of c.args.owner.account (g.B.SideRead.orders c.loop-place.bids) (g.A.SideRead.orders c.loop-place.asks)) =
     elim c.if-client-eq0.branch [
       | then-client-eq0 w ↦ taken-none _ _ _ w.if-client-eq0.true w.found-is
       | else-client-eq0 w ↦ taken-some _ _ _ _ w.if-client-eq0.false w.found-is w.find_oldest-found-else-client-eq0.ensures
     ] in
     let before = handed c.args.sizes g.B.SideRead.orders g.A.SideRead.orders c.args.bids.now c.args.asks.now c.args.ring.now in
-    let can = subst (λ what. CanLeave (named_in (named_by what) c.args.account before) before) c.in-ByClients.is c.requires.can in
-    let all = all_orders_of c.args.account (g.B.SideRead.orders c.args.bids.now) (g.A.SideRead.orders c.args.asks.now) in
-    let now = all_orders_of c.args.account (g.B.SideRead.orders c.loop-place.bids) (g.A.SideRead.orders c.loop-place.asks) in
+    let can = subst (λ what. CanLeave (named_in (named_by what) c.args.owner.account before) before) c.in-ByClients.is c.requires.can in
+    let all = all_orders_of c.args.owner.account (g.B.SideRead.orders c.args.bids.now) (g.A.SideRead.orders c.args.asks.now) in
+    let now = all_orders_of c.args.owner.account (g.B.SideRead.orders c.loop-place.bids) (g.A.SideRead.orders c.loop-place.asks) in
     let held = c.loop-place.invariant in
     let ids = c.in-ByClients.ids.ids in
     let place = c.loop-place.place in
@@ -64,7 +64,7 @@ cancel_maybe-count-requires-clause-can g c =
     subst (λ one. CanLeave (at_most_one one) (handed c.args.sizes g.B.SideRead.orders g.A.SideRead.orders c.loop-place.bids c.loop-place.asks c.loop-place.ring)) (sym named) (record {
       accepted = held.accepted;
       locks =
-          locks-now c.args.sizes c.args.account _ _ (g.B.SideRead.orders c.args.bids.now) (g.A.SideRead.orders c.args.asks.now) (queue_of c.args.ring.now.bytes.now)
+          locks-now c.args.sizes c.args.owner.account _ _ (g.B.SideRead.orders c.args.bids.now) (g.A.SideRead.orders c.args.asks.now) (queue_of c.args.ring.now.bytes.now)
           (g.B.SideRead.orders c.loop-place.bids) (g.A.SideRead.orders c.loop-place.asks) (queue_of c.loop-place.ring.bytes.now) held.left can.locks;
       room =
           room-now c.args.sizes (taken_by_all (take place clients) all) (at_most_one (taken_by client now)) (taken_by_all clients all) (queue_of c.args.ring.now.bytes.now)
@@ -75,7 +75,7 @@ cancel_maybe-count-requires-clause-can g c =
 pub cancel_maybe-count-requires-clause-rests : goal.cancel_maybe-count-requires-clause-rests
 cancel_maybe-count-requires-clause-rests g c =
     let named : maybe_resting c.if-client-eq0.found ≡ taken_by (get_or c.in-ByClients.ids.ids c.loop-place.place 0)
-    (all_orders_of c.args.account (g.B.SideRead.orders c.loop-place.bids) (g.A.SideRead.orders c.loop-place.asks)) =
+    (all_orders_of c.args.owner.account (g.B.SideRead.orders c.loop-place.bids) (g.A.SideRead.orders c.loop-place.asks)) =
     elim c.if-client-eq0.branch [
       | then-client-eq0 w ↦ taken-none _ _ _ w.if-client-eq0.true w.found-is
       | else-client-eq0 w ↦ taken-some _ _ _ _ w.if-client-eq0.false w.found-is w.find_oldest-found-else-client-eq0.ensures
@@ -85,12 +85,12 @@ cancel_maybe-count-requires-clause-rests g c =
     let bids_held = g.met.B.SideRead.is_book_side c.loop-place.bids c.loop-place.invariant.bids.holding in
     let asks_held = g.met.A.SideRead.is_book_side c.loop-place.asks c.loop-place.invariant.asks.holding in
     subst (λ one. DoRest (at_most_one one) bids asks) (sym named)
-    (taken-rests c.args.account (get_or c.in-ByClients.ids.ids c.loop-place.place 0) bids asks (all-mine c.args.account _ _ bids asks bids_held.in_order asks_held.in_order))
+    (taken-rests c.args.owner.account (get_or c.in-ByClients.ids.ids c.loop-place.place 0) bids asks (all-mine c.args.owner.account _ _ bids asks bids_held.in_order asks_held.in_order))
 
 pub loop-place-preserved : goal.loop-place-preserved
 loop-place-preserved g c =
     let named : maybe_resting c.if-client-eq0.found ≡ taken_by (get_or c.in-ByClients.ids.ids c.loop-place.place 0)
-    (all_orders_of c.args.account (g.B.SideRead.orders c.loop-place.bids) (g.A.SideRead.orders c.loop-place.asks)) =
+    (all_orders_of c.args.owner.account (g.B.SideRead.orders c.loop-place.bids) (g.A.SideRead.orders c.loop-place.asks)) =
     elim c.if-client-eq0.branch [
       | then-client-eq0 w ↦ taken-none _ _ _ w.if-client-eq0.true w.found-is
       | else-client-eq0 w ↦ taken-some _ _ _ _ w.if-client-eq0.false w.found-is w.find_oldest-found-else-client-eq0.ensures
@@ -98,10 +98,10 @@ loop-place-preserved g c =
     let first_bids = g.B.SideRead.orders c.args.bids.now in
     let first_asks = g.A.SideRead.orders c.args.asks.now in
     let first_ring = queue_of c.args.ring.now.bytes.now in
-    let all = all_orders_of c.args.account first_bids first_asks in
+    let all = all_orders_of c.args.owner.account first_bids first_asks in
     let bids = g.B.SideRead.orders c.loop-place.bids in
     let asks = g.A.SideRead.orders c.loop-place.asks in
-    let now = all_orders_of c.args.account bids asks in
+    let now = all_orders_of c.args.owner.account bids asks in
     let held = c.loop-place.invariant in
     let ids = c.in-ByClients.ids.ids in
     let place = c.loop-place.place in
@@ -119,12 +119,12 @@ loop-place-preserved g c =
     let does = subst (λ one. HaveLeftSo (at_most_one one) (handed c.args.sizes g.B.SideRead.orders g.A.SideRead.orders c.loop-place.bids c.loop-place.asks c.loop-place.ring)
     (handed c.args.sizes g.B.SideRead.orders g.A.SideRead.orders c.cancel_maybe-count.new.bids c.cancel_maybe-count.new.asks c.cancel_maybe-count.new.ring) c.cancel_maybe-count.result)
     named (record { count = after.count; left = after.left }) in
-    let more = listed-more c.args.sizes c.args.account (take place clients) client all first_bids first_asks first_ring bids asks (queue_of c.loop-place.ring.bytes.now)
-    new_bids new_asks new_ring held.left (all-mine c.args.account _ _ bids asks bids_held.in_order asks_held.in_order) does.left.bids does.left.asks does.left.queue in
+    let more = listed-more c.args.sizes c.args.owner.account (take place clients) client all first_bids first_asks first_ring bids asks (queue_of c.loop-place.ring.bytes.now)
+    new_bids new_asks new_ring held.left (all-mine c.args.owner.account _ _ bids asks bids_held.in_order asks_held.in_order) does.left.bids does.left.asks does.left.queue in
     let one = ap (λ os. length (at_most_one (taken_by client os))) held.left.rest in
     record {
       left =
-          subst (λ cs. IsLeft c.args.sizes c.args.account (taken_by_all cs all) (left_after cs all) first_bids first_asks first_ring new_bids new_asks new_ring) (sym next) more;
+          subst (λ cs. IsLeft c.args.sizes c.args.owner.account (taken_by_all cs all) (left_after cs all) first_bids first_asks first_ring new_bids new_asks new_ring) (sym next) more;
       count = omega (arith, held.count, does.count, one, length-next clients place client all next);
       most = omega (arith, held.most, does.count, length-at_most_one (taken_by client now));
       accepted = does.left.accepted;
@@ -152,17 +152,17 @@ prune_side-requires-clause-names g c = c.requires.names.on Ask
 pub prune_side-requires-clause-can : goal.prune_side-requires-clause-can
 prune_side-requires-clause-can g c =
     let before = handed c.args.sizes g.B.SideRead.orders g.A.SideRead.orders c.args.bids.now c.args.asks.now c.args.ring.now in
-    let can = subst (λ what. CanLeave (named_in (named_by what) c.args.account before) before) c.in-Prune.is c.requires.can in
+    let can = subst (λ what. CanLeave (named_in (named_by what) c.args.owner.account before) before) c.in-Prune.is c.requires.can in
     let bids = g.B.SideRead.orders c.args.bids.now in
     let asks = g.A.SideRead.orders c.args.asks.now in
-    let own = orders_of c.args.account Bid bids in
-    let later = orders_of c.args.account Ask asks in
+    let own = orders_of c.args.owner.account Bid bids in
+    let later = orders_of c.args.owner.account Ask asks in
     let most = c.from-limit.result in
     let taken = c.prune_side-taken.result in
     let bid = c.prune_side-taken.ensures in
     record {
       accepted = bid.left.accepted;
-      room = room-now c.args.sizes (take most own) (take (most - taken) later) (take c.in-Prune.limit (all_orders_of c.args.account bids asks)) (queue_of c.args.ring.now.bytes.now)
+      room = room-now c.args.sizes (take most own) (take (most - taken) later) (take c.in-Prune.limit (all_orders_of c.args.owner.account bids asks)) (queue_of c.args.ring.now.bytes.now)
           (queue_of c.prune_side-taken.new.ring.bytes.now) bid.left.queue can.room
           (omega (
             arith,
@@ -170,7 +170,7 @@ prune_side-requires-clause-can g c =
             bid.count,
             length-take most own,
             length-take (most - taken) later,
-            length-take c.in-Prune.limit (all_orders_of c.args.account bids asks),
+            length-take c.in-Prune.limit (all_orders_of c.args.owner.account bids asks),
             length-append own later,
           ));
     }
@@ -181,14 +181,14 @@ returns-in-Prune-clause-does g c =
     let after = handed c.args.sizes g.B.SideRead.orders g.A.SideRead.orders c.prune_side-taken.new.book c.prune_side.new.book c.prune_side.new.ring in
     let bids = g.B.SideRead.orders c.args.bids.now in
     let asks = g.A.SideRead.orders c.args.asks.now in
-    let own = orders_of c.args.account Bid bids in
-    let later = orders_of c.args.account Ask asks in
+    let own = orders_of c.args.owner.account Bid bids in
+    let later = orders_of c.args.owner.account Ask asks in
     let ring = queue_of c.args.ring.now.bytes.now in
     let first = c.prune_side-taken.ensures.left in
     let second = c.prune_side.ensures.left in
-    let left = asks_of_first-left c.args.account c.in-Prune.limit _ _ bids c.from-limit.ensures c.prune_side-taken.ensures.count in
+    let left = asks_of_first-left c.args.owner.account c.in-Prune.limit _ _ bids c.from-limit.ensures c.prune_side-taken.ensures.count in
     let outs = first.queue ∙ ap (λ n. with_outs c.args.sizes (take n own) ring) c.from-limit.ensures in
-    subst (λ what. HaveLeftSo (named_in (named_by what) c.args.account before) before after (c.prune_side-taken.result + c.prune_side.result)) (sym c.in-Prune.is) (record {
+    subst (λ what. HaveLeftSo (named_in (named_by what) c.args.owner.account before) before after (c.prune_side-taken.result + c.prune_side.result)) (sym c.in-Prune.is) (record {
       count =
           omega (
             arith,
@@ -197,17 +197,17 @@ returns-in-Prune-clause-does g c =
             c.prune_side.ensures.count,
             length-take c.from-limit.result own,
             length-take (c.from-limit.result - c.prune_side-taken.result) later,
-            length-take c.in-Prune.limit (all_orders_of c.args.account bids asks),
+            length-take c.in-Prune.limit (all_orders_of c.args.owner.account bids asks),
             length-append own later,
           );
       left = record {
-        bids = first.orders ∙ ap (λ n. without_all Bid (take n own) bids) c.from-limit.ensures ∙ sym (bids-pruned c.args.account c.in-Prune.limit bids asks);
-        asks = second.orders ∙ ap (λ n. without_all Ask (take n later) asks) left ∙ sym (asks-pruned c.args.account c.in-Prune.limit bids asks);
+        bids = first.orders ∙ ap (λ n. without_all Bid (take n own) bids) c.from-limit.ensures ∙ sym (bids-pruned c.args.owner.account c.in-Prune.limit bids asks);
+        asks = second.orders ∙ ap (λ n. without_all Ask (take n later) asks) left ∙ sym (asks-pruned c.args.owner.account c.in-Prune.limit bids asks);
         queue =
             second.queue
             ∙ ap (λ n. with_outs c.args.sizes (take n later) (queue_of c.prune_side-taken.new.ring.bytes.now)) left
-            ∙ ap (with_outs c.args.sizes (take (asks_of_first c.args.account c.in-Prune.limit bids) later)) outs
-            ∙ sym (outs-pruned c.args.sizes c.args.account c.in-Prune.limit bids asks ring);
+            ∙ ap (with_outs c.args.sizes (take (asks_of_first c.args.owner.account c.in-Prune.limit bids) later)) outs
+            ∙ sym (outs-pruned c.args.sizes c.args.owner.account c.in-Prune.limit bids asks ring);
         accepted = second.accepted;
       };
     })

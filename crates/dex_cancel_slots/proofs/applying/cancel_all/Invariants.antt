@@ -11,9 +11,9 @@ abbrev pub invariant-loop-place : goal.invariant-loop-place
 invariant-loop-place g l =
     let bids = g.B.SideRead.orders l.fn.bids in
     let asks = g.A.SideRead.orders l.fn.asks in
-    let all = all_orders_of l.fn.account bids asks in
+    let all = all_orders_of l.fn.owner.account bids asks in
     let clients = take l.ids.count l.ids.ids in record {
-      left : IsLeft l.fn.sizes l.fn.account (taken_by_all (take l.place clients) all) (left_after (take l.place clients) all) bids asks (queue_of l.fn.ring.bytes.now)
+      left : IsLeft l.fn.sizes l.fn.owner.account (taken_by_all (take l.place clients) all) (left_after (take l.place clients) all) bids asks (queue_of l.fn.ring.bytes.now)
           (g.B.SideRead.orders l.bids) (g.A.SideRead.orders l.asks) (queue_of l.ring.bytes.now);
       count : l.count ≡ length (taken_by_all (take l.place clients) all);
       most : l.count ≤ l.place;

@@ -6,7 +6,7 @@ use Rattle.dex_cancel_slots.proofs.first_own.first_own.Given as goal
 
 abbrev pub invariant-slots : goal.invariant-slots
 invariant-slots g l = record {
-  first : IsFirstTo l.fn.account (slots_in l.orders) l.side l.last (g.S.SideRead.orders l.book) l.slot l.first;
+  first : IsFirstTo l.fn.owner.account (slots_in l.owner.orders) l.side l.last (g.S.SideRead.orders l.book) l.slot l.first;
   set : l.slot < 128 → is_set l.bits l.slot ≡ true;
 }
 

@@ -14,7 +14,7 @@ use Rattle.dex_cancel_slots.proofs.pruning.prune_side.Goals as goal
 pub slots-init : goal.slots-init
 slots-init g c = record {
   pruned =
-      pruned-none c.args.sizes c.args.account (slots_in c.args.orders.now) c.args.side (g.S.SideRead.orders c.args.book.now) (queue_of c.args.ring.now.bytes.now) c.requires.names;
+      pruned-none c.args.sizes c.args.owner.account (slots_in c.args.owner.orders) c.args.side (g.S.SideRead.orders c.args.book.now) (queue_of c.args.ring.now.bytes.now) c.requires.names;
   most = omega arith;
   accepted = c.requires.can.accepted;
   book = record { holding = c.requires.holds; place = g.met.S.SideBook.stays _; side = refl; room = refl };
@@ -34,7 +34,7 @@ pub take_off-requires-clause-fits : goal.take_off-requires-clause-fits
 take_off-requires-clause-fits g c =
     let first = g.S.SideRead.orders c.args.book.now in
     let now = g.S.SideRead.orders c.slots.book in
-    let fit = fit-now c.args.sizes c.args.side (take c.slots.count (orders_of c.args.account c.args.side first)) first now
+    let fit = fit-now c.args.sizes c.args.side (take c.slots.count (orders_of c.args.owner.account c.args.side first)) first now
     c.requires.locks c.slots.invariant.pruned.orders_are in
     found-All (λ (o : Order). order_lock c.args.side c.args.sizes o < 2 ^ 64) c.in-Some.order.id c.in-Some.order now c.in-Some.ensures.rests.rests fit
 
@@ -43,8 +43,8 @@ take_off-requires-clause-can g c =
     let first = g.S.SideRead.orders c.args.book.now in
     let now = g.S.SideRead.orders c.slots.book in
     let held = c.slots.invariant in
-    let all = orders_of c.args.account c.args.side first in
-    let next = pruned-next c.args.sizes c.args.account (slots_in c.args.orders.now) c.args.side c.slots.count first (queue_of c.args.ring.now.bytes.now) c.slots.last now
+    let all = orders_of c.args.owner.account c.args.side first in
+    let next = pruned-next c.args.sizes c.args.owner.account (slots_in c.args.owner.orders) c.args.side c.slots.count first (queue_of c.args.ring.now.bytes.now) c.slots.last now
     (queue_of c.slots.ring.bytes.now) held.pruned c.in-Some.order c.in-Some.ensures in
     record {
       accepted = held.accepted;
@@ -59,7 +59,7 @@ slots-preserved g c =
     let after = c.take_off.ensures in
     record {
       pruned =
-          pruned-more c.args.sizes c.args.account (slots_in c.args.orders.now) c.args.side c.slots.count (g.S.SideRead.orders c.args.book.now) (queue_of c.args.ring.now.bytes.now)
+          pruned-more c.args.sizes c.args.owner.account (slots_in c.args.owner.orders) c.args.side c.slots.count (g.S.SideRead.orders c.args.book.now) (queue_of c.args.ring.now.bytes.now)
           c.slots.last (g.S.SideRead.orders c.slots.book) (queue_of c.slots.ring.bytes.now) held.pruned c.in-Some.order c.in-Some.ensures
           (g.S.SideRead.orders c.take_off.new.book) (queue_of c.take_off.new.ring.bytes.now) after.left.orders after.left.queue;
       most = omega (arith, c.slots-test.true);
@@ -75,7 +75,7 @@ slots-preserved g c =
 
 pub returns-in_default-clause-count : goal.returns-in_default-clause-count
 returns-in_default-clause-count g c =
-    let all = orders_of c.args.account c.args.side (g.S.SideRead.orders c.args.book.now) in
+    let all = orders_of c.args.owner.account c.args.side (g.S.SideRead.orders c.args.book.now) in
     let held = c.slots.invariant in
     let same = pruned-all _ _ _ _ c.slots.count c.args.limit _ _ _ _ _ held.pruned c.in_default.ensures held.most in
     sym (length-take-le c.slots.count all held.pruned.within) ∙ ap length same
@@ -94,7 +94,7 @@ returns-in_default-clause-left g c =
 
 pub returns-clause-count : goal.returns-clause-count
 returns-clause-count g c =
-    let all = orders_of c.args.account c.args.side (g.S.SideRead.orders c.args.book.now) in
+    let all = orders_of c.args.owner.account c.args.side (g.S.SideRead.orders c.args.book.now) in
     let held = c.slots.invariant in
     omega (arith, held.pruned.within, held.most, c.slots-test.false, length-take c.args.limit all)
 
@@ -103,7 +103,7 @@ returns-clause-left g c =
     let held = c.slots.invariant in
     let full : c.slots.count ≡ c.args.limit = omega (arith, held.most, c.slots-test.false) in
     let orders = g.S.SideRead.orders c.args.book.now in
-    let all = orders_of c.args.account c.args.side orders in
+    let all = orders_of c.args.owner.account c.args.side orders in
     let ring = queue_of c.args.ring.now.bytes.now in
     record {
       orders = held.pruned.orders_are ∙ ap (λ n. without_all c.args.side (take n all) orders) full;

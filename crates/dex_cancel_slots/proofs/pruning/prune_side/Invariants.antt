@@ -8,7 +8,7 @@ use Rattle.dex_cancel_slots.proofs.pruning.prune_side.Given as goal
 
 abbrev pub invariant-slots : goal.invariant-slots
 invariant-slots g l = record {
-  pruned : IsPrunedTo l.fn.sizes l.fn.account (slots_in l.orders) l.fn.side l.count (g.S.SideRead.orders l.fn.book) (queue_of l.fn.ring.bytes.now) l.last
+  pruned : IsPrunedTo l.fn.sizes l.fn.owner.account (slots_in l.owner.orders) l.fn.side l.count (g.S.SideRead.orders l.fn.book) (queue_of l.fn.ring.bytes.now) l.last
       (g.S.SideRead.orders l.book) (queue_of l.ring.bytes.now);
   most : l.count ≤ l.fn.limit;
   accepted : IsEventQueue l.ring.bytes.now;

@@ -18,37 +18,37 @@ use Rattle.dex_decide.proofs.ordering.decide_order_by.Goals as goal
 
 pub returns-in_default : goal.returns-in_default
 returns-in_default c =
-    let request = asked_by c.args.row.now in
+    let request = asked_by c.args.asked.row.now in
     let party = party_by c.args.acting.address c.args.acting.bytes.now in
     let side = c.args.taker.now.id_side in
     let n = order_of c.args.taker.now in
     let m = market_of c.args.accounts.now in
-    given-planned (why_order_of side n request c.args.seen.now m party) (order_planned side n m party.account) NoAccount
-    (sym (order-unpaid (market_accounts_of c.args.accounts.now) c.requires.sound side n request c.args.seen.now party (sym c.payer_seen.ensures ∙ c.in_default.is)))
+    given-planned (why_order_of side n request c.args.asked.seen.now m party) (order_planned side n m party.account) NoAccount
+    (sym (order-unpaid (market_accounts_of c.args.accounts.now) c.requires.sound side n request c.args.asked.seen.now party (sym c.payer_seen.ensures ∙ c.in_default.is)))
 
 pub returns-in-Some-wallet_reason : goal.returns-in-Some-wallet_reason
 returns-in-Some-wallet_reason c =
-    let request = asked_by c.args.row.now in
+    let request = asked_by c.args.asked.row.now in
     let party = party_by c.args.acting.address c.args.acting.bytes.now in
     let side = c.args.taker.now.id_side in
     let n = order_of c.args.taker.now in
     let m = market_of c.args.accounts.now in
-    let late = why_ordering side n (order_reading side n c.args.seen.now m party.account) in
-    given-planned (why_order_of side n request c.args.seen.now m party) (order_planned side n m party.account) c.in-Some-wallet_reason.why
+    let late = why_ordering side n (order_reading side n c.args.asked.seen.now m party.account) in
+    given-planned (why_order_of side n request c.args.asked.seen.now m party) (order_planned side n m party.account) c.in-Some-wallet_reason.why
     (ap (λ (r : Option Refusal). first_of (r ∷ late ∷ [])) (sym c.in-Some-wallet_reason.is ∙ c.wallet_reason.ensures))
 
 pub returns-in-Ok : goal.returns-in-Ok
 returns-in-Ok c =
     ok-planned (λ (d : Decided). plans.Order c.args.taker.now d.plan d.pending) _ _ c.in-Ok.decided
     (sym c.in-Ok.is ∙ c.decide_order_with.ensures
-    ∙ order-told (market_accounts_of c.args.accounts.now) c.requires.sound c.args.taker.now.id_side (order_of c.args.taker.now) (asked_by c.args.row.now)
-    c.args.seen.now c.args.acting.address c.args.acting.bytes.now c.in-Some.wallet.balance c.requires.acting c.requires.account (subst (λ (p : Option WalletSeen). IsSomeAnd p (λ (w : WalletSeen). w.balance ≡ c.in-Some.wallet.balance)) (sym (sym c.payer_seen.ensures ∙ c.in-Some.is)) refl)
+    ∙ order-told (market_accounts_of c.args.accounts.now) c.requires.sound c.args.taker.now.id_side (order_of c.args.taker.now) (asked_by c.args.asked.row.now)
+    c.args.asked.seen.now c.args.acting.address c.args.acting.bytes.now c.in-Some.wallet.balance c.requires.acting c.requires.account (subst (λ (p : Option WalletSeen). IsSomeAnd p (λ (w : WalletSeen). w.balance ≡ c.in-Some.wallet.balance)) (sym (sym c.payer_seen.ensures ∙ c.in-Some.is)) refl)
     (sym c.wallet_reason.ensures ∙ c.in_default-wallet_reason.is))
 
 pub returns-in-Err : goal.returns-in-Err
 returns-in-Err c =
     err-planned _ _ _ c.in-Err.why
     (sym c.in-Err.is ∙ c.decide_order_with.ensures
-    ∙ order-told (market_accounts_of c.args.accounts.now) c.requires.sound c.args.taker.now.id_side (order_of c.args.taker.now) (asked_by c.args.row.now)
-    c.args.seen.now c.args.acting.address c.args.acting.bytes.now c.in-Some.wallet.balance c.requires.acting c.requires.account (subst (λ (p : Option WalletSeen). IsSomeAnd p (λ (w : WalletSeen). w.balance ≡ c.in-Some.wallet.balance)) (sym (sym c.payer_seen.ensures ∙ c.in-Some.is)) refl)
+    ∙ order-told (market_accounts_of c.args.accounts.now) c.requires.sound c.args.taker.now.id_side (order_of c.args.taker.now) (asked_by c.args.asked.row.now)
+    c.args.asked.seen.now c.args.acting.address c.args.acting.bytes.now c.in-Some.wallet.balance c.requires.acting c.requires.account (subst (λ (p : Option WalletSeen). IsSomeAnd p (λ (w : WalletSeen). w.balance ≡ c.in-Some.wallet.balance)) (sym (sym c.payer_seen.ensures ∙ c.in-Some.is)) refl)
     (sym c.wallet_reason.ensures ∙ c.in_default-wallet_reason.is))

@@ -27,6 +27,6 @@ returns-in-SendTake c =
     let request = asked_by c.args.row.now in
     let seen = c.args.seen.now in
     c.decide_take_row.ensures
-    ∙ ap (λ (t : Taker). take_answer t (take_of t c.in-SendTake.min_lots c.in-SendTake.min_pc) request seen m)
+    ∙ ap (λ (t : Taker). take_answer t (take_of t c.in-SendTake.lots c.in-SendTake.pc) request seen m)
     (under-some _ _ c.taker_of-taker-in-SendTake.ensures)
     ∙ sym (ap (λ (i : Ix). answered (why_instruction i request seen m) (plan_on i request seen m)) c.in-SendTake.is)

@@ -20,7 +20,7 @@ use Rattle.dex_decide.proofs.taking.decide_take_row.Goals as goal
 pub returns-in-Some : goal.returns-in-Some
 returns-in-Some c =
     let side = c.args.taker.id_side in
-    let t = take_of c.args.taker c.args.min_lots c.args.min_pc in
+    let t = take_of c.args.taker c.args.least.lots c.args.least.pc in
     let request = asked_by c.args.row.now in
     let m = market_of c.args.accounts.now in
     let late = why_taking side t c.args.seen.now (take_reading side t c.args.seen.now m) in
@@ -31,7 +31,7 @@ pub returns-in-Ok : goal.returns-in-Ok
 returns-in-Ok c =
     let accounts = market_accounts_of c.args.accounts.now in
     let side = c.args.taker.id_side in
-    let t = take_of c.args.taker c.args.min_lots c.args.min_pc in
+    let t = take_of c.args.taker c.args.least.lots c.args.least.pc in
     let request = asked_by c.args.row.now in
     let m = market_of c.args.accounts.now in
     let read = read_of (take_given_on side c.args.accounts.now) in
@@ -49,7 +49,7 @@ pub returns-in-Err : goal.returns-in-Err
 returns-in-Err c =
     let accounts = market_accounts_of c.args.accounts.now in
     let side = c.args.taker.id_side in
-    let t = take_of c.args.taker c.args.min_lots c.args.min_pc in
+    let t = take_of c.args.taker c.args.least.lots c.args.least.pc in
     let request = asked_by c.args.row.now in
     let m = market_of c.args.accounts.now in
     let read = read_of (take_given_on side c.args.accounts.now) in

@@ -1,9 +1,12 @@
-use Rattle.dex_match.proofs.PartLaws.{locks-given}
-use Rattle.dex_match.proofs.PartsLaws.{sound-given}
 use Rattle.dex_match.proofs.deciding.decide_order.Goals as goal
 
-pub decide_with-requires-clause-account : goal.decide_with-requires-clause-account
-decide_with-requires-clause-account g c = c.requires.given.has.accepted
-
-pub decide_with-requires-clause-locks : goal.decide_with-requires-clause-locks
-decide_with-requires-clause-locks g c = locks-given c.args.taker.now.id_side c.args.taker.now.account _ (sound-given _ _ _ c.requires.given)
+pub decide_with-requires-clause-given : goal.decide_with-requires-clause-given
+decide_with-requires-clause-given g c =
+    rw (
+      c.gathered-input.ensures.market,
+      c.gathered-input.ensures.requests,
+      c.gathered-input.ensures.ring,
+      c.gathered-input.ensures.orders,
+      c.gathered-input.ensures.own,
+      c.gathered-input.ensures.opposite,
+    ) c.requires.given

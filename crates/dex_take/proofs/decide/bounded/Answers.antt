@@ -14,7 +14,7 @@ pub with_fills-left-requires-clause-base : goal.with_fills-left-requires-clause-
 with_fills-left-requires-clause-base g c =
     let taker = c.args.taker in
     let t = take_of taker c.args.least.lots c.args.least.pc in
-    let read = read_of (given c.args.market.now.bytes.now c.args.ring.now.bytes.now (g.B.SideRead.orders c.args.opposite.now)) in
+    let read = read_of (given c.args.input.now.market.bytes.now c.args.input.now.ring.bytes.now (g.B.SideRead.orders c.args.input.now.opposite.now)) in
     let fits = fits-take taker.id_side (sizes_in read) t read.opposing (omega arith) (lock-fits taker.id_side (sizes_in read) t c.requires.within.size (omega arith)) c.requires.backed.fits in
     let base : c.args.outlook.now.sums.lots * c.sizes.result.coin ≡ (meeting_in taker.id_side t read).lots * (sizes_in read).coin =
     ap (λ k. k * c.sizes.result.coin) c.requires.foreseen.lots ∙ ap (λ (s : Lots). (meeting_in taker.id_side t read).lots * s.coin) c.sizes.ensures in
@@ -24,28 +24,28 @@ pub with_fills-left-requires-clause-rebates : goal.with_fills-left-requires-clau
 with_fills-left-requires-clause-rebates g c =
     let taker = c.args.taker in
     let t = take_of taker c.args.least.lots c.args.least.pc in
-    let read = read_of (given c.args.market.now.bytes.now c.args.ring.now.bytes.now (g.B.SideRead.orders c.args.opposite.now)) in
+    let read = read_of (given c.args.input.now.market.bytes.now c.args.input.now.ring.bytes.now (g.B.SideRead.orders c.args.input.now.opposite.now)) in
     omega (arith, c.requires.foreseen.pc, c.requires.foreseen.rebates, take-covers taker.id_side (sizes_in read) t read.opposing, take_fee-part t (meeting_in taker.id_side t read))
 
 pub bound_reason-requires-clause-coin : goal.bound_reason-requires-clause-coin
 bound_reason-requires-clause-coin g c =
     let taker = c.args.taker in
     let t = take_of taker c.args.least.lots c.args.least.pc in
-    let read = read_of (given c.args.market.now.bytes.now c.args.ring.now.bytes.now (g.B.SideRead.orders c.args.opposite.now)) in
+    let read = read_of (given c.args.input.now.market.bytes.now c.args.input.now.ring.bytes.now (g.B.SideRead.orders c.args.input.now.opposite.now)) in
     omega (arith, ap (λ (p : TakePlan). (transfers_by taker.id_side p).coin_out) c.requires.foreseen.plan, (paid-out taker.id_side t read c.requires.backed).coin)
 
 pub bound_reason-requires-clause-pc : goal.bound_reason-requires-clause-pc
 bound_reason-requires-clause-pc g c =
     let taker = c.args.taker in
     let t = take_of taker c.args.least.lots c.args.least.pc in
-    let read = read_of (given c.args.market.now.bytes.now c.args.ring.now.bytes.now (g.B.SideRead.orders c.args.opposite.now)) in
+    let read = read_of (given c.args.input.now.market.bytes.now c.args.input.now.ring.bytes.now (g.B.SideRead.orders c.args.input.now.opposite.now)) in
     omega (arith, ap (λ (p : TakePlan). (transfers_by taker.id_side p).pc_out) c.requires.foreseen.plan, (paid-out taker.id_side t read c.requires.backed).pc)
 
 pub returns-in-Some : goal.returns-in-Some
 returns-in-Some g c =
     let taker = c.args.taker in
     let t = take_of taker c.args.least.lots c.args.least.pc in
-    let read = read_of (given c.args.market.now.bytes.now c.args.ring.now.bytes.now (g.B.SideRead.orders c.args.opposite.now)) in
+    let read = read_of (given c.args.input.now.market.bytes.now c.args.input.now.ring.bytes.now (g.B.SideRead.orders c.args.input.now.opposite.now)) in
     let o = c.args.outlook.now in
     let left = c.with_fills-left.result in
     let base : o.sums.lots * c.sizes.result.coin ≡ (meeting_in taker.id_side t read).lots * (sizes_in read).coin =
@@ -55,13 +55,13 @@ returns-in-Some g c =
     let is = left-is taker.id_side t read c.args.pending left (o.sums.lots * c.sizes.result.coin) (o.sums.pc - o.sums.rebates) c.requires.pending base quote
     c.with_fills-left.ensures.coin c.with_fills-left.ensures.pc in
     ap (λ (r : Option Refusal). answered r (decided_as o.plan left)) (sym c.in-Some.is ∙ c.bound_reason.ensures)
-    ∙ outcome-late taker.id_side t read c.args.seen.now o left c.requires.within c.requires.foreseen is
+    ∙ outcome-late taker.id_side t read c.args.input.now.seen.now o left c.requires.within c.requires.foreseen is
 
 pub returns-in-None : goal.returns-in-None
 returns-in-None g c =
     let taker = c.args.taker in
     let t = take_of taker c.args.least.lots c.args.least.pc in
-    let read = read_of (given c.args.market.now.bytes.now c.args.ring.now.bytes.now (g.B.SideRead.orders c.args.opposite.now)) in
+    let read = read_of (given c.args.input.now.market.bytes.now c.args.input.now.ring.bytes.now (g.B.SideRead.orders c.args.input.now.opposite.now)) in
     let o = c.args.outlook.now in
     let left = c.with_fills-left.result in
     let base : o.sums.lots * c.sizes.result.coin ≡ (meeting_in taker.id_side t read).lots * (sizes_in read).coin =
@@ -71,4 +71,4 @@ returns-in-None g c =
     let is = left-is taker.id_side t read c.args.pending left (o.sums.lots * c.sizes.result.coin) (o.sums.pc - o.sums.rebates) c.requires.pending base quote
     c.with_fills-left.ensures.coin c.with_fills-left.ensures.pc in
     ap (λ (r : Option Refusal). answered r (decided_as o.plan left)) (sym c.in-None.is ∙ c.bound_reason.ensures)
-    ∙ outcome-late taker.id_side t read c.args.seen.now o left c.requires.within c.requires.foreseen is
+    ∙ outcome-late taker.id_side t read c.args.input.now.seen.now o left c.requires.within c.requires.foreseen is

@@ -69,7 +69,7 @@ act_or_wait-two-requires-clause-held g c =
     (leg-waits (row_of c.args.self.now.second.now) c.requires.ready.legs.second c.seen_by-second_seen.result (market_at c.args.markets.now.second.cell) c.waits-2.result
     c.is_refused-first_refused.result c.is_refused-second_refused.result c.waits-2.ensures c.is_refused-second_refused.ensures)
 
--- it sees behind the first what it saw before
+-- it sees after the first what it saw before
 pub act_or_wait-two-requires-clause-may : goal.act_or_wait-two-requires-clause-may
 act_or_wait-two-requires-clause-may g c =
     let script = c.args.bank.now.script in
