@@ -1,7 +1,6 @@
 //! A row by itself, without the places of its market and wallets, acts on the cells of a script.
 
 ghost use Rattle.dex_bank.specs.Opened.{opened};
-ghost use Rattle.dex_bank.specs.Places.{ArePlacedIn};
 ghost use Rattle.dex_script_facts.specs.Facts.{IsScript};
 ghost use Rattle.dex_script_facts.specs.PlainScript.{PlainScript};
 ghost use Rattle.dex_types.specs.Rows.{row_of};
@@ -11,7 +10,7 @@ use dex_bank::Cells;
 use dex_replay::replay;
 use dex_script::{Script, read_script};
 use dex_state::Outcome;
-use dex_types::{Reply, Row, RowPlaces};
+use dex_types::{Reply, Row};
 use std::alloc::Global;
 use std::test::Fail;
 
@@ -36,10 +35,9 @@ fn script(alloc: Global) -> Result<Script, Fail> {
 }
 
 /// The only row of a script acts by itself on the cells with which the script starts.
-fn act_first(cells: &mut Cells, rows: &[Row], places: &[RowPlaces]) -> Option<Reply>
-    requires script { (script : PlainScript) × IsScript script × (cells.old ≡ opened script)
+fn act_first(cells: &mut Cells, rows: &[Row]) -> Option<Reply>
+    requires { (script : PlainScript) × IsScript script × (cells.old ≡ opened script)
         × (map row_of rows.now ≡ script.rows) }
-    requires places { ArePlacedIn cells.old (map row_of rows.now) places.now }
 {
     let (row, others) = rows.split_first()?;
     if others.len() != 0 {
@@ -50,9 +48,9 @@ fn act_first(cells: &mut Cells, rows: &[Row], places: &[RowPlaces]) -> Option<Re
 
 // All cells as they are, when the only row has acted by itself; and its reply.
 fn left(alloc: Global) -> Result<(Outcome, Option<Reply>), Fail> {
-    let (mut cells, rows, places) = Cells::of_script(alloc, script(alloc)?)?;
+    let (mut cells, rows, _) = Cells::of_script(alloc, script(alloc)?)?;
     let rows = rows.into_rows(alloc)?;
-    let reply = act_first(&mut cells, &rows, &places);
+    let reply = act_first(&mut cells, &rows);
     match cells.close(alloc) {
         Ok(outcome) => Ok((outcome, reply)),
         Err(_) => Err(Fail::new("no memory")),
