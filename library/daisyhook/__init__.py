@@ -19,9 +19,10 @@ The module keeps nothing between calls, so threads may call it at once; they run
 
 from . import flow, rows
 from .accounts import Accounts, Depth, Event, Level, Market, Mint, OpenOrders, Order, Wallet
-from .commands import Exchange, accounts, audit, bulk, dump, make, migrate, replay, worth
+from .commands import Exchange, accounts, audit, bulk, chained, dump, make, migrate, replay, shards, worth
 from .entries import Cancelled, Consumed, Done, Entry, Move, Ordered, Refused, Reply, Settled, Swept, Took, WalletEntry
 from .errors import AuditFailed, DexError, DumpRefused, Finding, InputTooLong, MigrateRefused, OutOfLimits, OutOfMemory, ScriptRefused
+from .parts import Shards
 from .report import Report
 from .rows import take_data
 from .summary import MarketSummary, Summary
@@ -29,11 +30,11 @@ from .swaps import Leg, Swap
 from .worth import Worth, Worths
 
 __all__ = [
-    'replay', 'dump', 'audit', 'worth', 'migrate', 'make', 'bulk', 'accounts', 'Exchange', 'take_data',
+    'replay', 'dump', 'audit', 'worth', 'migrate', 'make', 'bulk', 'shards', 'chained', 'accounts', 'Exchange', 'take_data',
     'rows', 'flow',
     'Report', 'Entry', 'Move', 'WalletEntry', 'Swap', 'Leg',
     'Reply', 'Ordered', 'Took', 'Cancelled', 'Consumed', 'Settled', 'Swept', 'Done', 'Refused',
     'Accounts', 'Market', 'Mint', 'Wallet', 'Order', 'Event', 'OpenOrders', 'Depth', 'Level',
-    'Summary', 'MarketSummary', 'Worth', 'Worths',
+    'Summary', 'MarketSummary', 'Worth', 'Worths', 'Shards',
     'DexError', 'ScriptRefused', 'DumpRefused', 'AuditFailed', 'MigrateRefused', 'InputTooLong', 'OutOfLimits', 'OutOfMemory', 'Finding',
 ]
