@@ -60,9 +60,18 @@ uint8_t dex_make(uint64_t number, uint32_t rows, uint8_t *room, size_t room_size
 /* The summary of what that script leaves. */
 uint8_t dex_bulk(uint64_t number, uint32_t rows, uint8_t *room, size_t room_size, size_t *size);
 
+/* Where a script may be cut into shards, which share no market and no wallet: lines `market SHARD` for each market and `wallet SHARD` for each
+ * wallet, in declared order, `row SHARD` for each instruction row in its order (two for a swap), and `end`. A shard's number is below
+ * that of markets, or 0. A wallet that no row names is of shard 0. */
+uint8_t dex_shards(const uint8_t *script, size_t length, uint8_t *room, size_t room_size, size_t *size);
+
+/* Where a script may be cut into a chain of parts of at most so many instruction rows (1 or more; two where that is one and they are a
+ * swap, which counts two and is never parted): lines `part COUNT`, and `end`. DEX_USAGE where it is 0. */
+uint8_t dex_chained(uint32_t rows, const uint8_t *script, size_t length, uint8_t *room, size_t room_size, size_t *size);
+
 /* ---- with memory from malloc: nothing below is proved */
 
-/* A function of bytes alone: dex_replay, dex_dump, dex_audit or dex_worth. */
+/* A function of bytes alone: dex_replay, dex_dump, dex_audit, dex_worth or dex_shards. */
 typedef uint8_t dex_command(const uint8_t *bytes, size_t length, uint8_t *room, size_t room_size, size_t *size);
 
 /* Room that is enough for most texts of so many bytes of input. */

@@ -9,6 +9,7 @@ from operator import index
 from .accounts import Accounts
 from .errors import Finding, InputTooLong, OutOfLimits, findings_of, refusal_of
 from .native import call
+from .parts import Shards, numbers_of
 from .report import Report
 from .summary import Summary, summary_of
 from .worth import Worths
@@ -94,6 +95,20 @@ def bulk(number: int, rows: int) -> Summary:
     """The summary of what the made script of this number and so many rows leaves."""
     numbers = within(number, 0, 2**64 - 1, 'number'), within(rows, 1, 20_000, 'rows')
     return summary_of(done(*call('dex_bulk', *numbers, room=4096)))
+
+
+def shards(script: Text) -> Shards:
+    """Where a script may be cut into shards, which share no market and no wallet. Raises what `replay` raises."""
+    return Shards(done(*call('dex_shards', bytes_of(script))))
+
+
+def chained(script: Text, rows: int) -> list[int]:
+    """How many instruction rows each part of a chain has, for parts of at most `rows` rows (1 to 2^32 - 1).
+
+    A swap is two rows, and never parted: where `rows` is 1, a part that is a swap has two. Raises what `replay` raises.
+    """
+    most = within(rows, 1, 2**32 - 1, 'rows')
+    return numbers_of('part', done(*call('dex_chained', most, bytes_of(script))))
 
 
 def accounts(dump: Text) -> Accounts:

@@ -9,13 +9,15 @@ from functools import lru_cache
 from pathlib import Path
 
 NOTHING, SIZE = ctypes.c_char_p, ctypes.c_size_t
-# What stands before the room: the input with its length, two numbers, or both.
+# What stands before the room: the input with its length, numbers, or both.
 INPUT = (NOTHING, SIZE)
 SIZES = (ctypes.c_uint32, ctypes.c_uint32)
 MADE = (ctypes.c_uint64, ctypes.c_uint32)
+ROWS = (ctypes.c_uint32,)
 FRONTS = {
     'dex_replay': INPUT, 'dex_dump': INPUT, 'dex_audit': INPUT, 'dex_worth': INPUT,
     'dex_migrate': SIZES + INPUT, 'dex_make': MADE, 'dex_bulk': MADE,
+    'dex_shards': INPUT, 'dex_chained': ROWS + INPUT,
 }
 ROOM = (ctypes.POINTER(ctypes.c_char), SIZE, ctypes.POINTER(SIZE))
 

@@ -86,6 +86,7 @@ int main(int count, char **words) {
   try_text("replay of nothing", dex_replay, "report 0\ndump\nenddump\nend\n", DEX_OK);
   try_text("dump of nothing", dex_dump, "dump\nenddump\n", DEX_OK);
   try_text("worth of nothing", dex_worth, "worth 0\nend\n", DEX_OK);
+  try_text("shards of nothing", dex_shards, "end\n", DEX_OK);
   try_text("audit of nothing", dex_audit, "dump refused row 1: 1 Grammar - 0 0 0\n", DEX_DUMP_REFUSED);
   for (int at = 0; at < case_count; at++) {
     free(cases[at].input.bytes);

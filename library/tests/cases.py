@@ -174,7 +174,7 @@ def refused(what: str, kind: type[Exception], call: Callable[[], object]) -> Non
 
 def try_inputs() -> None:
     """What is no text or no whole number is refused, and an input of one byte too many is what the program says of it."""
-    for name in ('replay', 'dump', 'worth', 'audit', 'accounts', 'Exchange'):
+    for name in ('replay', 'dump', 'worth', 'shards', 'audit', 'accounts', 'Exchange'):
         for wrong in (5, 0, None, 1.5, [1, 2], True):
             refused(f'{name}({wrong!r})', TypeError, lambda: getattr(daisyhook, name)(wrong))
     refused('migrate of a number', TypeError, lambda: daisyhook.migrate(5, 1, 1))
@@ -186,6 +186,19 @@ def try_inputs() -> None:
     same('what it says', (told.status, told.text, repr(pickle.loads(pickle.dumps(told)))), (6, 'input too long\n', repr(told)))
     for text in (bytearray(b'enddump'), memoryview(b'enddump'), 'enddump'):
         refused(f'a text as {type(text).__name__}', daisyhook.ScriptRefused, lambda: daisyhook.replay(text))
+
+
+def try_parts() -> None:
+    """Where a script may be cut: a swap joins its markets, and so does a wallet that rows of both name; a wallet that none names is of shard 0."""
+    rows = (root / 'tests' / 'data' / 'swaps.csv').read_text().splitlines(keepends=True)
+    joined = daisyhook.shards(''.join(rows))
+    same('markets that a swap joins', (joined.markets, joined.wallets, joined.rows), ([0, 0], [0] * 6, [0] * 18))
+    apart = daisyhook.shards(''.join(row for row in rows[:-1] if not row.startswith('swap,')))
+    same('markets that share no wallet', (apart.markets, apart.wallets, apart.rows), ([0, 1], [0, 1, 0, 0, 0, 0], [0, 1, 0, 1, 0, 0, 1]))
+    same('parts of at most five rows', daisyhook.chained(''.join(rows), 5), [4, 4, 5, 5])
+    same('parts of one row, or a swap', daisyhook.chained(''.join(rows), 1), [1, 1, 1, 1, 2, 2, 2, 2, 1, 2, 1, 1, 1])
+    refused('parts of no row', daisyhook.OutOfLimits, lambda: daisyhook.chained('', 0))
+    refused('parts of what is no script', daisyhook.ScriptRefused, lambda: daisyhook.chained('enddump', 5))
 
 
 def try_relative_path() -> None:
@@ -207,6 +220,7 @@ for name in ('examples/two_traders', 'examples/deep_book', 'examples/discount_an
 try_swaps()
 try_dumps()
 try_inputs()
+try_parts()
 if 'DAISYHOOK_LIBRARY' in os.environ:
     try_relative_path()
 traders = daisyhook.replay((root / 'examples' / 'two_traders.csv').read_text())

@@ -1,6 +1,6 @@
 //! Each call once, with memory enough: none always answers that memory is wanting.
 
-use dex_call::{audit, bulk, dump, make, migrate, replay, worth};
+use dex_call::{audit, bulk, chained, dump, make, migrate, replay, shards, worth};
 use dex_dump::{read_dump, write_dump};
 use std::alloc::Global;
 use std::test::Fail;
@@ -100,4 +100,18 @@ fn runs_are_summed_up(rt: HostRuntime) -> Result<(), Fail> {
     let (mut text, mut size) = (room(rt.alloc())?, 0);
     let status = bulk(rt.alloc(), 7, 1, &mut text, &mut size);
     tells(status, &text, size, b"bulk 7 1\naccepted 17\nrefused 0\n")
+}
+
+#[test]
+fn shards_are_told(rt: HostRuntime) -> Result<(), Fail> {
+    let (mut text, mut size) = (room(rt.alloc())?, 0);
+    let status = shards(rt.alloc(), SCRIPT, &mut text, &mut size);
+    tells(status, &text, size, b"market 0\nrow 0\nrow 0\nend\n")
+}
+
+#[test]
+fn parts_are_told(rt: HostRuntime) -> Result<(), Fail> {
+    let (mut text, mut size) = (room(rt.alloc())?, 0);
+    let status = chained(rt.alloc(), 1, SCRIPT, &mut text, &mut size);
+    tells(status, &text, size, b"part 1\npart 1\nend\n")
 }

@@ -1,9 +1,11 @@
 //! The commands on one thread for C, and for all that can call C. Each function calls that of `dex_call` and says its clause again.
 #![tactic(auto)]
 
-ghost use Rattle.std.specs.Prelude.{[]};
+ghost use Rattle.std.specs.Prelude.{◌≡◌, ◌⊎◌, []};
 ghost use Rattle.dex_words.specs.declared.command.PlainCommand.TheVariants.{Audit, Bulk, Dump, Make, Migrate, Replay, Worth};
-ghost use Rattle.dex_call.specs.Calls.{Ends, done};
+ghost use Rattle.dex_answers.specs.declared.status.Status.TheVariants as status;
+ghost use Rattle.dex_call.specs.Calls.{Ends, EndsWith, HasStopped, done};
+ghost use Rattle.dex_call.specs.PartsTexts.{SaysParts, SaysShards};
 
 use std::alloc::Global;
 
@@ -80,4 +82,27 @@ pub extern "C" fn dex_bulk(
     ensures { Ends (Bulk number rows) [] (done room.old room.new result size.new) }
 {
     dex_call::bulk(alloc, number, rows, room, size)
+}
+
+/// The shard of each market, each wallet and each row of a script.
+#[unsafe(no_mangle)]
+pub extern "C" fn dex_shards(alloc: Global, script: &[u8], room: &mut [u8], size: &mut usize) -> u8
+    ensures { EndsWith (SaysShards script.now) (done room.old room.new result size.new) }
+{
+    dex_call::shards(alloc, script, room, size)
+}
+
+/// How many rows each part of a chain has, for parts of at most so many.
+#[unsafe(no_mangle)]
+pub extern "C" fn dex_chained(
+    alloc: Global,
+    rows: u32,
+    script: &[u8],
+    room: &mut [u8],
+    size: &mut usize,
+) -> u8
+    ensures { EndsWith (SaysParts rows script.now) (done room.old room.new result size.new)
+        ⊎ ((rows ≡ 0) × HasStopped status.Usage (done room.old room.new result size.new)) }
+{
+    dex_call::chained(alloc, rows, script, room, size)
 }

@@ -3,6 +3,9 @@
 
 mod calling;
 mod calls;
+mod cutting;
+mod parts;
 mod writing;
 
 pub use calls::{audit, bulk, dump, make, migrate, replay, worth};
+pub use parts::{chained, shards};

@@ -61,11 +61,7 @@ pub fn init(bytes: &mut [u8], market: Address, owner: Address)
     ensures accepted { IsOpen bytes.new }
 {
     write_text(bytes, SERUM, &FRONT_TEXT);
-    put_u64(
-        bytes,
-        ACCOUNT_FLAGS,
-        AccountFlags::OPEN_ORDERS_ACCOUNT.0,
-    );
+    put_u64(bytes, ACCOUNT_FLAGS, AccountFlags::OPEN_ORDERS_ACCOUNT.0);
     put_addr(bytes, MARKET, market.0);
     put_addr(bytes, OWNER, owner.0);
     put_u128(bytes, FREE_SLOT_BITS, u128::MAX);

@@ -1,27 +1,27 @@
 -- Scripts fall into the shards that joined labels tell.
-use Rattle.std.proofs.Common.{◌≡◌, ◌<◌, ◌≤◌, ◌+◌, ◌||◌, ℕ, zero, suc, true, false, eqb, ltb, List, [], ◌∷◌, ◌++◌, Option, Some, None, drop, get_or, length, map, take, refl, sym, ap, ◌∙◌, subst, arith, ⊎_elim}
+use Rattle.std.proofs.Common.{◌≡◌, ◌<◌, ◌≤◌, ◌+◌, ◌||◌, ℕ, zero, suc, true, false, ◌-◌, cond, eqb, ltb, List, [], ◌∷◌, ◌++◌, Option, Some, None, drop, get_or, length, map, take, refl, sym, ap, ◌∙◌, subst, arith, ⊎_elim}
 use Rattle.std.specs.List.{All, AllPairs}
-use Rattle.std.proofs.lemmas.Bool.{cond-true, cond_both, eq-eqb, false≢true, lt-ltb, or_cases}
-use Rattle.std.proofs.lemmas.List.{get_or-drop, get_or-map, get_or-take, length-append, length-drop, length-map, length-take-le}
-use Rattle.std.proofs.lemmas.List.Elements.{All-append, All-cons, All-head, All-nil}
+use Rattle.std.proofs.lemmas.Bool.{both_ways, cases_eq, cond-false, cond-true, cond_both, eq-eqb, eqb-true, false≢true, le-ltb, lt-ltb, ne_eqb, or_cases}
+use Rattle.std.proofs.lemmas.List.{get_or-append-add, get_or-drop, get_or-map, get_or-take, get_or_append_left, length-append, length-drop, length-map, length-take-le}
+use Rattle.std.proofs.lemmas.List.Elements.{All-append, All-cons, All-head, All-nil, All-tail}
 use Rattle.dex_types.specs.declared.addresses.Address.{Address}
 use Rattle.dex_types.specs.declared.rows.RowPlaces.{RowPlaces}
-use Rattle.dex_types.specs.Accounts.{PlainAccounts}
+use Rattle.dex_types.specs.Accounts.{PlainAccount, PlainAccounts, PlainMarketAccounts}
 use Rattle.dex_types.specs.Rows.{PlainRow}
 use Rattle.dex_laws.proofs.TraderLaws.{is_same-true}
-use Rattle.dex_fold.specs.Fold.{is_role}
+use Rattle.dex_fold.specs.Fold.{is_role, names}
 use Rattle.dex_fold.proofs.GroupLaws.{EachTwo}
 use Rattle.dex_fold.proofs.MappedLists.{All-front, zip-map}
-use Rattle.dex_fold.proofs.NameLaws.{in_roles, names-roles}
+use Rattle.dex_fold.proofs.NameLaws.{coin-named, discount-named, in_roles, names-roles, pc-named, referrer-named}
 use Rattle.dex_script_facts.specs.Places.{AreBeside, ArePlaced, IsBeside, IsMarked, IsPlaced, IsRolePlaced, market_place, wallet_place}
-use Rattle.dex_script_facts.proofs.PlacedLaws.{market-within, wallet-within}
+use Rattle.dex_script_facts.proofs.PlacedLaws.{market-here, market-within, wallet-here, wallet-within}
 use Rattle.dex_parts.specs.Joins.{IsWithin, Link, leg_links, links_of, role_links, row_links}
 use Rattle.dex_parts.specs.Numbers.{in_market, labels_of, market_shards, numbers_to, row_shards, wallet_shards}
 use Rattle.dex_parts.specs.Sharded.{AreShardsOf, number_at, sharding_by}
 use Rattle.dex_parts.specs.Shards.{AreOfOneShard, FallsInto, IsOfOneShard, Sharding}
-use Rattle.dex_parts.proofs.JoinLaws.{HasOne, all-one, joined-all-long}
+use Rattle.dex_parts.proofs.JoinLaws.{Agrees, HasOne, Keeps, all-keep, all-low, all-one, joined-all-long}
 use Rattle.dex_parts.proofs.ListLaws.{All-behind}
-use Rattle.dex_replay.proofs.Groups.{each-two}
+use Rattle.dex_replay.proofs.Groups.{each-two, each-two-weaker}
 use Rattle.dex_script_facts.specs.Facts.{AreRows}
 use Rattle.dex_script_facts.specs.PlainScript.{PlainScript}
 
@@ -226,37 +226,262 @@ module _ (start : PlainAccounts) where
         all-legs-fall rows places placed.1 beside.1 rise.1 (All-behind (HasOne labels) (leg_links at places) (links_of markets places) behind) in
         (legs-fall row at rows places placed.0 beside.0 placed.1 beside.1 rise.0 rise.1 rest (All-front (HasOne labels) (leg_links at places) (links_of markets places) behind), rest)
 
+-- ---- numbers of markets and wallets that agree with rows
+
+pub numbers-at : (count place : ℕ) → place < count → get_or (numbers_to count) place 0 ≡ place
+numbers-at zero place within = absurd (omega (arith, within))
+numbers-at (suc count) place within =
+    let long : length (numbers_to count) ≡ count = numbers-long count in
+    ⊎_elim
+    (λ (here : place ≡ count).
+    let end : place ≡ length (numbers_to count) + 0 = omega (arith, here, long) in
+    ap (λ (n : ℕ). get_or (numbers_to count ++ count ∷ []) n 0) end
+    ∙ get_or-append-add (numbers_to count) (count ∷ []) 0 0 ∙ sym here)
+    (λ (before : place ≡ count → ⊥).
+    get_or_append_left (numbers_to count) (count ∷ []) 0 place (omega (arith, within, before, long)) ∙ numbers-at count place (omega (arith, within, before)))
+    (cases_eq place count)
+
+module _ (start : PlainAccounts) (tell : ℕ → ℕ) where
+  abbrev many : ℕ
+  many = length start.markets
+
+  -- a row's market and each of its wallets have one number
+  abbrev pub RowAgrees : PlainRow → Type 0
+  RowAgrees row = (market place : ℕ) (wallet : Address) → market_place row.market start.markets ≡ Some market → names row wallet ≡ true
+      → wallet_place wallet start.wallets ≡ Some place → tell market ≡ tell (many + place)
+
+  -- rows of one number have markets of one
+  abbrev pub LegsAgree : PlainRow → PlainRow → Type 0
+  LegsAgree one other = one.number ≡ other.number → (market other_market : ℕ) → market_place one.market start.markets ≡ Some market
+      → market_place other.market start.markets ≡ Some other_market → tell market ≡ tell other_market
+
+  role-agrees : (row : PlainRow) (role : Option Address) (market place : ℕ) → RowAgrees row → market_place row.market start.markets ≡ Some market
+      → ((wallet : Address) → role ≡ Some wallet → names row wallet ≡ true) → IsRolePlaced start.wallets role place → IsMarked role place
+      → All (Agrees tell) (role_links many market place)
+  role-agrees row None market place agrees on named placed marked =
+      subst (λ (n : ℕ). All (Agrees tell) (role_links many market n)) (sym marked) (All-nil (Agrees tell))
+  role-agrees row (Some wallet) market place agrees on named placed marked =
+      cond_both (ltb place 65535) ((market, many + place) ∷ []) [] (All (Agrees tell))
+      (λ is. All-cons (Agrees tell) (market, many + place) [] (agrees market place wallet on (named wallet refl) placed) (All-nil (Agrees tell)))
+      (λ none. All-nil (Agrees tell))
+
+  row-agrees : (row : PlainRow) (at : RowPlaces) → RowAgrees row → IsPlaced start row at → IsBeside row at → All (Agrees tell) (row_links many at)
+  row-agrees row at agrees placed beside =
+      let links : ℕ → List Link = role_links many at.market in
+      All-append (Agrees tell) (links at.coin) (links at.pc ++ (links at.discount ++ links at.referrer))
+      (role-agrees row row.coin at.market at.coin agrees placed.market (coin-named row) placed.coin beside.coin)
+      (All-append (Agrees tell) (links at.pc) (links at.discount ++ links at.referrer)
+      (role-agrees row row.pc at.market at.pc agrees placed.market (pc-named row) placed.pc beside.pc)
+      (All-append (Agrees tell) (links at.discount) (links at.referrer)
+      (role-agrees row row.discount at.market at.discount agrees placed.market (discount-named row) placed.discount beside.discount)
+      (role-agrees row row.referrer at.market at.referrer agrees placed.market (referrer-named row) placed.referrer beside.referrer)))
+
+  leg-agrees : (row : PlainRow) (at : RowPlaces) (rows : List PlainRow) (places : List RowPlaces) → All (LegsAgree row) rows → IsPlaced start row at → IsBeside row at
+      → ArePlaced start rows places → AreBeside rows places → All (Agrees tell) (leg_links at places)
+  leg-agrees row at rows [] legs placed beside places_are besides = All-nil (Agrees tell)
+  leg-agrees row at [] (next ∷ places) legs placed beside places_are besides = absurd places_are
+  leg-agrees row at (other ∷ rows) (next ∷ places) legs placed beside places_are besides =
+      cond_both (eqb at.number next.number) ((at.market, next.market) ∷ []) [] (All (Agrees tell))
+      (λ same.
+      let numbers : row.number ≡ other.number = sym beside.number ∙ eqb-true at.number next.number same ∙ besides.0.number in
+      All-cons (Agrees tell) (at.market, next.market) []
+      (All-head (LegsAgree row) other rows legs numbers at.market next.market placed.market places_are.0.market) (All-nil (Agrees tell)))
+      (λ apart. All-nil (Agrees tell))
+
+  pub links-agree : (rows : List PlainRow) (places : List RowPlaces) → All RowAgrees rows → EachTwo LegsAgree rows → ArePlaced start rows places → AreBeside rows places
+      → All (Agrees tell) (links_of many places)
+  links-agree [] [] agree legs placed beside = All-nil (Agrees tell)
+  links-agree [] (at ∷ places) agree legs placed beside = absurd placed
+  links-agree (row ∷ rows) [] agree legs placed beside = absurd placed
+  links-agree (row ∷ rows) (at ∷ places) agree legs placed beside =
+      All-append (Agrees tell) (row_links many at) (leg_links at places ++ links_of many places)
+      (row-agrees row at (All-head RowAgrees row rows agree) placed.0 beside.0)
+      (All-append (Agrees tell) (leg_links at places) (links_of many places)
+      (leg-agrees row at rows places legs.0 placed.0 beside.0 placed.1 beside.1)
+      (links-agree rows places (All-tail RowAgrees row rows agree) legs.1 placed.1 beside.1))
+
 -- ---- a script
 
-pub are-shards : (script : PlainScript) (places : List RowPlaces) (markets wallets rows : List ℕ) → AreRows script → length script.start.wallets ≤ 256
-    → ArePlaced script.start script.rows places → AreBeside script.rows places
-    → markets ≡ market_shards (length script.start.markets) (length script.start.wallets) places
-    → wallets ≡ wallet_shards (length script.start.markets) (length script.start.wallets) places → rows ≡ row_shards markets places
-    → AreShardsOf script markets wallets rows
-are-shards script places markets wallets rows facts few placed beside of_markets of_wallets of_rows =
-    let start : PlainAccounts = script.start in
-    let many : ℕ = length start.markets in
-    let count : ℕ = many + length start.wallets in
-    let labels : List ℕ = labels_of many (length start.wallets) places in
-    let numbers : length (numbers_to count) ≡ count = numbers-long count in
-    let long : length labels ≡ count = joined-all-long (numbers_to count) (links_of many places) ∙ numbers in
-    let one : All (HasOne labels) (links_of many places) =
-    all-one (numbers_to count) (links_of many places)
-    (subst (λ (n : ℕ). All (IsWithin n) (links_of many places)) (sym numbers) (links-within start script.rows places placed beside)) in
-    let falls : FallsInto (sharding_by start (market_shards many (length start.wallets) places) (wallet_shards many (length start.wallets) places)) script = record {
-      rows = rows-fall start labels long few script.rows places placed one;
-      legs = two-each (AreOfOneShard (sharding_by start (market_shards many (length start.wallets) places) (wallet_shards many (length start.wallets) places))) script.rows
-          (all-legs-fall start labels long few script.rows places placed beside (each-two (λ (a b : PlainRow). a.number ≤ b.number) script.rows facts.rising) one);
-    } in
-    record {
-      falls = subst (λ (some : List ℕ). FallsInto (sharding_by start some wallets) script) (sym of_markets)
-          (subst (λ (some : List ℕ). FallsInto (sharding_by start (market_shards many (length start.wallets) places) some) script) (sym of_wallets) falls);
-      rows = of_rows
-          ∙ zip-map (IsPlaced start) (λ (row : PlainRow). number_at (market_place row.market start.markets) markets) (λ (at : RowPlaces). get_or markets at.market 0)
-          (λ row at is. ap (λ (found : Option ℕ). number_at found markets) (sym is.market)) script.rows places placed;
-      markets = ap (λ (some : List ℕ). length some) of_markets ∙ length-map (take many labels) (in_market many) ∙ length-take-le many labels (omega (arith, long));
-      wallets = ap (λ (some : List ℕ). length some) of_wallets ∙ length-map (drop many labels) (in_market many) ∙ omega (arith, length-drop many labels, long);
-    }
+module _ (script : PlainScript) (places : List RowPlaces) (facts : AreRows script) (few : length script.start.wallets ≤ 256)
+    (placed : ArePlaced script.start script.rows places) (beside : AreBeside script.rows places) where
+  abbrev start : PlainAccounts
+  start = script.start
+
+  abbrev market_count : ℕ
+  market_count = length start.markets
+
+  abbrev count : ℕ
+  count = market_count + length start.wallets
+
+  abbrev links : List Link
+  links = links_of market_count places
+
+  abbrev labels : List ℕ
+  labels = labels_of market_count (length start.wallets) places
+
+  abbrev own_markets : List ℕ
+  own_markets = market_shards market_count (length start.wallets) places
+
+  abbrev own_wallets : List ℕ
+  own_wallets = wallet_shards market_count (length start.wallets) places
+
+  long : length labels ≡ count
+  long = labels-long market_count (length start.wallets) places
+
+  within : All (IsWithin (length (numbers_to count))) links
+  within = subst (λ (n : ℕ). All (IsWithin n) links) (sym (numbers-long count)) (links-within start script.rows places placed beside)
+
+  one : All (HasOne labels) links
+  one = all-one (numbers_to count) links within
+
+  -- a place has its own label, where it is told apart by what agrees with all rows
+  keeps : (tell : ℕ → ℕ) → All (Agrees tell) links → Keeps tell labels
+  keeps tell agree =
+      all-keep tell (numbers_to count) links within agree
+      (λ place inside. ap tell (numbers-at count place (omega (arith, inside, numbers-long count))))
+
+  label-low : (place : ℕ) → place < count → get_or labels place 0 ≤ place
+  label-low place inside =
+      all-low (numbers_to count) links (λ at within_at. omega (arith, numbers-at count at (omega (arith, within_at, numbers-long count)))) place (omega (arith, inside, long))
+
+  -- the label of a label
+  label-first : (place : ℕ) → place < count → get_or labels (get_or labels place 0) 0 ≡ get_or labels place 0
+  label-first place inside = keeps (λ (n : ℕ). get_or labels n 0) one place (omega (arith, inside, long))
+
+  -- the number of a market is its label
+  market-label : (place : ℕ) → place < market_count → get_or own_markets place 0 ≡ get_or labels place 0
+  market-label place inside =
+      market-shard start labels long few place inside
+      ∙ cond-true (ltb (get_or labels place 0) market_count) (get_or labels place 0) 0
+      (lt-ltb (get_or labels place 0) market_count (omega (arith, inside, label-low place (omega (arith, inside)))))
+
+  shard-low : (place : ℕ) → place < market_count → get_or own_markets place 0 ≤ place
+  shard-low place inside = omega (arith, market-label place inside, label-low place (omega (arith, inside)))
+
+  shard-first : (place : ℕ) → place < market_count → get_or own_markets (get_or own_markets place 0) 0 ≡ get_or own_markets place 0
+  shard-first place inside =
+      let label : ℕ = get_or labels place 0 in
+      let low : label ≤ place = label-low place (omega (arith, inside)) in
+      ap (λ (n : ℕ). get_or own_markets n 0) (market-label place inside)
+      ∙ market-label label (omega (arith, low, inside))
+      ∙ label-first place (omega (arith, inside))
+      ∙ sym (market-label place inside)
+
+  rising_two : EachTwo (λ (a b : PlainRow). a.number ≤ b.number) script.rows
+  rising_two = each-two (λ (a b : PlainRow). a.number ≤ b.number) script.rows facts.rising
+
+  -- ---- wallets that no row names
+
+  module _ (wallet : Address) (unnamed : All (λ (row : PlainRow). names row wallet ≡ false) script.rows) where
+    lone-at : (found : Option ℕ) → wallet_place wallet start.wallets ≡ found → number_at found own_wallets ≡ 0
+    lone-at None is = refl
+    lone-at (Some place) is =
+        let inside : place < length start.wallets = wallet-within wallet start.wallets place is in
+        let own : ℕ = market_count + place in
+        let tell : ℕ → ℕ = λ (n : ℕ). cond (eqb n own) 1 0 in
+        let of_market : (n : ℕ) → n < market_count → tell n ≡ 0 = λ n below. cond-false (eqb n own) 1 0 (ne_eqb n own (λ same. omega (arith, below, same))) in
+        let rows_agree : All (RowAgrees start tell) script.rows =
+        λ k d at market other_place other on named found.
+        of_market market (market-within (get_or script.rows k d).market start.markets market on)
+        ∙ sym (cond-false (eqb (market_count + other_place) own) 1 0
+        (ne_eqb (market_count + other_place) own (λ same.
+        let one_place : other_place ≡ place = omega (arith, same) in
+        let here : PlainAccount = record { address = wallet; bytes = [] } in
+        let one_wallet : other ≡ wallet =
+        sym (wallet-here other start.wallets place here (found ∙ ap (λ (n : ℕ). Some n) one_place)) ∙ wallet-here wallet start.wallets place here is in
+        both_ways (names (get_or script.rows k d) wallet) (unnamed k d at) (ap (names (get_or script.rows k d)) (sym one_wallet) ∙ named)))) in
+        let legs_agree : EachTwo (LegsAgree start tell) script.rows =
+        each-two-weaker (λ (a b : PlainRow). a.number ≤ b.number) (LegsAgree start tell)
+        (λ a b rises same market other_market on other_on.
+        of_market market (market-within a.market start.markets market on) ∙ sym (of_market other_market (market-within b.market start.markets other_market other_on))) script.rows rising_two in
+        let kept : tell (get_or labels own 0) ≡ tell own =
+        keeps tell (links-agree start tell script.rows places rows_agree legs_agree placed beside) own (omega (arith, inside, long)) in
+        let marked : ◌≡◌ {A = ℕ} (tell own) 1 = cond-true (eqb own own) 1 0 (eq-eqb own own refl) in
+        let label_own : get_or labels own 0 ≡ own = own-label (get_or labels own 0) own (kept ∙ marked) in
+        wallet-shard start labels long few place inside
+        ∙ ap (in_market market_count) label_own
+        ∙ cond-false (ltb own market_count) own 0 (le-ltb own market_count (omega arith))
+      where
+        own-label : (n own : ℕ) → ◌≡◌ {A = ℕ} (cond (eqb n own) 1 0) 1 → n ≡ own
+        own-label n own told =
+            ⊎_elim (λ (same : n ≡ own). same)
+            (λ (apart : n ≡ own → ⊥). absurd (omega (arith, told, cond-false {A = ℕ} (eqb n own) 1 0 (ne_eqb n own apart)))) (cases_eq n own)
+
+    shard-lone : (sharding_by start own_markets own_wallets).wallet wallet ≡ 0
+    shard-lone = lone-at (wallet_place wallet start.wallets) refl
+
+  -- ---- other shards
+
+  module _ (other : Sharding) (falls : FallsInto other script) (default : PlainMarketAccounts) where
+    abbrev blank : PlainAccount
+    blank = record { address = default.address; bytes = [] }
+
+    -- the other shard of a place
+    abbrev from_market : ℕ → ℕ
+    from_market n = other.market (get_or start.markets n default).address
+
+    abbrev from_wallet : ℕ → ℕ
+    from_wallet n = other.wallet (get_or start.wallets n blank).address
+
+    abbrev other_shard : ℕ → ℕ
+    other_shard n = cond (ltb n market_count) (from_market n) (from_wallet (n - market_count))
+
+    of-market : (address : Address) (place : ℕ) → market_place address start.markets ≡ Some place → other_shard place ≡ other.market address
+    of-market address place is =
+        cond-true (ltb place market_count) (from_market place) (from_wallet (place - market_count))
+        (lt-ltb place market_count (market-within address start.markets place is))
+        ∙ ap other.market (market-here address start.markets place default is)
+
+    of-wallet : (address : Address) (place : ℕ) → wallet_place address start.wallets ≡ Some place → other_shard (market_count + place) ≡ other.wallet address
+    of-wallet address place is =
+        let at : ◌≡◌ {A = ℕ} (market_count + place - market_count) place = omega arith in
+        cond-false (ltb (market_count + place) market_count) (from_market (market_count + place)) (from_wallet (market_count + place - market_count))
+        (le-ltb (market_count + place) market_count (omega arith))
+        ∙ ap from_wallet at
+        ∙ ap other.wallet (wallet-here address start.wallets place blank is)
+
+    others-agree : All (Agrees other_shard) links
+    others-agree =
+        links-agree start other_shard script.rows places
+        (λ k d inside market place wallet on named found.
+        of-market (get_or script.rows k d).market market on ∙ sym (falls.rows k d inside wallet named) ∙ sym (of-wallet wallet place found))
+        (each-two-weaker (AreOfOneShard other) (LegsAgree start other_shard)
+        (λ a b legs same market other_market on other_on. of-market a.market market on ∙ legs same ∙ sym (of-market b.market other_market other_on))
+        script.rows (each-two (AreOfOneShard other) script.rows falls.legs))
+        placed beside
+
+    shard-fine : (first second : ℕ) → first < market_count → second < market_count → get_or own_markets first 0 ≡ get_or own_markets second 0
+        → other.market (get_or start.markets first default).address ≡ other.market (get_or start.markets second default).address
+    shard-fine first second inside inside_second same =
+        let kept : Keeps other_shard labels = keeps other_shard others-agree in
+        sym (cond-true (ltb first market_count) (from_market first) (from_wallet (first - market_count)) (lt-ltb first market_count inside))
+        ∙ sym (kept first (omega (arith, inside, long)))
+        ∙ ap other_shard (sym (market-label first inside) ∙ same ∙ market-label second inside_second)
+        ∙ kept second (omega (arith, inside_second, long))
+        ∙ cond-true (ltb second market_count) (from_market second) (from_wallet (second - market_count)) (lt-ltb second market_count inside_second)
+
+  -- ---- all together
+
+  pub are-shards : AreShardsOf script own_markets own_wallets (row_shards own_markets places)
+  are-shards =
+      let markets_long : length own_markets ≡ market_count =
+      length-map (take market_count labels) (in_market market_count) ∙ length-take-le market_count labels (omega (arith, long)) in
+      record {
+        falls = record {
+          rows = rows-fall start labels long few script.rows places placed one;
+          legs = two-each (AreOfOneShard (sharding_by start own_markets own_wallets)) script.rows
+              (all-legs-fall start labels long few script.rows places placed beside rising_two one);
+        };
+        rows = zip-map (IsPlaced start) (λ (row : PlainRow). number_at (market_place row.market start.markets) own_markets) (λ (at : RowPlaces). get_or own_markets at.market 0)
+            (λ row at is. ap (λ (found : Option ℕ). number_at found own_markets) (sym is.market)) script.rows places placed;
+        markets = markets_long;
+        wallets = length-map (drop market_count labels) (in_market market_count) ∙ omega (arith, length-drop market_count labels, long);
+        low = λ place inside. shard-low place (omega (arith, inside, markets_long));
+        first = λ place inside. shard-first place (omega (arith, inside, markets_long));
+        lone = shard-lone;
+        fine = λ other falls first second default inside inside_second same.
+            shard-fine other falls default first second (omega (arith, inside, markets_long)) (omega (arith, inside_second, markets_long)) same;
+      }
 
 -- ---- the same, of counts and places that are the script's
 
@@ -278,9 +503,15 @@ pub own-shards : (script : PlainScript) (places own : List RowPlaces) (markets w
     → (of_markets of_wallets of_rows : List ℕ) → of_markets ≡ market_shards markets wallets own → of_wallets ≡ wallet_shards markets wallets own → of_rows ≡ row_shards of_markets own
     → AreShardsOf script of_markets of_wallets of_rows
 own-shards script places own markets wallets many more same placed beside facts few of_markets of_wallets of_rows is_markets is_wallets is_rows =
-    are-shards script places of_markets of_wallets of_rows facts few placed beside
-    (is_markets ∙ ap (market_shards markets wallets) same ∙ ap (λ (n : ℕ). market_shards n wallets places) (sym many)
-    ∙ ap (λ (n : ℕ). market_shards (length script.start.markets) n places) (sym more))
-    (is_wallets ∙ ap (wallet_shards markets wallets) same ∙ ap (λ (n : ℕ). wallet_shards n wallets places) (sym many)
-    ∙ ap (λ (n : ℕ). wallet_shards (length script.start.markets) n places) (sym more))
-    (is_rows ∙ ap (row_shards of_markets) same)
+    let first : of_markets ≡ market_shards (length script.start.markets) (length script.start.wallets) places =
+    is_markets ∙ ap (market_shards markets wallets) same ∙ ap (λ (n : ℕ). market_shards n wallets places) (sym many)
+    ∙ ap (λ (n : ℕ). market_shards (length script.start.markets) n places) (sym more) in
+    let second : of_wallets ≡ wallet_shards (length script.start.markets) (length script.start.wallets) places =
+    is_wallets ∙ ap (wallet_shards markets wallets) same ∙ ap (λ (n : ℕ). wallet_shards n wallets places) (sym many)
+    ∙ ap (λ (n : ℕ). wallet_shards (length script.start.markets) n places) (sym more) in
+    subst (λ (numbers : List ℕ). AreShardsOf script numbers of_wallets of_rows) (sym first)
+    (subst (λ (numbers : List ℕ). AreShardsOf script (market_shards (length script.start.markets) (length script.start.wallets) places) numbers of_rows) (sym second)
+    (subst (λ (numbers : List ℕ). AreShardsOf script (market_shards (length script.start.markets) (length script.start.wallets) places)
+    (wallet_shards (length script.start.markets) (length script.start.wallets) places) numbers)
+    (sym (is_rows ∙ ap (λ (numbers : List ℕ). row_shards numbers own) first ∙ ap (row_shards (market_shards (length script.start.markets) (length script.start.wallets) places)) same))
+    (are-shards script places facts few placed beside)))
