@@ -19,17 +19,11 @@ The module keeps nothing between calls, so threads may call it at once; they run
 
 from . import flow, rows
 from .accounts import Accounts, Depth, Event, Level, Market, Mint, OpenOrders, Order, Wallet
-<<<<<<< HEAD
-from .commands import Exchange, accounts, audit, bulk, dump, make, migrate, replay, worth
+from .commands import Exchange, accounts, audit, bulk, chained, dump, make, migrate, replay, shards, worth
 from .desk import Desk
 from .entries import Cancelled, Consumed, Done, Entry, Move, Ordered, Refused, Reply, Settled, Swept, Took, WalletEntry
 from .errors import AuditFailed, DeskGone, DexError, DumpRefused, Finding, InputTooLong, MigrateRefused, OutOfLimits, OutOfMemory, ScriptRefused
-=======
-from .commands import Exchange, accounts, audit, bulk, chained, dump, make, migrate, replay, shards, worth
-from .entries import Cancelled, Consumed, Done, Entry, Move, Ordered, Refused, Reply, Settled, Swept, Took, WalletEntry
-from .errors import AuditFailed, DexError, DumpRefused, Finding, InputTooLong, MigrateRefused, OutOfLimits, OutOfMemory, ScriptRefused
 from .parts import Shards
->>>>>>> c42e160dcfe9d2870c53aca8a1f36a7c9f69c1c0
 from .report import Report
 from .rows import take_data
 from .summary import MarketSummary, Summary
@@ -37,20 +31,11 @@ from .swaps import Leg, Swap
 from .worth import Worth, Worths
 
 __all__ = [
-<<<<<<< HEAD
-    'replay', 'dump', 'audit', 'worth', 'migrate', 'make', 'bulk', 'accounts', 'Exchange', 'Desk', 'take_data',
-=======
-    'replay', 'dump', 'audit', 'worth', 'migrate', 'make', 'bulk', 'shards', 'chained', 'accounts', 'Exchange', 'take_data',
->>>>>>> c42e160dcfe9d2870c53aca8a1f36a7c9f69c1c0
+    'replay', 'dump', 'audit', 'worth', 'migrate', 'make', 'bulk', 'shards', 'chained', 'accounts', 'Exchange', 'Desk', 'take_data',
     'rows', 'flow',
     'Report', 'Entry', 'Move', 'WalletEntry', 'Swap', 'Leg',
     'Reply', 'Ordered', 'Took', 'Cancelled', 'Consumed', 'Settled', 'Swept', 'Done', 'Refused',
     'Accounts', 'Market', 'Mint', 'Wallet', 'Order', 'Event', 'OpenOrders', 'Depth', 'Level',
-<<<<<<< HEAD
-    'Summary', 'MarketSummary', 'Worth', 'Worths',
-    'DexError', 'DeskGone', 'ScriptRefused', 'DumpRefused', 'AuditFailed', 'MigrateRefused', 'InputTooLong', 'OutOfLimits', 'OutOfMemory', 'Finding',
-=======
     'Summary', 'MarketSummary', 'Worth', 'Worths', 'Shards',
-    'DexError', 'ScriptRefused', 'DumpRefused', 'AuditFailed', 'MigrateRefused', 'InputTooLong', 'OutOfLimits', 'OutOfMemory', 'Finding',
->>>>>>> c42e160dcfe9d2870c53aca8a1f36a7c9f69c1c0
+    'DexError', 'DeskGone', 'ScriptRefused', 'DumpRefused', 'AuditFailed', 'MigrateRefused', 'InputTooLong', 'OutOfLimits', 'OutOfMemory', 'Finding',
 ]
