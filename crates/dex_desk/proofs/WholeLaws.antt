@@ -1,5 +1,5 @@
 -- A session is one replay.
-use Rattle.std.proofs.Common.{◌≡◌, ◌∙◌, ◌==◌, ◌+◌, ◌-◌, ◌^◌, ◌<◌, ◌≤◌, ◌||◌, ⊎_elim, ℕ, ℤ, Bool, true, false, nat_le, All, List, [], ◌∷◌, ◌++◌, None, Option, Some, Result, Ok, Err, ap, append_assoc, arith, inl, inr, map, refl, subst, sym}
+use Rattle.std.proofs.Common.{◌≡◌, ◌∙◌, ◌==◌, ◌+◌, ◌-◌, ◌^◌, ◌<◌, ◌≤◌, ⊎_elim, ℕ, ℤ, Bool, true, false, nat_le, All, List, [], ◌∷◌, ◌++◌, None, Option, Some, Result, Ok, Err, ap, append_assoc, arith, inl, inr, map, refl, subst, sym}
 use Rattle.std.proofs.lemmas.Bool.{eqb-false, eqb-true}
 use Rattle.std.proofs.lemmas.List.{append-nil, map-append}
 use Rattle.std.proofs.lemmas.List.Concat.{flat_map-append}
