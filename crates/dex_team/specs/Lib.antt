@@ -1,5 +1,2 @@
-pub mod Packets
-pub mod Slots
-pub mod Lists
-pub mod Closing
-pub mod Waves
+pub mod Parts
+pub mod Groups
