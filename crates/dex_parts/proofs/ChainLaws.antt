@@ -1,0 +1,274 @@
+-- A script in parts is one replay.
+use Rattle.std.proofs.Common.{◌≡◌, ◌==◌, ℕ, Bool, false, List, [], ◌∷◌, ◌++◌, append_assoc, length, map, Option, refl, sym, ap, ◌∙◌, subst}
+use Rattle.std.specs.List.{All, AllZip}
+use Rattle.std.proofs.lemmas.List.{append-nil, length-map}
+use Rattle.std.proofs.lemmas.List.Elements.{All-append, All-cons, All-head, All-nil, All-tail, All-weaker}
+use Rattle.std.proofs.lemmas.Slice.Zip.{AllZip-long}
+use Rattle.dex_types.specs.declared.addresses.Address.{Address}
+use Rattle.dex_types.specs.declared.movements.Entry.{Entry}
+use Rattle.dex_types.specs.declared.movements.WalletEntry.{WalletEntry}
+use Rattle.dex_types.specs.declared.terms.Program.{Program}
+use Rattle.dex_types.specs.Accounts.{PlainAccount, PlainAccounts, PlainMarketAccounts}
+use Rattle.dex_types.specs.Rows.{PlainRow}
+use Rattle.dex_token.specs.TokenAccount.{with_amount}
+use Rattle.dex_token.proofs.AmountWrites.{with_amount-again}
+use Rattle.dex_accounts.specs.StandsFor.{StandsFor}
+use Rattle.dex_cell.specs.CellState.{AreOfOneMarket}
+use Rattle.dex_wallet.specs.CellState.{balance_of}
+use Rattle.dex_fold.specs.Items.{Item, fold_items, items_of}
+use Rattle.dex_fold.specs.World.{MarketState, WalletState, World}
+use Rattle.dex_fold.proofs.GroupLaws.{grouped-behind}
+use Rattle.dex_fold.proofs.MappedLists.{All-front}
+use Rattle.dex_state.specs.Addresses.{address_of}
+use Rattle.dex_state.specs.Outcomes.{PlainMarketJournal, PlainOutcome, PlainWalletJournal}
+use Rattle.dex_script_facts.specs.PlainScript.{PlainScript}
+use Rattle.dex_replay.specs.Replays.{IsLeftIn, IsReplayOf, market_state, start_world, wallet_state, with_amounts, world_after}
+use Rattle.dex_parts.specs.Chains.{AreCut, AreLinked, AreTwoParts, IsChainOf, IsCut, market_journal_behind, outcome_behind, outcomes_behind, rows_of_parts, wallet_journal_behind}
+use Rattle.dex_parts.specs.Together.{bare_market, bare_wallet, bare_world, each_behind, market_behind, wallet_behind, world_behind}
+use Rattle.dex_parts.proofs.KeptLaws.{msrm-kept, program-kept, srm-kept}
+use Rattle.dex_parts.proofs.LeftLaws.{StandIn, left-as, markets-told, same-addresses, wallets-told}
+use Rattle.dex_parts.proofs.TogetherLaws.{behind-others, items-append}
+
+-- ---- lists behind others
+
+-- what is told of two that stand one behind the other, as a pair tells it
+behind-told : {A B : Type 0} (tell : A → B) (one : A → A → A) (other : B → B → B) → ((x y : A) → tell (one x y) ≡ other (tell x) (tell y))
+    → (xs ys : List A) → map tell (each_behind one xs ys) ≡ each_behind other (map tell xs) (map tell ys)
+behind-told tell one other same [] ys = refl
+behind-told tell one other same (x ∷ xs) [] = refl
+behind-told tell one other same (x ∷ xs) (y ∷ ys) =
+    ap (λ z. z ∷ map tell (each_behind one xs ys)) (same x y) ∙ ap (λ zs. other (tell x) (tell y) ∷ zs) (behind-told tell one other same xs ys)
+
+-- what only the first tells, and what only the second
+behind-first : {A B : Type 0} (tell : A → B) (one : A → A → A) → ((x y : A) → tell (one x y) ≡ tell x) → (xs ys : List A) → length xs ≡ length ys
+    → map tell (each_behind one xs ys) ≡ map tell xs
+behind-first tell one same [] [] long = refl
+behind-first tell one same [] (y ∷ ys) long = absurd (cc)
+behind-first tell one same (x ∷ xs) [] long = absurd (cc)
+behind-first tell one same (x ∷ xs) (y ∷ ys) long =
+    ap (λ z. z ∷ map tell (each_behind one xs ys)) (same x y) ∙ ap (λ zs. tell x ∷ zs) (behind-first tell one same xs ys (cc long))
+
+behind-second : {A B : Type 0} (tell : A → B) (one : A → A → A) → ((x y : A) → tell (one x y) ≡ tell y) → (xs ys : List A) → length xs ≡ length ys
+    → map tell (each_behind one xs ys) ≡ map tell ys
+behind-second tell one same [] [] long = refl
+behind-second tell one same [] (y ∷ ys) long = absurd (cc)
+behind-second tell one same (x ∷ xs) [] long = absurd (cc)
+behind-second tell one same (x ∷ xs) (y ∷ ys) long =
+    ap (λ z. z ∷ map tell (each_behind one xs ys)) (same x y) ∙ ap (λ zs. tell y ∷ zs) (behind-second tell one same xs ys (cc long))
+
+same-long : {A B C : Type 0} (f : A → C) (g : B → C) (xs : List A) (ys : List B) → map f xs ≡ map g ys → length xs ≡ length ys
+same-long {C = C} f g xs ys same = sym (length-map xs f) ∙ ap (λ (zs : List C). length zs) same ∙ length-map ys g
+
+stand-behind : (all : List PlainMarketAccounts) (before states : List MarketState) → length before ≡ length states → AllZip StandIn all states
+    → AllZip StandIn all (each_behind market_behind before states)
+stand-behind all [] [] long stand = stand
+stand-behind all [] (state ∷ states) long stand = absurd (cc)
+stand-behind all (one ∷ before) [] long stand = absurd (cc)
+stand-behind [] (one ∷ before) (state ∷ states) long stand = absurd stand
+stand-behind (accounts ∷ all) (one ∷ before) (state ∷ states) long stand = (stand.0, stand-behind all before states (cc long) stand.1)
+
+amounts-again : (accounts : List PlainAccount) (before states : List WalletState) → length before ≡ length states
+    → with_amounts (with_amounts accounts before) states ≡ with_amounts accounts (each_behind wallet_behind before states)
+amounts-again [] before states long = refl
+amounts-again (account ∷ accounts) [] [] long = refl
+amounts-again (account ∷ accounts) [] (state ∷ states) long = absurd (cc)
+amounts-again (account ∷ accounts) (one ∷ before) [] long = absurd (cc)
+amounts-again (account ∷ accounts) (one ∷ before) (state ∷ states) long =
+    ap (λ (bytes : List ℕ). record account { bytes = bytes } ∷ with_amounts (with_amounts accounts before) states)
+    (with_amount-again account.bytes one.seen.balance state.seen.balance)
+    ∙ ap (λ (rest : List PlainAccount). record account { bytes = with_amount account.bytes state.seen.balance } ∷ rest) (amounts-again accounts before states (cc long))
+
+of-one-market : (first next last : List PlainMarketAccounts) → AllZip AreOfOneMarket first next → AllZip AreOfOneMarket next last → AllZip AreOfOneMarket first last
+of-one-market [] [] [] one other = tt
+of-one-market [] [] (z ∷ zs) one other = absurd other
+of-one-market [] (y ∷ ys) last one other = absurd one
+of-one-market (x ∷ xs) [] last one other = absurd one
+of-one-market (x ∷ xs) (y ∷ ys) [] one other = absurd other
+of-one-market (x ∷ xs) (y ∷ ys) (z ∷ zs) one other = (
+  record {
+    address = other.0.address ∙ one.0.address;
+    authority = other.0.authority ∙ one.0.authority;
+    orders = other.0.orders ∙ one.0.orders;
+  },
+  of-one-market xs ys zs one.1 other.1,
+)
+
+-- ---- two parts
+
+module _ (script first second : PlainScript) (one two : PlainOutcome) (are : AreTwoParts script first one second) (left : IsReplayOf first one)
+  (then : IsReplayOf second two) where
+  abbrev done : List Item
+  done = items_of first.rows
+
+  abbrev later : List Item
+  later = items_of second.rows
+
+  abbrev early : World
+  early = world_after first done
+
+  abbrev late : World
+  late = world_after second later
+
+  -- the second part starts where the first ends
+  starts : start_world second ≡ bare_world early
+  starts =
+      ap (λ (start : PlainAccounts). start_world (record second { start = start })) are.goes_on
+      ∙ ap (λ (markets : List MarketState). record { markets = markets; wallets = map wallet_state one.accounts.wallets; srm = one.accounts.srm; msrm = one.accounts.msrm; program = second.program })
+      (markets-told first done one left)
+      ∙ ap (λ (wallets : List WalletState). record { markets = map bare_market early.markets; wallets = wallets; srm = one.accounts.srm; msrm = one.accounts.msrm; program = second.program })
+      (wallets-told first done one left)
+      ∙ ap (λ (srm : Option Address). record { markets = map bare_market early.markets; wallets = map bare_wallet early.wallets; srm = srm; msrm = one.accounts.msrm; program = second.program })
+      (left.start.srm ∙ sym (srm-kept done (start_world first)))
+      ∙ ap (λ (msrm : Option Address). record { markets = map bare_market early.markets; wallets = map bare_wallet early.wallets; srm = early.srm; msrm = msrm; program = second.program })
+      (left.start.msrm ∙ sym (msrm-kept done (start_world first)))
+      ∙ ap (λ (program : Program). record { markets = map bare_market early.markets; wallets = map bare_wallet early.wallets; srm = early.srm; msrm = early.msrm; program = program })
+      (are.same_program ∙ sym are.program ∙ sym (program-kept done (start_world first)))
+
+  start-same : start_world script ≡ start_world first
+  start-same =
+      ap (λ (start : PlainAccounts). start_world (record script { start = start })) (sym are.start)
+      ∙ ap (λ (program : Program). start_world (record first { program = program })) (sym are.program)
+
+  -- the world at its end is that behind the one at the end of the first
+  ends : world_after script (items_of script.rows) ≡ world_behind early late
+  ends =
+      ap (λ (world : World). fold_items (items_of script.rows) world) start-same
+      ∙ ap (λ (rows : List PlainRow). fold_items (items_of rows) (start_world first)) are.rows
+      ∙ ap (λ (items : List Item). fold_items items (start_world first)) (grouped-behind (λ (row : PlainRow). row.number) first.rows second.rows are.cut)
+      ∙ items-append done later (start_world first)
+      ∙ behind-others later early
+      ∙ ap (λ (world : World). world_behind early (fold_items later world)) (sym starts)
+
+  -- as many markets and wallets as before
+  market-addresses : map (λ (accounts : PlainMarketAccounts). accounts.address) second.start.markets ≡ map (λ (accounts : PlainMarketAccounts). accounts.address) first.start.markets
+  market-addresses =
+      ap (λ (start : PlainAccounts). map (λ (accounts : PlainMarketAccounts). accounts.address) start.markets) are.goes_on
+      ∙ same-addresses first.start.markets one.accounts.markets left.start.markets
+
+  wallet-addresses : map address_of second.start.wallets ≡ map address_of first.start.wallets
+  wallet-addresses = ap (λ (start : PlainAccounts). map address_of start.wallets) are.goes_on ∙ left.start.wallets
+
+  market-journals-long : length one.markets ≡ length two.markets
+  market-journals-long =
+      let address : PlainMarketJournal → Address = λ (journal : PlainMarketJournal). journal.address in
+      same-long address address one.markets two.markets (left.start.market_journals ∙ sym market-addresses ∙ sym then.start.market_journals)
+
+  wallet-journals-long : length one.wallets ≡ length two.wallets
+  wallet-journals-long =
+      let address : PlainWalletJournal → Address = λ (journal : PlainWalletJournal). journal.address in
+      same-long address address one.wallets two.wallets (left.start.wallet_journals ∙ sym wallet-addresses ∙ sym then.start.wallet_journals)
+
+  markets-long : length early.markets ≡ length late.markets
+  markets-long =
+      let of_journal : PlainMarketJournal → List Entry = λ (journal : PlainMarketJournal). journal.entries in
+      let of_state : MarketState → List Entry = λ (state : MarketState). state.entries in
+      sym (same-long of_journal of_state one.markets early.markets left.markets) ∙ market-journals-long
+      ∙ same-long of_journal of_state two.markets late.markets then.markets
+
+  wallets-long : length early.wallets ≡ length late.wallets
+  wallets-long =
+      let of_journal : PlainWalletJournal → List WalletEntry = λ (journal : PlainWalletJournal). journal.entries in
+      let of_state : WalletState → List WalletEntry = λ (state : WalletState). state.entries in
+      sym (same-long of_journal of_state one.wallets early.wallets left.wallets) ∙ wallet-journals-long
+      ∙ same-long of_journal of_state two.wallets late.wallets then.wallets
+
+  both-left : IsLeftIn first (world_behind early late) (outcome_behind one two)
+  both-left = record {
+    start = record {
+      mints = then.start.mints ∙ ap (λ (start : PlainAccounts). start.mints) are.goes_on ∙ left.start.mints;
+      srm = then.start.srm ∙ ap (λ (start : PlainAccounts). start.srm) are.goes_on ∙ left.start.srm;
+      msrm = then.start.msrm ∙ ap (λ (start : PlainAccounts). start.msrm) are.goes_on ∙ left.start.msrm;
+      wallets = then.start.wallets ∙ wallet-addresses;
+      markets = of-one-market first.start.markets one.accounts.markets two.accounts.markets left.start.markets
+          (subst (λ (start : PlainAccounts). AllZip AreOfOneMarket start.markets two.accounts.markets) are.goes_on then.start.markets);
+      market_journals = behind-first (λ (journal : PlainMarketJournal). journal.address) market_journal_behind (λ x y. refl) one.markets two.markets market-journals-long
+          ∙ left.start.market_journals;
+      wallet_journals = behind-first (λ (journal : PlainWalletJournal). journal.address) wallet_journal_behind (λ x y. refl) one.wallets two.wallets wallet-journals-long
+          ∙ left.start.wallet_journals;
+    };
+    accepted = then.accepted;
+    markets =
+        let joined : List Entry → List Entry → List Entry = λ (before entries : List Entry). before ++ entries in
+        behind-told (λ (journal : PlainMarketJournal). journal.entries) market_journal_behind joined (λ x y. refl) one.markets two.markets
+        ∙ ap (λ (all : List (List Entry)). each_behind joined all (map (λ (journal : PlainMarketJournal). journal.entries) two.markets)) left.markets
+        ∙ ap (λ (all : List (List Entry)). each_behind joined (map (λ (state : MarketState). state.entries) early.markets) all) then.markets
+        ∙ sym (behind-told (λ (state : MarketState). state.entries) market_behind joined (λ x y. refl) early.markets late.markets);
+    wallets =
+        let joined : List WalletEntry → List WalletEntry → List WalletEntry = λ (before entries : List WalletEntry). before ++ entries in
+        behind-told (λ (journal : PlainWalletJournal). journal.entries) wallet_journal_behind joined (λ x y. refl) one.wallets two.wallets
+        ∙ ap (λ (all : List (List WalletEntry)). each_behind joined all (map (λ (journal : PlainWalletJournal). journal.entries) two.wallets)) left.wallets
+        ∙ ap (λ (all : List (List WalletEntry)). each_behind joined (map (λ (state : WalletState). state.entries) early.wallets) all) then.wallets
+        ∙ sym (behind-told (λ (state : WalletState). state.entries) wallet_behind joined (λ x y. refl) early.wallets late.wallets);
+    stand = stand-behind two.accounts.markets early.markets late.markets markets-long then.stand;
+    amounts = then.amounts
+        ∙ ap (λ (start : PlainAccounts). with_amounts start.wallets late.wallets) are.goes_on
+        ∙ ap (λ (wallets : List PlainAccount). with_amounts wallets late.wallets) left.amounts
+        ∙ amounts-again first.start.wallets early.wallets late.wallets wallets-long;
+    balances = then.balances
+        ∙ sym (behind-second (λ (state : WalletState). state.seen.balance) wallet_behind (λ x y. refl) early.wallets late.wallets wallets-long);
+  }
+
+  two-parts : IsReplayOf script (outcome_behind one two)
+  two-parts =
+      subst (λ (world : World). IsLeftIn script world (outcome_behind one two)) (sym ends)
+      (left-as first script (world_behind early late) (outcome_behind one two) are.start both-left)
+
+pub two-are-one : (script first second : PlainScript) (one two : PlainOutcome) → AreTwoParts script first one second → IsReplayOf first one → IsReplayOf second two
+    → IsReplayOf script (outcome_behind one two)
+two-are-one script first second one two are left then = two-parts script first second one two are left then
+
+-- ---- any number of parts
+
+-- a replay knows of its script the start, the rows and the program
+replay-as : (a b : PlainScript) (outcome : PlainOutcome) → a.start ≡ b.start → a.rows ≡ b.rows → a.program ≡ b.program → IsReplayOf a outcome → IsReplayOf b outcome
+replay-as a b outcome start rows program replay =
+    let worlds : world_after a (items_of a.rows) ≡ world_after b (items_of b.rows) =
+    ap (λ (all : List PlainRow). fold_items (items_of all) (start_world a)) rows
+    ∙ ap (λ (accounts : PlainAccounts). fold_items (items_of b.rows) (start_world (record a { start = accounts }))) start
+    ∙ ap (λ (one : Program). fold_items (items_of b.rows) (start_world (record b { program = one }))) program in
+    left-as a b (world_after b (items_of b.rows)) outcome start (subst (λ (world : World). IsLeftIn a world outcome) worlds replay)
+
+abbrev IsApart : PlainRow → PlainRow → Type 0
+IsApart one other = (one.number == other.number) ≡ false
+
+All-behind : {A : Type 0} (P : A → Type 0) (xs ys : List A) → All P (xs ++ ys) → All P ys
+All-behind P [] ys all = all
+All-behind P (x ∷ xs) ys all = All-behind P xs ys (All-tail P x (xs ++ ys) all)
+
+cut-front : (done rows later : List PlainRow) → IsCut done (rows ++ later) → IsCut done rows
+cut-front done rows later cut =
+    All-weaker (λ (one : PlainRow). All (IsApart one) (rows ++ later)) (λ (one : PlainRow). All (IsApart one) rows)
+    (λ one apart. All-front (IsApart one) rows later apart) done cut
+
+cut-behind : (done rows later : List PlainRow) → IsCut done (rows ++ later) → IsCut rows later → IsCut (done ++ rows) later
+cut-behind done rows later cut behind =
+    let Apart : PlainRow → Type 0 = λ (one : PlainRow). All (IsApart one) later in
+    All-append Apart done rows
+    (All-weaker (λ (one : PlainRow). All (IsApart one) (rows ++ later)) Apart (λ one apart. All-behind (IsApart one) rows later apart) done cut) behind
+
+-- parts behind a first one
+chain-behind : (script first : PlainScript) (one : PlainOutcome) (parts : List PlainScript) (others : List PlainOutcome) → script.rows ≡ first.rows ++ rows_of_parts parts
+    → IsCut first.rows (rows_of_parts parts) → AreCut parts → first.start ≡ script.start → first.program ≡ script.program → IsReplayOf first one
+    → AreLinked script.program one.accounts parts others → IsReplayOf script (outcomes_behind one others)
+chain-behind script first one [] [] rows cut cuts start program replay links =
+    replay-as first script one start (sym (append-nil first.rows) ∙ sym rows) program replay
+chain-behind script first one [] (other ∷ others) rows cut cuts start program replay links = absurd links
+chain-behind script first one (part ∷ parts) [] rows cut cuts start program replay links = absurd links
+chain-behind script first one (part ∷ parts) (two ∷ others) rows cut cuts start program replay links =
+    let rest : List PlainRow = rows_of_parts parts in
+    let both : PlainScript = record { start = script.start; rows = first.rows ++ part.rows; lanes = script.lanes; program = script.program } in
+    let are : AreTwoParts both first one part = record {
+      rows = refl;
+      cut = cut-front first.rows part.rows rest cut;
+      start = start;
+      goes_on = links.0;
+      program = program;
+      same_program = links.1;
+    } in
+    chain-behind script both (outcome_behind one two) parts others (rows ∙ sym (append_assoc first.rows part.rows rest))
+    (cut-behind first.rows part.rows rest cut cuts.0) cuts.1 refl refl (two-are-one both first part one two are replay links.2) links.3
+
+pub chain-is-one : (script part : PlainScript) (parts : List PlainScript) (one : PlainOutcome) (others : List PlainOutcome) → IsChainOf script (part ∷ parts) (one ∷ others)
+    → IsReplayOf script (outcomes_behind one others)
+chain-is-one script part parts one others chain =
+    chain-behind script part one parts others chain.rows chain.cut.0 chain.cut.1 chain.links.0 chain.links.1 chain.links.2 chain.links.3

@@ -1,0 +1,174 @@
+-- What is left of a world: journals are its, and accounts tell its markets and wallets, without their journals.
+use Rattle.std.proofs.Common.{◌≡◌, ℕ, List, [], ◌∷◌, length, map, refl, sym, ap, ◌∙◌, subst}
+use Rattle.std.specs.List.{AllZip}
+use Rattle.std.proofs.lemmas.List.{length-map}
+use Rattle.dex_types.specs.declared.addresses.Address.{Address}
+use Rattle.dex_types.specs.declared.rows.WalletSeen.{WalletSeen}
+use Rattle.dex_types.specs.Accounts.{PlainAccount, PlainAccounts, PlainMarketAccounts}
+use Rattle.dex_types.specs.Market.{Market}
+use Rattle.dex_token.specs.TokenAccount.{WalletWords, wallet_words, with_amount}
+use Rattle.dex_token.proofs.AmountWrites.{wallet_words-with_amount}
+use Rattle.dex_accounts.proofs.Decoded as decoded
+use Rattle.dex_accounts.specs.StandsFor.{StandsFor}
+use Rattle.dex_cell.specs.CellState.{AreOfOneMarket}
+use Rattle.dex_wallet.specs.CellState.{balance_of}
+use Rattle.dex_fold.specs.Items.{Item}
+use Rattle.dex_fold.specs.World.{MarketState, WalletState, World}
+use Rattle.dex_fold.proofs.MappedLists.{head-same, map-map, tail-same, zip-map}
+use Rattle.dex_state.specs.Addresses.{address_of}
+use Rattle.dex_state.specs.Outcomes.{PlainMarketJournal, PlainOutcome, PlainWalletJournal}
+use Rattle.dex_script_facts.specs.PlainScript.{PlainScript}
+use Rattle.dex_replay.specs.Alike.{StandForOne}
+use Rattle.dex_replay.specs.Replays.{IsLeftBy, IsLeftIn, IsOfStart, market_state, start_world, wallet_state, with_amounts, world_after}
+use Rattle.dex_parts.specs.Together.{bare_market, bare_wallet}
+use Rattle.dex_parts.proofs.KeptLaws.{named, named-kept}
+
+-- accounts stand for the market of a state
+abbrev pub StandIn : PlainMarketAccounts → MarketState → Type 0
+StandIn accounts state = StandsFor accounts state.market
+
+-- ---- only the start of a script counts
+
+pub left-as : (a b : PlainScript) (world : World) (outcome : PlainOutcome) → a.start ≡ b.start → IsLeftIn a world outcome → IsLeftIn b world outcome
+left-as a b world outcome same left = record {
+  start = record {
+    mints = left.start.mints ∙ ap (λ (start : PlainAccounts). start.mints) same;
+    srm = left.start.srm ∙ ap (λ (start : PlainAccounts). start.srm) same;
+    msrm = left.start.msrm ∙ ap (λ (start : PlainAccounts). start.msrm) same;
+    wallets = left.start.wallets ∙ ap (λ (start : PlainAccounts). map address_of start.wallets) same;
+    markets = subst (λ (start : PlainAccounts). AllZip AreOfOneMarket start.markets outcome.accounts.markets) same left.start.markets;
+    market_journals = left.start.market_journals ∙ ap (λ (start : PlainAccounts). map (λ (accounts : PlainMarketAccounts). accounts.address) start.markets) same;
+    wallet_journals = left.start.wallet_journals ∙ ap (λ (start : PlainAccounts). map address_of start.wallets) same;
+  };
+  accepted = left.accepted;
+  markets = left.markets;
+  wallets = left.wallets;
+  stand = left.stand;
+  amounts = left.amounts ∙ ap (λ (start : PlainAccounts). with_amounts start.wallets world.wallets) same;
+  balances = left.balances;
+}
+
+-- ---- a world told by accounts has no journals
+
+bare-markets : (all : List PlainMarketAccounts) (states : List MarketState) → AllZip StandIn all states → map market_state all ≡ map bare_market states
+bare-markets [] [] stand = refl
+bare-markets [] (state ∷ states) stand = absurd stand
+bare-markets (accounts ∷ all) [] stand = absurd stand
+bare-markets (accounts ∷ all) (state ∷ states) stand =
+    ap (λ (m : Market). record { market = m; entries = [] } ∷ map market_state all) (decoded.told accounts state.market stand.0)
+    ∙ ap (λ (others : List MarketState). bare_market state ∷ others) (bare-markets all states stand.1)
+
+-- what is seen of a wallet of an address that says this
+abbrev seen_with : Address → WalletWords → WalletSeen
+seen_with address words = record { address = address; mint = words.mint; owner = words.owner; balance = words.amount }
+
+abbrev bare_with : WalletSeen → WalletState
+bare_with seen = record { seen = seen; entries = [] }
+
+bare-wallets : (accounts : List PlainAccount) (states : List WalletState) → map named states ≡ map named (map wallet_state accounts)
+    → map (λ (account : PlainAccount). balance_of account.bytes) (with_amounts accounts states) ≡ map (λ (state : WalletState). state.seen.balance) states
+    → map wallet_state (with_amounts accounts states) ≡ map bare_wallet states
+bare-wallets [] [] same balances = refl
+bare-wallets [] (state ∷ states) same balances = absurd (cc)
+bare-wallets (account ∷ accounts) [] same balances = absurd (cc)
+bare-wallets (account ∷ accounts) (state ∷ states) same balances =
+    let balance : ℕ = state.seen.balance in
+    let bytes : List ℕ = with_amount account.bytes balance in
+    let words : wallet_words bytes ≡ record (wallet_words account.bytes) { amount = balance } =
+    wallet_words-with_amount account.bytes balance (head-same balances) in
+    let own : named state ≡ named (wallet_state account) = head-same same in
+    let others : List WalletState = map wallet_state (with_amounts accounts states) in
+    ap (λ (told : WalletWords). bare_with (seen_with account.address told) ∷ others) words
+    ∙ ap (λ (seen : WalletSeen). bare_with (record seen { balance = balance }) ∷ others) (sym own)
+    ∙ ap (λ (rest : List WalletState). bare_wallet state ∷ rest) (bare-wallets accounts states (tail-same same) (tail-same balances))
+
+-- ---- whose journals they are
+
+-- a market's journal, as its state has it
+abbrev pub journal_in : MarketState → PlainMarketJournal
+journal_in state = record { address = state.market.listing.address; entries = state.entries }
+
+abbrev pub wallet_journal_in : WalletState → PlainWalletJournal
+wallet_journal_in state = record { address = state.seen.address; entries = state.entries }
+
+journals-in : (journals : List PlainMarketJournal) (states : List MarketState)
+    → map (λ (journal : PlainMarketJournal). journal.address) journals ≡ map (λ (state : MarketState). state.market.listing.address) states
+    → map (λ (journal : PlainMarketJournal). journal.entries) journals ≡ map (λ (state : MarketState). state.entries) states → journals ≡ map journal_in states
+journals-in [] [] addresses entries = refl
+journals-in [] (state ∷ states) addresses entries = absurd (cc)
+journals-in (journal ∷ journals) [] addresses entries = absurd (cc)
+journals-in (journal ∷ journals) (state ∷ states) addresses entries =
+    let at : journal.address ≡ state.market.listing.address = head-same addresses in
+    let with : journal.entries ≡ state.entries = head-same entries in
+    let rest : journals ≡ map journal_in states = journals-in journals states (tail-same addresses) (tail-same entries) in
+    λ i. record { address = at i; entries = with i } ∷ rest i
+
+wallet-journals-in : (journals : List PlainWalletJournal) (states : List WalletState)
+    → map (λ (journal : PlainWalletJournal). journal.address) journals ≡ map (λ (state : WalletState). state.seen.address) states
+    → map (λ (journal : PlainWalletJournal). journal.entries) journals ≡ map (λ (state : WalletState). state.entries) states → journals ≡ map wallet_journal_in states
+wallet-journals-in [] [] addresses entries = refl
+wallet-journals-in [] (state ∷ states) addresses entries = absurd (cc)
+wallet-journals-in (journal ∷ journals) [] addresses entries = absurd (cc)
+wallet-journals-in (journal ∷ journals) (state ∷ states) addresses entries =
+    let at : journal.address ≡ state.seen.address = head-same addresses in
+    let with : journal.entries ≡ state.entries = head-same entries in
+    let rest : journals ≡ map wallet_journal_in states = wallet-journals-in journals states (tail-same addresses) (tail-same entries) in
+    λ i. record { address = at i; entries = with i } ∷ rest i
+
+-- addresses of accounts that stand for markets are theirs
+pub stand-addresses : (all : List PlainMarketAccounts) (states : List MarketState) → AllZip StandIn all states
+    → map (λ (state : MarketState). state.market.listing.address) states ≡ map (λ (accounts : PlainMarketAccounts). accounts.address) all
+stand-addresses all states stand =
+    zip-map StandIn (λ (accounts : PlainMarketAccounts). accounts.address) (λ (state : MarketState). state.market.listing.address)
+    (λ accounts state stands. sym stands.address) all states stand
+
+pub same-addresses : (first last : List PlainMarketAccounts) → AllZip AreOfOneMarket first last
+    → map (λ (accounts : PlainMarketAccounts). accounts.address) last ≡ map (λ (accounts : PlainMarketAccounts). accounts.address) first
+same-addresses first last are =
+    zip-map AreOfOneMarket (λ (accounts : PlainMarketAccounts). accounts.address) (λ (accounts : PlainMarketAccounts). accounts.address)
+    (λ one other same. same.address) first last are
+
+module _ (script : PlainScript) (items : List Item) (outcome : PlainOutcome) (left : IsLeftBy script items outcome) where
+  abbrev world : World
+  world = world_after script items
+
+  pub named-left : map named world.wallets ≡ map named (map wallet_state script.start.wallets)
+  named-left = named-kept items (start_world script)
+
+  pub markets-told : map market_state outcome.accounts.markets ≡ map bare_market world.markets
+  markets-told = bare-markets outcome.accounts.markets world.markets left.stand
+
+  pub wallets-told : map wallet_state outcome.accounts.wallets ≡ map bare_wallet world.wallets
+  wallets-told =
+      ap (map wallet_state) left.amounts
+      ∙ bare-wallets script.start.wallets world.wallets named-left (ap (map (λ (account : PlainAccount). balance_of account.bytes)) (sym left.amounts) ∙ left.balances)
+
+  pub journals-left : outcome.markets ≡ map journal_in world.markets
+  journals-left =
+      journals-in outcome.markets world.markets
+      (left.start.market_journals ∙ sym (same-addresses script.start.markets outcome.accounts.markets left.start.markets)
+      ∙ sym (stand-addresses outcome.accounts.markets world.markets left.stand))
+      left.markets
+
+  pub wallet-journals-left : outcome.wallets ≡ map wallet_journal_in world.wallets
+  wallet-journals-left =
+      let address : WalletSeen → Address = λ (seen : WalletSeen). seen.address in
+      wallet-journals-in outcome.wallets world.wallets
+      (left.start.wallet_journals
+      ∙ sym (map-map wallet_state (λ (state : WalletState). state.seen.address) script.start.wallets)
+      ∙ sym (map-map named address (map wallet_state script.start.wallets))
+      ∙ ap (map address) (sym named-left)
+      ∙ map-map named address world.wallets)
+      left.wallets
+
+-- accounts that stand for the markets of one world stand for one market, place by place
+pub stand-for-one : (one other : List PlainMarketAccounts) (states : List MarketState) → AllZip StandIn one states → AllZip StandIn other states → AllZip StandForOne one other
+stand-for-one [] [] [] first second = tt
+stand-for-one [] [] (state ∷ states) first second = absurd first
+stand-for-one [] (y ∷ ys) [] first second = absurd second
+stand-for-one [] (y ∷ ys) (state ∷ states) first second = absurd first
+stand-for-one (x ∷ xs) [] [] first second = absurd first
+stand-for-one (x ∷ xs) [] (state ∷ states) first second = absurd second
+stand-for-one (x ∷ xs) (y ∷ ys) [] first second = absurd first
+stand-for-one (x ∷ xs) (y ∷ ys) (state ∷ states) first second =
+    (record { market = state.market; first = first.0; second = second.0 }, stand-for-one xs ys states first.1 second.1)

@@ -1,0 +1,9 @@
+pub mod TogetherLaws
+pub mod KeptLaws
+pub mod LeftLaws
+pub mod ChainLaws
+pub mod NumberLaws
+pub mod ShardWorlds
+pub mod ShardLaws
+pub mod ShardWorths
+pub mod ShardSums

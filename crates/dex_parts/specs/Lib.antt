@@ -1,0 +1,4 @@
+pub mod Together
+pub mod Chains
+pub mod Numbered
+pub mod Shards
