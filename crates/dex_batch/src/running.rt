@@ -13,7 +13,7 @@ use dex_replay::laws::{a_replay_is_in_one_order, what_one_order_leaves_is_a_run}
 use dex_script_facts::{RowList, Script};
 use dex_stage::Terms;
 use dex_state::Outcome;
-use dex_team::work_all;
+use dex_team::{Sizes, work_all};
 use dex_types::{NoMemory, Row};
 use std::alloc::Global;
 use std::marker::{Send, Sync};
@@ -46,7 +46,10 @@ pub fn run_batch_with_rows<R: Threads + Sync, P: Pace + Sync>(
     a_replay_is_in_one_order();
     what_one_order_leaves_is_a_run();
     let terms = Terms::of(&script);
-    let sizes = (script.start.markets.len(), script.start.wallets.len());
+    let sizes = Sizes {
+        markets: script.start.markets.len(),
+        wallets: script.start.wallets.len(),
+    };
     let (cells, rows, places) = Cells::of_script(alloc, script)?;
     let rows = rows.into_rows(alloc)?;
     let cells = work_all(rt, alloc, cells, terms, sizes, &rows, &places, workers as usize, pace)?;

@@ -1,8 +1,8 @@
 //! Groups of rows, markets and wallets: no row of one names a market or a wallet of another.
 
-ghost use Rattle.std.specs.Prelude.{◌≡◌, ◌<◌, ◌≤◌, All, IfOk, IfSome, IsTrue, length};
+ghost use Rattle.std.specs.Prelude.{◌≡◌, ◌<◌, All, IfOk, IfSome, IsTrue, length};
 ghost use Rattle.std.specs.List.{AllZip};
-ghost use Rattle.dex_team.specs.Groups.{IsOfGroup, IsWalletOf};
+ghost use Rattle.dex_team.specs.Groups.{AreGroups, IsOfGroup, IsWalletOf};
 
 use crate::links::Links;
 use dex_types::{NoMemory, RowPlaces, add};
@@ -25,40 +25,52 @@ impl Groups {
         markets: usize,
         wallets: usize,
         most: usize,
-    ) -> Result<Groups, NoMemory> {
+    ) -> Result<Groups, NoMemory>
+        ensures { IfOk result (AreGroups markets wallets) }
+    {
         let links = Links::of(alloc, places, markets, wallets)?;
         let sizes = links.sizes(alloc)?;
         let count = components(&sizes).min(most).max(1);
-        let markets = group_numbers(alloc, &links.roots, &sizes, count)?;
-        let wallets = numbers_at(alloc, &links.wallets, &markets)?;
-        let largest = sizes.iter().copied().max().unwrap_or(0);
+        let of_markets = groups_of_markets(alloc, &links, &sizes, markets, count)?;
+        let of_wallets = groups_of_wallets(alloc, &links, &of_markets, wallets, count)?;
+        let largest = if links.is_one() { places.len() } else { largest(&sizes) };
         Ok(Groups {
-            markets,
-            wallets,
+            markets: of_markets,
+            wallets: of_wallets,
             count,
             largest,
         })
     }
 
     /// The group of a row, where all that it names is of one.
-    fn of_row(&self, places: &RowPlaces) -> Option<usize> {
-        let number = *self.markets.get(places.market as usize)?;
-        let all = is_of(&self.wallets, places.coin, number)
+    fn of_row(&self, places: &RowPlaces) -> Option<usize>
+        ensures { IfSome result (IsOfGroup self.now.markets.items self.now.wallets.items places.now) }
+    {
+        let number = self.markets.get(places.market as usize).copied()?;
+        if is_of(&self.wallets, places.coin, number)
             && is_of(&self.wallets, places.pc, number)
             && is_of(&self.wallets, places.discount, number)
-            && is_of(&self.wallets, places.referrer, number);
-        if all { Some(number) } else { None }
+            && is_of(&self.wallets, places.referrer, number)
+        {
+            Some(number)
+        } else {
+            None
+        }
     }
 
-    /// The groups of these rows, where each row is of one.
+    /// The groups of rows, where each is of one.
     pub(crate) fn of_rows(
         &self,
         alloc: Global,
         places: &[RowPlaces],
-    ) -> Result<Option<Vec<usize>>, NoMemory> {
+    ) -> Result<Option<Vec<usize>>, NoMemory>
+        ensures { IfOk result (λ found. IfSome found (λ numbers.
+            AllZip (IsOfGroup self.now.markets.items self.now.wallets.items) places.now numbers.items)) }
+    {
         let mut numbers = Vec::with_capacity(alloc, places.len())?;
-        for row in places {
-            match self.of_row(row) {
+        for place in 0..places.len() {
+            let row = places[place];
+            match self.of_row(&row) {
                 Some(number) => add(&mut numbers, number)?,
                 None => return Ok(None),
             }
@@ -67,12 +79,19 @@ impl Groups {
     }
 }
 
-/// Whether a wallet is of this group, or none stands at the place.
-fn is_of(wallets: &[usize], place: u16, number: usize) -> bool {
-    match wallets.get(place as usize) {
+/// Whether the wallet at a place is of this group, if one stands there.
+fn is_of(numbers: &[usize], place: u16, number: usize) -> bool
+    ensures { IsTrue result → IsWalletOf numbers.now number place }
+{
+    match numbers.get(place as usize) {
         Some(own) => *own == number,
         None => true,
     }
+}
+
+/// How many rows the largest component has.
+fn largest(sizes: &[usize]) -> usize {
+    sizes.iter().copied().max().unwrap_or(0)
 }
 
 /// How many components have rows.
@@ -80,7 +99,7 @@ fn components(sizes: &[usize]) -> usize {
     sizes.iter().filter(|size| **size > 0).count()
 }
 
-/// How many components come before that of a root: larger ones, and of its size those before it.
+/// How many components come before that of a root: larger ones, and of its size those of lower roots.
 fn rank(sizes: &[usize], root: usize) -> usize {
     let own = sizes.get(root).copied().unwrap_or(0);
     let mut rank = 0;
@@ -92,29 +111,54 @@ fn rank(sizes: &[usize], root: usize) -> usize {
     rank
 }
 
-/// The groups of markets with these roots.
-fn group_numbers(
+/// The groups of so many markets.
+fn groups_of_markets(
     alloc: Global,
-    roots: &[usize],
+    links: &Links,
     sizes: &[usize],
+    markets: usize,
     count: usize,
-) -> Result<Vec<usize>, NoMemory> {
+) -> Result<Vec<usize>, NoMemory>
+    requires { 0 < count }
+    ensures long { IfOk result (λ numbers. length numbers.items ≡ markets) }
+    ensures within { IfOk result (λ numbers. All (λ number. number < count) numbers.items) }
+{
     let mut numbers = Vec::new(alloc);
-    for root in roots {
-        add(&mut numbers, rank(sizes, *root) % count)?;
+    for market in 0..markets {
+        let root = links.root(market).unwrap_or(market);
+        add(&mut numbers, rank(sizes, root) % count)?;
     }
     Ok(numbers)
 }
 
-/// The groups of wallets that rows on these markets name; 0 for one that no row names.
-fn numbers_at(
+/// The groups of so many wallets: those of the markets with which rows name them, and the first of one that no row names.
+fn groups_of_wallets(
     alloc: Global,
-    wallets: &[usize],
-    markets: &[usize],
-) -> Result<Vec<usize>, NoMemory> {
+    links: &Links,
+    of_markets: &[usize],
+    wallets: usize,
+    count: usize,
+) -> Result<Vec<usize>, NoMemory>
+    requires some { 0 < count }
+    requires within { All (λ number. number < count) of_markets.now }
+    ensures long { IfOk result (λ numbers. length numbers.items ≡ wallets) }
+    ensures within { IfOk result (λ numbers. All (λ number. number < count) numbers.items) }
+{
     let mut numbers = Vec::new(alloc);
-    for market in wallets {
-        add(&mut numbers, markets.get(*market).copied().unwrap_or(0))?;
+    for wallet in 0..wallets {
+        add(&mut numbers, group_of_wallet(links, of_markets, wallet, count))?;
     }
     Ok(numbers)
+}
+
+/// The group of a wallet.
+fn group_of_wallet(links: &Links, of_markets: &[usize], wallet: usize, count: usize) -> usize
+    requires some { 0 < count }
+    requires within { All (λ number. number < count) of_markets.now }
+    ensures { result < count }
+{
+    match links.market_of(wallet) {
+        Some(market) if market < of_markets.len() => of_markets[market],
+        _ => 0,
+    }
 }

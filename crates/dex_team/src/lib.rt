@@ -4,9 +4,8 @@
 mod acting;
 mod dealing;
 mod groups;
-pub mod laws;
 mod links;
 mod shares;
 mod windows;
 
-pub use windows::work_all;
+pub use windows::{Sizes, work_all};

@@ -1,1 +1,0 @@
-//! Laws of rows that act apart.
