@@ -113,3 +113,17 @@ module _ (script : PlainScript) (is : IsScript script) where
   all-left left are single so =
       is-left script left (are-of-script script left (so.kept ∙ opened-opened script first refl)) are (items_of script.rows) is.start.accepted
       (so.acted ∙ ap (fold script.rows) (opened-world script) ∙ sym (script-acts script single))
+
+  -- the same of cells and rows that are these
+  pub can-cells : (cells : CellsState) → cells ≡ first → (rows : List PlainRow) → rows ≡ script.rows → (places : List RowPlaces) → ArePlacedIn cells rows places
+      → CanAllAct rows places cells
+  can-cells cells made rows same places placed =
+      subst (CanAllAct rows places) (sym made)
+      (subst (λ (some : List PlainRow). CanAllAct some places first) (sym same)
+      (all-can places (subst (λ (some : List PlainRow). ArePlacedIn first some places) same (subst (λ (c : CellsState). ArePlacedIn c rows places) made placed))))
+
+  pub left-cells : (cells : CellsState) → cells ≡ first → (rows : List PlainRow) → rows ≡ script.rows → (left : CellsState) → AreCells left → HasNoSwap script.rows
+      → HaveActed rows rows cells left → IsReplayOf script (closed left)
+  left-cells cells made rows same left are single so =
+      all-left left are single
+      (subst (λ (c : CellsState). HaveActed script.rows script.rows c left) made (subst (λ (some : List PlainRow). HaveActed some some cells left) same so))

@@ -1,7 +1,7 @@
 -- Rows that act one after the other.
 use Rattle.std.proofs.Common.{◌≡◌, ℕ, ◌+◌, ◌<◌, ◌≤◌, true, false, cond, eqb, List, [], ◌∷◌, ◌++◌, drop, get_or, length, map, take, refl, sym, ap, ◌∙◌, subst, arith}
 use Rattle.std.specs.List.{All, AllZip}
-use Rattle.std.proofs.lemmas.List.{append-nil, append_assoc, drop_more, get_or-map, length-map, length-take-le, take-append-drop, take_all, take_more}
+use Rattle.std.proofs.lemmas.List.{append-nil, append_assoc, drop-map, drop_more, get_or-map, length-map, length-take-le, take-append-drop, take-map, take_all, take_more}
 use Rattle.std.proofs.lemmas.Bool.{cond-false, cond-true}
 use Rattle.std.proofs.lemmas.List.Elements.{All-drop, All-take, All-weaker}
 use Rattle.std.proofs.lemmas.Slice.Zip.{AllZip-long}
@@ -174,3 +174,35 @@ module _ (rows : List PlainRow) (places : List RowPlaces) (cells : CellsState) (
     placed = stand-still cells after can.their so.their so.kept (drop count rows) (drop count places) (zip-drop (ArePlacesIn cells) count rows places can.placed);
     room = so.room (drop count rows) parted;
   }
+
+-- ---- a window
+
+module _ (rows now later : List Row) (places now_places later_places : List RowPlaces) (count : ℕ) (cells : CellsState) (can : CanAllAct (map row_of rows) places cells)
+    (now_is : now ≡ take count rows) (later_is : later ≡ drop count rows) (now_places_are : now_places ≡ take count places) (later_places_are : later_places ≡ drop count places) where
+  now-rows : map row_of now ≡ take count (map row_of rows)
+  now-rows = ap (λ (some : List Row). map row_of some) now_is ∙ sym (take-map row_of count rows)
+
+  later-rows : map row_of later ≡ drop count (map row_of rows)
+  later-rows = ap (λ (some : List Row). map row_of some) later_is ∙ sym (drop-map row_of count rows)
+
+  pub window-can : CanAllAct (map row_of now) now_places cells
+  window-can =
+      subst (λ (some : List PlainRow). CanAllAct some now_places cells) (sym now-rows)
+      (subst (λ (some : List RowPlaces). CanAllAct (take count (map row_of rows)) some cells) (sym now_places_are) (front-can (map row_of rows) places cells can count))
+
+  pub window-more : (done all : List PlainRow) (first next : CellsState) → done ++ map row_of rows ≡ all → HaveActed done done first cells
+      → HaveActed (map row_of now) (map row_of now) cells next
+      → CanAllAct (map row_of later) later_places next × ((some : List PlainRow) × (some ++ map row_of later ≡ all) × HaveActed some some first next)
+  window-more done all first next whole so acted = (
+    subst (λ (some : List PlainRow). CanAllAct some later_places next) (sym later-rows)
+        (subst (λ (some : List RowPlaces). CanAllAct (drop count (map row_of rows)) some next) (sym later_places_are)
+        (behind-can (map row_of rows) places cells can count next (subst (λ (some : List PlainRow). HaveActed some some cells next) now-rows acted))),
+    (
+      done ++ map row_of now,
+      append_assoc done (map row_of now) (map row_of later)
+          ∙ ap (λ (some : List PlainRow). done ++ some) (ap (λ (some : List PlainRow). some ++ map row_of later) now-rows
+          ∙ ap (λ (some : List PlainRow). take count (map row_of rows) ++ some) later-rows ∙ take-append-drop count (map row_of rows))
+          ∙ whole,
+      acted-then done done (map row_of now) (map row_of now) first cells next so acted,
+    ),
+  )

@@ -141,6 +141,13 @@ same-rooms before after kept = (
       ∙ map-map made_of wallet_room before.wallets,
 )
 
+pub same-sizes : (before after : CellsState) → opened_of after ≡ opened_of before → (length after.markets ≡ length before.markets) × (length after.wallets ≡ length before.wallets)
+same-sizes before after kept =
+    let rooms = same-rooms before after kept in (
+      sym (length-map after.markets market_room) ∙ ap length rooms.0 ∙ length-map before.markets market_room,
+      sym (length-map after.wallets wallet_room) ∙ ap length rooms.1 ∙ length-map before.wallets wallet_room,
+    )
+
 -- behind a row there is room for those behind it
 pub room-behind : (row : PlainRow) (rows : List PlainRow) (before after : CellsState) → HasRoom (row ∷ rows) before → world_of after ≡ act row (world_of before)
     → opened_of after ≡ opened_of before → HasRoom rows after

@@ -371,6 +371,9 @@ module _ (bank : CellsState) (terms : Terms) (terms_in : AreTermsIn terms bank) 
 
   -- ---- home
 
+  abbrev pub at_home : List MarketCellState → List CellState → CellsState
+  at_home markets wallets = record { mints = bank.mints; srm = terms.srm; msrm = terms.msrm; markets = markets; wallets = wallets; program = terms.program }
+
   abbrev own_markets : ShareState → List MarketCellState
   own_markets one = one.cells.markets
 
@@ -420,8 +423,8 @@ module _ (bank : CellsState) (terms : Terms) (terms_in : AreTermsIn terms bank) 
         wallet-part number within =
             sym (w_parts.each number [] (omega (arith, within, many, length-map after own_wallets_of))) ∙ get_or-map own_wallets_of after number none [] (omega (arith, within, many))
 
-        pub home-kept : AreCells (left end end-ran kept-at markets wallets m_parts.long w_parts.long market-part wallet-part)
+        pub home-kept : AreCells (at_home markets wallets)
         home-kept = left-kept end end-ran kept-at markets wallets m_parts.long w_parts.long market-part wallet-part
 
-        pub home-acted : HaveActed rows rows bank (left end end-ran kept-at markets wallets m_parts.long w_parts.long market-part wallet-part)
+        pub home-acted : HaveActed rows rows bank (at_home markets wallets)
         home-acted = left-acted end end-ran kept-at markets wallets m_parts.long w_parts.long market-part wallet-part

@@ -122,7 +122,7 @@ fn all_run<'a, R: Threads + Sync, P: Pace + Sync>(
     rt: &R,
     shares: Vec<Share<'a, P>>,
 ) -> Vec<Share<'a, P>>
-    requires { All IsReady shares.items }
+    requires ready { All IsReady shares.items }
     ensures { AllZip HasRun shares.entry.items result.items }
 {
     let mut shares = shares;

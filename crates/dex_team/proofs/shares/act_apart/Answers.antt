@@ -26,8 +26,8 @@ shares-requires-clause-cells g c =
     (are-parts _ _ _ _ _ c.deref.ensures.value c.into_parts-mints.ensures.markets c.in_ok-of_markets.ensures.parts)
     (are-parts _ _ _ _ _ c.deref-2.ensures.value c.into_parts-mints.ensures.wallets c.in_ok-of_wallets.ensures.parts)
 
-pub all_run-requires : goal.all_run-requires
-all_run-requires g c κs within =
+pub all_run-requires-clause-ready : goal.all_run-requires-clause-ready
+all_run-requires-clause-ready g c κs within =
     all-ready c.args.cells c.args.terms c.requires.terms (map row_of c.args.window.now.rows.now) c.requires.can.0 c.requires.can.1 c.into_parts-mints.ensures.cells
     c.args.groups.now.count c.args.groups.now.markets.items c.args.groups.now.wallets.items c.requires.groups.markets_long c.requires.groups.wallets_long
     c.requires.groups.markets_within c.requires.groups.wallets_within c.args.window.now.numbers.now c.requires.can.2

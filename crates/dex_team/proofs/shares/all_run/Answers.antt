@@ -5,7 +5,7 @@ use Rattle.dex_team.specs.Shares.{HasRun, IsReady, ShareState}
 use Rattle.dex_team.proofs.shares.all_run.Goals as goal
 
 pub run_jobs-requires-clause-ready : goal.run_jobs-requires-clause-ready
-run_jobs-requires-clause-ready g c κs within = subst (All IsReady) (sym c.deref_mut.ensures.value) c.requires
+run_jobs-requires-clause-ready g c κs within = subst (All IsReady) (sym c.deref_mut.ensures.value) c.requires.ready
 
 pub returns : goal.returns
 returns g c =
