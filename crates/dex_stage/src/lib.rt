@@ -1,7 +1,6 @@
-//! How far a script's rows have come, cell by cell.
+//! What a row sees of wallets in hand.
 #![tactic(auto)]
 
-pub mod laws;
 mod parts;
 
-pub use parts::{Parts, Terms, seen_by, step_parts};
+pub use parts::{Terms, seen_by};

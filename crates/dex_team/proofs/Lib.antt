@@ -1,7 +1,6 @@
-pub mod Working
-pub mod Shelves
-pub mod PlacesOf
-pub mod Returning
-pub mod Handing
-pub mod Starting
-pub mod WaveLaws
+mod PartLaws
+pub mod RoomLaws
+mod ActLaws
+mod GroupLaws
+mod ShareLaws
+mod DealLaws

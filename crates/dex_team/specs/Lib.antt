@@ -1,5 +1,5 @@
-pub mod Packets
-pub mod Slots
-pub mod Lists
-pub mod Closing
-pub mod Waves
+pub mod Parts
+pub mod Rooms
+pub mod Acting
+pub mod Groups
+pub mod Shares

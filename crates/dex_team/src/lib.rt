@@ -1,16 +1,11 @@
-//! A script's rows in their order on several threads: a leader that has the cells, and helpers.
+//! A script's rows in their order on several threads: rows that share no market and no wallet act side by side.
 #![tactic(auto)]
 
-mod ahead;
-mod board;
-mod desk;
-mod hand;
-pub mod laws;
-mod leader;
-mod packet;
-mod slots;
-mod team;
+mod acting;
+mod dealing;
+mod groups;
+mod links;
+mod shares;
+mod windows;
 
-pub use desk::Lists;
-pub use packet::Naming;
-pub use team::work_all;
+pub use windows::{Sizes, work_all};

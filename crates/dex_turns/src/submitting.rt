@@ -6,7 +6,7 @@ ghost use Rattle.std.specs.Prelude.{◌≡◌, IfSome};
 ghost use Rattle.std.specs.List.{All};
 ghost use Rattle.dex_fold.specs.World as world;
 ghost use Rattle.dex_act.specs.Wallets.{Fits, roles_of};
-ghost use Rattle.dex_stage.specs.Stages.{world_with};
+ghost use Rattle.dex_stage.specs.Parts.{world_with};
 ghost use Rattle.dex_turns.specs.Seats.{IsSeat, IsSeatOf};
 ghost use Rattle.dex_turns.specs.Submitted.{AreNext, HasSubmitted, HaveSubmitted, IsNext};
 

@@ -1,4 +1,0 @@
-pub mod Frames
-pub mod Counted
-pub mod Actions
-pub mod Steps
