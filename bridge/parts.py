@@ -20,11 +20,12 @@ _PAST_DAYS = 253402300800
 
 @dataclass
 class _Part:
-    """A part in the making: its day, the time of the clock before it, and its lines."""
+    """A part in the making: its day, the time of the clock before it, its lines, and how many of them are rows that act."""
 
     day: str
     clock: Optional[int]
     lines: list[Line] = field(default_factory=list)
+    rows: int = 0
 
     def front(self, maker: Maker) -> list[str]:
         """What a dump does not keep: the program, and the clock, where the first row of the part does not set it."""
@@ -50,12 +51,13 @@ def _parts(maker: Maker, transactions: Iterable[Transaction], most: int) -> Iter
         day, clock = _day_of(transaction, part.day), maker.clock
         follow(maker, transaction)
         lines, maker.lines = maker.lines, []
-        is_full = acting(part.lines) + acting(lines) > most
-        if (day != part.day or is_full) and acting(part.lines):
+        rows = acting(lines)
+        if part.rows and (day != part.day or part.rows + rows > most):
             yield part
             part = _Part(day, clock)
         part.day = day
         part.lines += lines
+        part.rows += rows
     yield part
 
 
@@ -131,10 +133,10 @@ def write_parts(snapshot: Snapshot, transactions: Iterable[Transaction], wish: W
     with Folder(path) as folder:
         for number, part in enumerate(_parts(maker, count(), most), 1):
             name = f"{number:05}_{part.day}.csv" if part.day else f"{number:05}.csv"
-            front = part.front(maker) if acting(part.lines) else []
+            front = part.front(maker) if part.rows else []
             texts = front + [line.row for line in part.lines if line.row is not None]
             table.writelines(line + "\n" for line in [f"part {name}", *numbered(part.lines, len(front) + 1)])
-            rows += acting(part.lines)
+            rows += part.rows
             if number == 1:
                 name_of_first, first = name, texts
             else:
