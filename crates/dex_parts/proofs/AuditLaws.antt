@@ -20,7 +20,7 @@ module _ {A B : Type 0} (tell : A → List B) (own : A → ℕ) where
   abbrev kept : ℕ → List A → List A
   kept shard xs = filter (λ (x : A). own x == shard) xs
 
-  -- in one of this many
+  -- in one of so many
   abbrev IsToldIn : ℕ → List A → B → Type 0
   IsToldIn count xs y = (shard : ℕ) × (shard < count) × Contains (flat_map tell (kept shard xs)) y
 

@@ -29,7 +29,7 @@ use Rattle.dex_parts.proofs.TogetherLaws.{behind-others, items-append}
 
 -- ---- lists behind others
 
--- what is recorded of two that stand one after the other, as a pair tells it
+-- what is told of two that stand one behind the other, as a pair tells it
 behind-told : {A B : Type 0} (tell : A → B) (one : A → A → A) (other : B → B → B) → ((x y : A) → tell (one x y) ≡ other (tell x) (tell y))
     → (xs ys : List A) → map tell (each_behind one xs ys) ≡ each_behind other (map tell xs) (map tell ys)
 behind-told tell one other same [] ys = refl
@@ -127,7 +127,7 @@ module _ (script first second : PlainScript) (one two : PlainOutcome) (are : Are
       ap (λ (start : PlainAccounts). start_world (record script { start = start })) (sym are.start)
       ∙ ap (λ (program : Program). start_world (record first { program = program })) (sym are.program)
 
-  -- the world at its end is that after the one at the end of the first
+  -- the world at its end is that behind the one at the end of the first
   ends : world_after script (items_of script.rows) ≡ world_behind early late
   ends =
       ap (λ (world : World). fold_items (items_of script.rows) world) start-same
@@ -240,7 +240,7 @@ cut-behind done rows later cut behind =
     All-append Apart done rows
     (All-weaker (λ (one : PlainRow). All (IsApart one) (rows ++ later)) Apart (λ one apart. All-behind (IsApart one) rows later apart) done cut) behind
 
--- parts after a first one
+-- parts behind a first one
 chain-behind : (script first : PlainScript) (one : PlainOutcome) (parts : List PlainScript) (others : List PlainOutcome) → script.rows ≡ first.rows ++ rows_of_parts parts
     → IsCut first.rows (rows_of_parts parts) → AreCut parts → first.start ≡ script.start → first.program ≡ script.program → IsReplayOf first one
     → AreLinked script.program one.accounts parts others → IsReplayOf script (outcomes_behind one others)

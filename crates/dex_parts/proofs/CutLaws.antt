@@ -107,7 +107,7 @@ module _ (places : List RowPlaces) (most : ℕ) (order : AreInOrder (map (λ (at
     stays-there : get_or numbers most 0 ≤ get_or numbers (most - 1) 0
     stays-there = omega (arith, stays, number-at places (most - 1) d (omega (arith, within)), number-at places most e within)
 
-    -- after the first two, where they have one number
+    -- behind the first two, where they have one number
     pub parted-two : most ≡ 1 → ArePartedAt 2 numbers
     parted-two is =
         let first : get_or numbers (most - 1) 0 ≡ get_or numbers 0 0 = ap (λ (k : ℕ). get_or numbers k 0) (omega (arith, is)) in

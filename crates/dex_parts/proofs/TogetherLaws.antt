@@ -1,4 +1,4 @@
--- Rows that act after others leave what they leave by themselves, after the journals of the others.
+-- Rows that act behind others leave what they leave by themselves, behind the journals of the others.
 use Rattle.std.proofs.Common.{◌≡◌, ◌∙◌, Bool, true, false, if◌then◌else◌, List, [], ◌∷◌, ◌++◌, Option, Some, None, ap, append_assoc, get_or, is_some, map, refl, sym}
 use Rattle.std.proofs.lemmas.List.{append-nil}
 use Rattle.dex_types.specs.declared.addresses.Address.{Address}
@@ -171,6 +171,6 @@ world-bare world =
     ap (λ (ms : List MarketState). record world { markets = ms; wallets = each_behind wallet_behind world.wallets (map bare_wallet world.wallets) }) (markets-bare world.markets)
     ∙ ap (λ (ws : List WalletState). record world { wallets = ws }) (wallets-bare world.wallets)
 
--- items that act after others
+-- items that act behind others
 pub behind-others : (items : List Item) (world : World) → fold_items items world ≡ world_behind world (fold_items items (bare_world world))
 behind-others items world = ap (fold_items items) (sym (world-bare world)) ∙ items-act items world (bare_world world)

@@ -1,5 +1,4 @@
--- A script in parts, one after the other: each further part starts with the accounts that the one before left, under
--- the same program.
+-- A script in parts, one after the other: each further part starts with the accounts that the one before left, under the same program.
 use Rattle.std.specs.Prelude.{◌≡◌, ◌==◌, ◌++◌, false, List, [], ◌∷◌, All}
 use Rattle.std.specs.List.{flat_map}
 use Rattle.dex_types.specs.declared.terms.Program.{Program}
@@ -12,7 +11,7 @@ use Rattle.dex_parts.specs.Together.{each_behind}
 
 -- ---- what parts leave together
 
--- a market's journal after that of an earlier time
+-- a market's journal behind that of an earlier time
 abbrev pub market_journal_behind : PlainMarketJournal → PlainMarketJournal → PlainMarketJournal
 market_journal_behind before journal = record before { entries = before.entries ++ journal.entries }
 
@@ -20,7 +19,7 @@ market_journal_behind before journal = record before { entries = before.entries 
 abbrev pub wallet_journal_behind : PlainWalletJournal → PlainWalletJournal → PlainWalletJournal
 wallet_journal_behind before journal = record before { entries = before.entries ++ journal.entries }
 
--- an outcome after an earlier one: its accounts, and each journal after the one of the same market or wallet
+-- an outcome behind an earlier one: its accounts, and each journal behind the one of the same market or wallet
 abbrev pub outcome_behind : PlainOutcome → PlainOutcome → PlainOutcome
 outcome_behind before outcome = record {
   accounts = outcome.accounts;
@@ -28,7 +27,7 @@ outcome_behind before outcome = record {
   wallets = each_behind wallet_journal_behind before.wallets outcome.wallets;
 }
 
--- outcomes one after the other
+-- outcomes one behind the other
 abbrev pub outcomes_behind : PlainOutcome → List PlainOutcome → PlainOutcome
 outcomes_behind before [] = before
 outcomes_behind before (outcome ∷ outcomes) = outcomes_behind (outcome_behind before outcome) outcomes
@@ -39,8 +38,8 @@ outcomes_behind before (outcome ∷ outcomes) = outcomes_behind (outcome_behind 
 abbrev pub IsCut : List PlainRow → List PlainRow → Type 0
 IsCut done later = All (λ (one : PlainRow). All (λ (other : PlainRow). (one.number == other.number) ≡ false) later) done
 
--- a script is two others, one after the other: its rows are those of both, cut where no swap is parted; the first
--- starts as it does, and the second with the accounts that this outcome of the first has; and all have one program
+-- a script is two others, one behind the other: its rows are those of both, cut where no swap is parted; the first starts as it does,
+-- and the second with the accounts that this outcome of the first has; and all have one program
 pub record AreTwoParts (script first : PlainScript) (left : PlainOutcome) (second : PlainScript) : Type 0 where
   pub rows : script.rows ≡ first.rows ++ second.rows
   pub cut : IsCut first.rows second.rows
@@ -60,8 +59,8 @@ abbrev pub AreCut : List PlainScript → Type 0
 AreCut [] = Unit {0}
 AreCut (part ∷ parts) = IsCut part.rows (rows_of_parts parts) × AreCut parts
 
--- each part starts with the accounts that the one before left, the first with these, and all have this program; and the
--- outcome of each is a replay of it
+-- each part starts with the accounts that the one before left, the first with these, and all have this program; and the outcome of
+-- each is a replay of it
 abbrev pub AreLinked : Program → PlainAccounts → List PlainScript → List PlainOutcome → Type 0
 AreLinked program start [] [] = Unit {0}
 AreLinked program start (part ∷ parts) (outcome ∷ outcomes) =

@@ -7,12 +7,12 @@ pub record AreInOrder (numbers : List ℕ) : Type 0 where
   pub rising : (one other : ℕ) → one < other → other < length numbers → slice_index numbers one ≤ slice_index numbers other
   pub two : (place : ℕ) → place + 2 < length numbers → slice_index numbers place < slice_index numbers (place + 2)
 
--- of numbers in their order none in front is one after
+-- of numbers in their order none in front is one behind
 abbrev pub ArePartedAt : ℕ → List ℕ → Type 0
 ArePartedAt count numbers = All (λ (one : ℕ). All (λ (other : ℕ). (one == other) ≡ false) (drop count numbers)) (take count numbers)
 
--- this many numbers, and so many after them, and so on, are all of these numbers: at least one each time and at most
--- `most`, or two where that is one; and no number stands on both sides of a cut
+-- so many numbers, and so many behind them, and so on, are all of these numbers: at least one each time and at most `most`, or two where
+-- that is one; and no number stands on both sides of a cut
 abbrev pub AreCutBy : ℕ → List ℕ → List ℕ → Type 0
 AreCutBy most [] numbers = numbers ≡ []
 AreCutBy most (count ∷ counts) numbers =

@@ -14,14 +14,14 @@ IsWithin count link = (link.0 < count) × (link.1 < count)
 abbrev pub relabelled : ℕ → ℕ → ℕ → ℕ
 relabelled from to label = if label == from then to else label
 
--- labels after a link: all that had the higher of the two labels have the lower one
+-- labels behind a link: all that had the higher of the two labels have the lower one
 abbrev pub joined : List ℕ → Link → List ℕ
 joined labels link =
     let one = slice_index labels link.0 in
     let other = slice_index labels link.1 in
     if nat_lt one other then map (relabelled other one) labels else map (relabelled one other) labels
 
--- after several
+-- behind several
 abbrev pub all_joined : List ℕ → List Link → List ℕ
 all_joined labels [] = labels
 all_joined labels (link ∷ links) = all_joined (joined labels link) links
@@ -38,7 +38,7 @@ row_links markets at =
     role_links markets at.market at.coin
     ++ (role_links markets at.market at.pc ++ (role_links markets at.market at.discount ++ role_links markets at.market at.referrer))
 
--- the markets of the legs of a swap: a row, and the one after it, if that has its number
+-- the markets of the legs of a swap: a row, and the one behind it, if that has its number
 abbrev pub leg_links : RowPlaces → List RowPlaces → List Link
 leg_links at [] = []
 leg_links at (next ∷ others) = if at.number == next.number then (at.market, next.market) ∷ [] else []

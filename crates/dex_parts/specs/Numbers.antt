@@ -3,16 +3,16 @@ use Rattle.std.specs.Prelude.{◌+◌, ℕ, zero, suc, List, [], ◌∷◌, ◌+
 use Rattle.dex_types.specs.declared.rows.RowPlaces.{RowPlaces}
 use Rattle.dex_parts.specs.Joins.{all_joined, links_of}
 
--- the first n numbers
+-- the first so many numbers
 abbrev pub numbers_to : ℕ → List ℕ
 numbers_to zero = []
 numbers_to (suc count) = numbers_to count ++ count ∷ []
 
--- the shard of a label: the place of one of this many markets names one, and any other label is of the first
+-- the shard of a label: the place of one of so many markets names one, and any other label is of the first
 abbrev pub in_market : ℕ → ℕ → ℕ
 in_market markets label = if nat_lt label markets then label else 0
 
--- the labels of this many markets, and of this many wallets after them, where rows at these places join them
+-- the labels of so many markets, and of so many wallets behind them, where rows at these places join them
 abbrev pub labels_of : ℕ → ℕ → List RowPlaces → List ℕ
 labels_of markets wallets places = all_joined (numbers_to (markets + wallets)) (links_of markets places)
 

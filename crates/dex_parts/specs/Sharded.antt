@@ -20,8 +20,8 @@ sharding_by start markets wallets = record {
   wallet = λ (address : Address). number_at (wallet_place address start.wallets) wallets;
 }
 
--- the numbers of a script's markets, wallets and rows: the script falls into the shards that those of markets and
--- wallets are, and a row's number is its market's
+-- the numbers of a script's markets, wallets and rows: the script falls into the shards that those of markets and wallets are, and a
+-- row's number is its market's
 pub record AreShardsOf (script : PlainScript) (of_markets of_wallets of_rows : List ℕ) : Type 0 where
   pub falls : FallsInto (sharding_by script.start of_markets of_wallets) script
   pub rows : of_rows ≡ map (λ (row : PlainRow). (sharding_by script.start of_markets of_wallets).market row.market) script.rows

@@ -80,9 +80,8 @@ module _ (sharding : Sharding) (shard : ℕ) where
   abbrev pub wallet_journals_in : List PlainWalletJournal → List PlainWalletJournal
   wallet_journals_in journals = filter (λ (journal : PlainWalletJournal). has_wallet journal.address) journals
 
--- a script is this shard of another: it starts with the shard's markets and wallets, under the same names of SRM and
--- MSRM and the same program, and has the shard's rows. Its mints may state supplies of their own, since what they are
--- of is held in all shards together
+-- a script is this shard of another: it starts with the shard's markets and wallets, under the same names of SRM and MSRM and the same
+-- program, and has the shard's rows. Its mints may state supplies of their own, since what they are of is held in all shards together
 pub record IsShardOf (sharding : Sharding) (shard : ℕ) (script part : PlainScript) : Type 0 where
   pub markets : part.start.markets ≡ markets_in sharding shard script.start.markets
   pub wallets : part.start.wallets ≡ wallets_in sharding shard script.start.wallets
@@ -91,8 +90,8 @@ pub record IsShardOf (sharding : Sharding) (shard : ℕ) (script part : PlainScr
   pub program : part.program ≡ script.program
   pub rows : part.rows ≡ rows_in sharding shard script.rows
 
--- an outcome is that of this shard: its journals are those of the shard's markets and wallets, its wallets are the same
--- bytes, and of each market it has accounts that stand for one
+-- an outcome is that of this shard: its journals are those of the shard's markets and wallets, its wallets are the same bytes, and of
+-- each market it has accounts that stand for one
 pub record IsLeftInShard (sharding : Sharding) (shard : ℕ) (whole part : PlainOutcome) : Type 0 where
   pub market_journals : part.markets ≡ market_journals_in sharding shard whole.markets
   pub wallet_journals : part.wallets ≡ wallet_journals_in sharding shard whole.wallets
@@ -101,7 +100,7 @@ pub record IsLeftInShard (sharding : Sharding) (shard : ℕ) (whole part : Plain
 
 -- ---- all shards together
 
--- the sum of what the first n shards give
+-- the sum of what the first so many shards give
 abbrev pub sum_over : ℕ → (ℕ → ℕ) → ℕ
 sum_over zero of_shard = 0
 sum_over (suc count) of_shard = sum_over count of_shard + of_shard count

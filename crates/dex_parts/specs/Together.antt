@@ -1,8 +1,8 @@
--- Worlds after others: the same markets and wallets, with journals that go on.
+-- Worlds behind others: the same markets and wallets, with journals that go on.
 use Rattle.std.specs.Prelude.{List, [], ◌∷◌, ◌++◌, map}
 use Rattle.dex_fold.specs.World.{MarketState, WalletState, World}
 
--- a market, with its journal after that of an earlier time
+-- a market, with its journal behind that of an earlier time
 abbrev pub market_behind : MarketState → MarketState → MarketState
 market_behind before state = record { market = state.market; entries = before.entries ++ state.entries }
 

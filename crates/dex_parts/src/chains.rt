@@ -18,8 +18,8 @@ fn push_count(counts: &mut Vec<usize>, count: usize) -> Result<(), NoMemory>
     }
 }
 
-/// How many of these rows a part has that begins with the first: `most` at most, one less where that would part a swap,
-/// and two where the first two are a swap and `most` is one.
+/// How many of these rows a part has that begins with the first: `most` at most, one less where that would part a swap, and two where the
+/// first two are a swap and `most` is one.
 fn front_of(places: &[RowPlaces], most: usize) -> usize
     requires some { (0 < length places.now) × (0 < most) }
     requires order { AreInOrder (map (λ (at : RowPlacesOf). at.number) places.now) }
@@ -54,8 +54,8 @@ fn counts_of(alloc: Global, places: &[RowPlaces], most: usize) -> Result<Vec<usi
     Ok(counts)
 }
 
-/// How many rows each part of a chain has, for parts of at most `rows` rows (or two, where that is one): no swap has
-/// its legs in two parts. Asks memory.
+/// How many rows each part of a chain has, for parts of at most `rows` rows (or two, where that is one): no swap has its legs in two
+/// parts. Asks memory.
 pub fn chained(alloc: Global, script: &Script, rows: usize) -> Result<Vec<usize>, NoMemory>
     requires { 0 < rows }
     ensures { IfOk result (λ counts. AreCutBy rows counts.items (numbers_of script.now.rows)) }

@@ -38,7 +38,7 @@ fn join(labels: &mut [u32], one: usize, other: usize)
     }
 }
 
-/// Joins the market of a row with the wallet of a role, if the role names one. Wallets stand after so many markets.
+/// Joins the market of a row with the wallet of a role, if the role names one. Wallets stand behind so many markets.
 fn join_role(labels: &mut [u32], markets: u16, market: u16, role: u16)
     requires within { All (IsWithin (length labels.old)) (role_links markets market role) }
     ensures { labels.new ≡ all_joined labels.old (role_links markets market role) }
@@ -59,7 +59,7 @@ fn join_row(labels: &mut [u32], markets: u16, at: &RowPlaces)
     join_role(labels, markets, at.market, at.referrer);
 }
 
-/// Joins the markets of a swap's legs: those of a row and the one after it, if that has its number.
+/// Joins the markets of a swap's legs: those of a row and the one behind it, if that has its number.
 fn join_legs(labels: &mut [u32], at: &RowPlaces, others: &[RowPlaces])
     requires within { All (IsWithin (length labels.old)) (leg_links at.now others.now) }
     ensures { labels.new ≡ all_joined labels.old (leg_links at.entry.now others.entry.now) }

@@ -11,8 +11,8 @@ use dex_script_facts::Script;
 use dex_types::{NoMemory, RowPlaces};
 use std::alloc::Global;
 
-/// The shard of each market, wallet and row of a script. A shard is named by the place of its first market. Rows of
-/// different shards share no market and no wallet.
+/// The shard of each market, wallet and row of a script. A shard is named by the place of its first market. Rows of different shards
+/// share no market and no wallet.
 #[derive(Debug, Drop)]
 pub struct Shards {
     /// Of each market, in declared order.
@@ -33,7 +33,7 @@ fn push_number(numbers: &mut Vec<u32>, number: u32) -> Result<(), NoMemory>
     }
 }
 
-/// The first n numbers. Asks memory.
+/// The first so many numbers. Asks memory.
 fn labels_to(alloc: Global, count: u32) -> Result<Vec<u32>, NoMemory>
     ensures { IfOk result (λ labels. labels.items ≡ numbers_to count) }
 {
@@ -78,8 +78,7 @@ fn shards_of_rows(
     Ok(shards)
 }
 
-/// The labels of this many markets, and of this many wallets after them, where rows at these places join them. Asks
-/// memory.
+/// The labels of so many markets, and of so many wallets behind them, where rows at these places join them. Asks memory.
 fn labels_among(
     alloc: Global,
     markets: u16,
@@ -94,7 +93,7 @@ fn labels_among(
     Ok(labels)
 }
 
-/// The shards of this many markets and wallets, and of rows on them. Asks memory.
+/// The shards of so many markets and wallets, and of rows on them. Asks memory.
 fn shards_among(
     alloc: Global,
     markets: u16,
