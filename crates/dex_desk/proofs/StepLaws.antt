@@ -61,8 +61,3 @@ said-behind before after text old mid new acted more = record {
   is = more ∙ ap (λ (l : List ℕ). l ++ text) acted.text ∙ append_assoc old acted.said text;
   behind = record { answers = acted.said; acted = acted.acted; is = refl };
 }
-
--- what holds of an answer that is Ok
-pub if-ok : {A E : Type 0} (P Q : A → Type 0) → ((x : A) → P x → Q x) → (r : Result A E) → IfOk r P → IfOk r Q
-if-ok P Q so (Ok x) holds = so x holds
-if-ok P Q so (Err e) holds = tt

@@ -1,4 +1,5 @@
--- A block: rows that were accepted, and have not acted yet. It is a script so far, of the accounts that the blocks before it left.
+-- A block: rows that were accepted, and have not acted yet. It is a script so far, of the accounts that the blocks
+-- before it left.
 use Rattle.std.specs.Prelude.{◌≡◌, ℕ, ◌≤◌, ◌-◌, ◌^◌, ℤ, true, false, List, [], Result, Ok, Err}
 use Rattle.dex_types.specs.declared.terms.Program.{Program}
 use Rattle.dex_types.specs.Accounts.{PlainAccounts}

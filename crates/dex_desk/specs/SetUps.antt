@@ -32,8 +32,8 @@ abbrev pub clock_after : ℤ → List Fields → ℤ
 clock_after clock [] = clock
 clock_after clock (row ∷ rows) = clock_after (clock_behind clock row) rows
 
--- the text is a script, whose rows have acted; the next row has the number and the clock of one behind them; and none was accepted
--- yet
+-- the text is a script, whose rows have acted; the next row has the number and the clock of one behind them; and none
+-- was accepted yet
 pub record IsOpened (text : List ℕ) (block : PlainBlock) : Type 0 where
   pub script : PlainScript
   pub reads : Reads false text script

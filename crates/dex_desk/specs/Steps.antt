@@ -45,7 +45,8 @@ pub record SaidBehind (before after : PlainBlock) (text said : List ℕ) : Type 
   pub acted : Acted before after answers
   pub is : said ≡ answers ++ text
 
--- a row was added to the block, and is answered when it acts; or it has a fault, and then the block is left as it is without it
+-- a row was added to the block, and is answered when it acts; or it has a fault, and then the block is left as it is
+-- without it
 abbrev pub Added : Result PlainBlock FaultKind → PlainBlock → PlainStep → Type 0
 Added (Ok block) before step = (step.said ≡ []) × (step.after ≡ block)
 Added (Err kind) before step = SaidBehind before step.after (fault_line before kind) step.said

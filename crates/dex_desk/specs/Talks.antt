@@ -17,8 +17,8 @@ use Rattle.dex_desk.specs.Turns.Turn.{Heard, Said}
 
 -- ---- where a session stands
 
--- a set-up, of which these lines are kept, and behind them this was heard; or a block, and what was heard of which no line was taken
--- yet; or a block, where the input has ended, and all that is left of it; or nothing more is heard
+-- a set-up, of which these lines are kept, and behind them this was heard; or a block, and what was heard of which no
+-- line was taken yet; or a block, where the input has ended, and all that is left of it; or nothing more is heard
 pub data Session : Type 0 where
   Sets : (kept text : List ℕ) → Session
   Serves : (block : PlainBlock) (text : List ℕ) → Session
@@ -145,8 +145,8 @@ Leaves (Serves block text) said =
     (left : PlainBlock) × SaidIn block left (dump_text left.draft.script.start) [] said
 Leaves _ said = said ≡ []
 
--- a session stops before its input ends, when all that it owed is said: a read failed, or more was heard than may be, and the
--- accounts are written; or there is no memory
+-- a session stops before its input ends, when all that it owed is said: a read failed, or more was heard than may be,
+-- and the accounts are written; or there is no memory
 abbrev pub StopsBy : Over → Session → List ℕ → Type 0
 StopsBy over.Input session said = ⊥
 StopsBy over.ReadFault session said = IsListening session × Leaves session said
@@ -192,7 +192,8 @@ heard (byte ∷ bytes) (Sets kept text) = Sets kept (text ++ byte ∷ bytes)
 heard (byte ∷ bytes) (Serves block text) = Serves block (text ++ byte ∷ bytes)
 heard bytes session = session
 
--- a call: the desk hears only when it has said all that it owes, and has taken and answered all that it heard; and it says a front of what it owes
+-- a call: the desk hears only when it has said all that it owes, and has taken and answered all that it heard; and it
+-- says a front of what it owes
 abbrev pub IsTurn : Turn → Talk → Talk → Type 0
 IsTurn (Heard bytes) before after =
     (before.owed ≡ []) × IsListening before.session × (after ≡ talk (heard bytes before.session) [])

@@ -16,7 +16,8 @@ use dex_state::MarketJournal;
 use dex_types::{Address, Entry, NoMemory, Row, is_same};
 use std::alloc::{AllocError, Global};
 
-/// Lets the rows of a block act, and writes what each is answered. What is left is a block without rows, of the accounts that they leave.
+/// Lets the rows of a block act, and writes what each is answered. What is left is a block without rows, of the
+/// accounts that they leave.
 pub fn act(
     alloc: Global,
     block: Block,

@@ -4,7 +4,7 @@ ghost use Rattle.std.specs.Prelude.{◌≡◌, ◌∷◌, ◌++◌, [], Err, IfO
 ghost use Rattle.dex_dump.specs.DumpText.{dump_text};
 ghost use Rattle.dex_rows.specs.Records.{rows_of};
 ghost use Rattle.dex_statement.specs.Words.{Fields as FieldsOf};
-ghost use Rattle.dex_desk.specs.Asking.PlainAsked.{Instructs, Sets, Shows, Swaps};
+ghost use Rattle.dex_desk.specs.Asking.PlainAsked.{Instructs, Sets, Swaps};
 ghost use Rattle.dex_desk.specs.Asking.{asked_of};
 ghost use Rattle.dex_desk.specs.Replies.{ActedIn};
 ghost use Rattle.dex_desk.specs.Steps.{SaidIn, Went, clock_line, fault_line, shown};

@@ -5,7 +5,6 @@ ghost use Rattle.std.specs.List.{position};
 ghost use Rattle.dex_types.specs.declared.account_bytes.MarketAccounts.{MarketAccounts as AccountsOf};
 ghost use Rattle.dex_types.specs.Accounts.{accounts_of, market_accounts_of};
 ghost use Rattle.dex_types.specs.Addresses.{is_same};
-ghost use Rattle.dex_types.specs.Rows.{row_of};
 ghost use Rattle.dex_statement.specs.declared.statement.Statement.TheVariants as statement;
 ghost use Rattle.dex_statement.specs.Statements.{statement_of};
 ghost use Rattle.dex_statement.specs.Words.{Fields as FieldsOf};
@@ -13,7 +12,7 @@ ghost use Rattle.dex_script_facts.specs.Facts.{IsScript, IsStart};
 ghost use Rattle.dex_desk.specs.Blocks as spec;
 ghost use Rattle.dex_accounts.specs.Accepted.{IsAccepted};
 ghost use Rattle.dex_desk.specs.Books.{found_market};
-ghost use Rattle.dex_desk.specs.Blocks.{IsBlock, TellsRow};
+ghost use Rattle.dex_desk.specs.Blocks.{TellsRow};
 ghost use Rattle.dex_script.specs.Names.{AreNames};
 ghost use Rattle.dex_script.specs.Rows as rules;
 
@@ -24,8 +23,8 @@ use dex_types::{Accounts, Address, MarketAccounts, NoMemory, Program, Row, RowPl
 use std::alloc::Global;
 use std::marker::Model;
 
-/// Rows that were accepted and have not acted yet: a script so far, which starts with the accounts that the rows before left. A
-/// contract sees it as that, and the number of the next row.
+/// Rows that were accepted and have not acted yet: a script so far, which starts with the accounts that the rows before
+/// left. A contract sees it as that, and the number of the next row.
 #[derive(Drop)]
 pub struct Block {
     pub(crate) start: Accounts,

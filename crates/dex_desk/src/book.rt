@@ -1,6 +1,6 @@
 //! The prices of a market.
 
-ghost use Rattle.std.specs.Prelude.{◌≡◌, ◌++◌, IfOk, OnOk, Some, min, ◌-◌, ◌^◌};
+ghost use Rattle.std.specs.Prelude.{◌≡◌, ◌++◌, OnOk, Some, ◌-◌};
 ghost use Rattle.dex_types.specs.Accounts.{market_accounts_of};
 ghost use Rattle.dex_types.specs.Cancel.{order_with};
 ghost use Rattle.dex_types.specs.Side.{price_of as price_in};

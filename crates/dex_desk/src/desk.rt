@@ -7,8 +7,8 @@ ghost use Rattle.dex_desk.specs.Turns.Turn.{Heard, Said};
 
 use dex_io::{Failed, Sink, Source, StdSink, StdSource};
 
-/// What gives bytes and takes bytes. What it tells is one list of both, in the order of the calls: so a contract can say that an
-/// answer stands before the next row was heard.
+/// What gives bytes and takes bytes. What it tells is one list of both, in the order of the calls: so a contract can
+/// say that an answer stands before the next row was heard.
 pub trait Desk {
     /// What was heard and said so far, where the desk tells it.
     ghost turns: { Self → Option (List Turn) };
@@ -19,7 +19,8 @@ pub trait Desk {
     /// How often saying has failed.
     ghost mute: { Self → ℕ };
 
-    /// Puts the next bytes at the front of the buffer, and answers how many: 0 only at the end of input or into an empty buffer.
+    /// Puts the next bytes at the front of the buffer, and answers how many: 0 only at the end of input or into an
+    /// empty buffer.
     fn hear(&mut self, buf: &mut [u8]) -> Result<usize, Failed>
         ensures within { IfOk result (λ n. n ≤ length buf.old) }
         ensures heard { IfOk result (λ n. turns self.new ≡ and_then (turns self.old) (Heard (take n buf.new))) }

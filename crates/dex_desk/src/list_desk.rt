@@ -22,8 +22,8 @@ pub enum Call {
     Said(Vec<u8>),
 }
 
-/// Hears the bytes of a list, and keeps each call. It hears and says so many bytes at a time at most, and 1 at least. A call for which
-/// there is no memory fails. A contract sees its turns, and how many calls failed.
+/// Hears the bytes of a list, and keeps each call. It hears and says so many bytes at a time at most, and 1 at least. A
+/// call for which there is no memory fails. A contract sees its turns, and how many calls failed.
 #[derive(Drop)]
 pub struct ListDesk {
     alloc: Global,
@@ -70,8 +70,8 @@ impl ListDesk {
     }
 }
 
-/// A session of these bytes, so many heard and said at a time at most: its status, and the desk with its calls, which are a talk from
-/// the first byte on.
+/// A session of these bytes, so many heard and said at a time at most: its status, and the desk with its calls, which
+/// are a talk from the first byte on.
 pub fn serve_list(alloc: Global, input: Vec<u8>, step: usize) -> (Status, ListDesk)
     ensures { IsSession result.0 result.1.turns }
 {

@@ -1,5 +1,5 @@
-//! The program `desk`: a live session of the exchange. It reads rows one at a time from standard input, and answers each on
-//! standard output before it waits for the next.
+//! The program `desk`: a live session of the exchange. It reads rows one at a time from standard input, and answers
+//! each on standard output before it waits for the next.
 #![tactic(auto)]
 
 mod acting;

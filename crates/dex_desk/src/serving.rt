@@ -23,8 +23,8 @@ use dex_statement::InstructionWords;
 use dex_types::NoMemory;
 use std::alloc::Global;
 
-/// Serves a session. What it hears and says is a talk, which ends as the status says. Where the desk tells its turns, at each moment
-/// those that it has told are a front of such a talk.
+/// Serves a session. What it hears and says is a talk, which ends as the status says. Where the desk tells its turns,
+/// at each moment those that it has told are a front of such a talk.
 pub fn serve<D: Desk>(alloc: Global, desk: &mut D) -> Status
     ensures talk { IsServed result (D.turns desk.old) (D.turns desk.new) }
     ensures deaf { result ≡ status.ReadFault → Rose (D.deaf desk.old) (D.deaf desk.new) }

@@ -28,7 +28,8 @@ pub enum Opened {
     Refused(StatusText),
 }
 
-/// Opens a desk over the accounts that a script leaves. The next row's number and its clock are as they are behind the script.
+/// Opens a desk over the accounts that a script leaves. The next row's number and its clock are as they are behind the
+/// script.
 pub fn open_desk(alloc: Global, text: &[u8]) -> Result<Opened, NoMemory>
     ensures { IfOk result (λ opened. TellsOpened opened text.now) }
 {
