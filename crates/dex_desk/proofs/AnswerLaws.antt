@@ -1,5 +1,5 @@
 -- Entries found for rows.
-use Rattle.std.proofs.Common.{◌≡◌, ◌∙◌, ◌<◌, ◌==◌, ℕ, zero, suc, Bool, List, [], ◌∷◌, ◌++◌, Option, None, Some, ap, append_assoc, arith, get_or, length, map, map-id, refl, sym, take}
+use Rattle.std.proofs.Common.{◌≡◌, ◌∙◌, ◌<◌, ◌==◌, ℕ, zero, suc, Bool, List, [], ◌∷◌, ◌++◌, Option, None, Some, ap, append_assoc, arith, get_or, length, map, map-id, sym, take}
 use Rattle.std.proofs.lemmas.List.{append-nil}
 use Rattle.std.specs.List.{position}
 use Rattle.dex_types.specs.declared.movements.Entry.{Entry}
@@ -8,7 +8,6 @@ use Rattle.dex_types.specs.Addresses.{is_same}
 use Rattle.dex_types.specs.Rows.{PlainRow, row_of}
 use Rattle.dex_state.specs.declared.outcome.MarketJournal.{MarketJournal}
 use Rattle.dex_state.specs.Outcomes.{PlainMarketJournal, market_journal_of}
-use Rattle.dex_report.specs.Report.{entry_line}
 use Rattle.dex_script_facts.specs.Firsts.{first_of}
 use Rattle.dex_script.proofs.FirstLaws.{first-at, first-none, is-first, none-passes}
 use Rattle.dex_desk.specs.Replies.{answer_to, answers_to, entry_of, line_told}

@@ -16,7 +16,7 @@ use Rattle.dex_statement.specs.Words.{Fields, field_at}
 use Rattle.dex_script.proofs.FaultLaws.{bind-ok, unless-ok}
 use Rattle.dex_desk.specs.Asking.{PlainAsked, asked_by, asked_of, asks, book_of, dump_of}
 use Rattle.dex_desk.specs.Asking.PlainAsked.{Dumps, Instructs, Sets, Shows, Swaps}
-use Rattle.dex_desk.specs.Blocks.{PlainBlock, with_both, with_time, with_words}
+use Rattle.dex_desk.specs.Blocks.{PlainBlock, with_time}
 use Rattle.dex_desk.specs.Steps.{Added, PlainStep, SaidIn, TookBy, Went, clock_line, fault_line, shown}
 use Rattle.dex_desk.proofs.StepLaws.{went-on, went-row}
 

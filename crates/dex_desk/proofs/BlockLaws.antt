@@ -1,6 +1,6 @@
 -- Blocks with one row more, and the script that a block is.
 use Rattle.std.proofs.Common.{◌≡◌, ◌∙◌, ℕ, ℤ, get_or, map, ◌+◌, ◌-◌, ◌^◌, ◌≤◌, ◌<◌, ◌||◌, ◌==◌, Bool, true, false, max, nat_le, List, [], ◌∷◌, ◌++◌, All, Option, Some, None, Result, Ok, Err, ap, append_assoc, arith, length, refl, subst, sym}
-use Rattle.std.specs.List.{AllPairs, position}
+use Rattle.std.specs.List.{position}
 use Rattle.std.proofs.lemmas.Option.{none-some}
 use Rattle.dex_types.specs.declared.account_bytes.MarketAccounts.{MarketAccounts}
 use Rattle.dex_types.specs.Rows.{PlainRow}
@@ -13,18 +13,15 @@ use Rattle.dex_statement.specs.Faults.{◌>>=◌}
 use Rattle.dex_statement.specs.Statements.{statement_of}
 use Rattle.dex_statement.specs.Words.{Fields}
 use Rattle.dex_dump.specs.Answers.{next_number}
-use Rattle.dex_script_facts.specs.PlainScript.{PlainScript}
-use Rattle.dex_script_facts.specs.Facts.{AreRows, HasNoSwap, IsScript, IsStart}
+use Rattle.dex_script_facts.specs.Facts.{IsScript, IsStart}
 use Rattle.dex_script.specs.Drafts.{PlainDraft}
 use Rattle.dex_script.specs.Pieces.{number_after}
-use Rattle.dex_script.specs.Rows.{exceeds_row, instruction_row, is_bad_swap, is_full, is_unknown, with_clock, with_instruction, with_item, with_known, with_legs, with_row, with_statement, with_two}
+use Rattle.dex_script.specs.Rows.{exceeds_row, instruction_row, is_bad_swap, is_full, with_clock, with_instruction, with_item, with_known, with_legs, with_row, with_statement, with_two}
 use Rattle.dex_script.proofs.ItemRows.{first_leg, second_leg}
 use Rattle.dex_script.specs.Scripts.{Refusal, draft_after, fault_in, script_from}
 use Rattle.dex_script.proofs.FaultLaws.{ok-same}
 use Rattle.dex_script.proofs.OrderLaws.{first-good, first-row, from-rows}
-use Rattle.dex_script.proofs.RowOrder.{no-rows-in-order}
 use Rattle.std.proofs.lemmas.List.{get_or-map, length-map}
-use Rattle.std.proofs.lemmas.List.Elements.{All-nil}
 use Rattle.dex_accounts.specs.Accepted.{IsAccepted}
 use Rattle.dex_types.specs.declared.addresses.Address.{Address}
 use Rattle.dex_types.specs.declared.terms.Program.{Program}

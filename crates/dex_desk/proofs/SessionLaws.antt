@@ -1,5 +1,5 @@
 -- What the calls of a session tell, as talk.
-use Rattle.std.proofs.Common.{◌≡◌, ◌∙◌, ◌+◌, ◌-◌, ◌^◌, ◌<◌, ◌≤◌, ⊎_elim, arith, ℕ, Bool, true, false, List, [], ◌∷◌, ◌++◌, IfErr, IfOk, Option, Some, None, Result, Ok, Err, ap, append_assoc, drop, is_some, length, inl, inr, refl, subst, sym, take}
+use Rattle.std.proofs.Common.{◌≡◌, ◌∙◌, ◌+◌, ◌-◌, ◌^◌, ◌<◌, ◌≤◌, ⊎_elim, arith, ℕ, true, false, List, [], ◌∷◌, ◌++◌, IfErr, IfOk, Option, Some, None, Result, Ok, Err, ap, append_assoc, drop, is_some, length, inl, inr, refl, subst, sym, take}
 use Rattle.dex_desk.specs.declared.ends.Over.{Over}
 use Rattle.dex_desk.specs.declared.ends.Over.TheVariants as over
 use Rattle.dex_desk.specs.declared.ends.Stop.{Stop}
@@ -15,7 +15,7 @@ use Rattle.dex_io.specs.Faults.{Rose}
 use Rattle.dex_desk.specs.Serving.{EndedFor, GoesFor, StoppedFor, WaitingFor, session_of, IsWaiting, HasDone, HeardInVain, IsClean, OpensOrRefuses, Stopped, TellsClosed, TellsCutOff, TellsEar, TellsGoes, TellsOver, TellsSetUp, TellsWaiting}
 use Rattle.dex_answers.specs.declared.status.Status.{Status}
 use Rattle.dex_answers.specs.declared.status.Status.TheVariants as status
-use Rattle.dex_desk.specs.Talks.{EndsAs, IsServed, first, status_of, HasNoEnd, IsCut, IsGoingOn, IsListening, Leaves, Session, StopsBy, Talk, Talked, WentOn, heard, is_opening, last_line, talk}
+use Rattle.dex_desk.specs.Talks.{EndsAs, IsServed, first, status_of, HasNoEnd, IsCut, IsGoingOn, IsListening, Leaves, Session, StopsBy, Talk, Talked, WentOn, is_opening, last_line, talk}
 use Rattle.dex_desk.specs.Talks.Session.{Closes, Ended, Serves, Sets}
 use Rattle.dex_desk.specs.Turns.{Turn}
 use Rattle.dex_desk.proofs.LineLaws.{line-with-end}

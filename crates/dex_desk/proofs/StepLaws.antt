@@ -4,9 +4,8 @@ use Rattle.std.proofs.lemmas.List.{append-nil}
 use Rattle.std.proofs.lemmas.List.Concat.{flat_map-append}
 use Rattle.dex_statement.specs.Words.{Fields}
 use Rattle.dex_desk.specs.Blocks.{PlainBlock}
-use Rattle.dex_statement.specs.declared.faults.FaultKind.{FaultKind}
 use Rattle.dex_desk.specs.Replies.{Acted, ActedIn, HadNone, HaveActed}
-use Rattle.dex_desk.specs.Steps.{AreSteps, IsStepBy, PlainStep, SaidBehind, SaidIn, Went, fault_line, row_taken, rows_taken, text_said}
+use Rattle.dex_desk.specs.Steps.{AreSteps, IsStepBy, PlainStep, SaidIn, Went, row_taken, rows_taken, text_said}
 
 abbrev said_at : PlainStep → List ℕ
 said_at step = step.said

@@ -1,7 +1,6 @@
 -- Talks, put together.
-use Rattle.std.proofs.Common.{◌≡◌, ◌∙◌, ◌+◌, ◌≤◌, ◌<◌, ℕ, List, [], ◌∷◌, ◌++◌, Option, Some, None, ap, append_assoc, drop, drop-drop, inl, inr, refl, subst, sym, take, arith}
+use Rattle.std.proofs.Common.{◌≡◌, ◌∙◌, ◌+◌, ℕ, List, [], ◌∷◌, ◌++◌, Option, Some, None, ap, append_assoc, drop, drop-drop, inr, refl, subst, sym, take, arith}
 use Rattle.std.proofs.lemmas.List.{append-nil, take-append-drop}
-use Rattle.dex_io.specs.Faults.{Rose}
 use Rattle.dex_desk.specs.declared.ends.Over.TheVariants as over
 use Rattle.dex_desk.specs.Serving.{AreLater, IsClean}
 use Rattle.dex_desk.specs.Talks.{Does, DoesAll, IsListening, IsTurn, Session, Talk, Talked, Talks, WentOn, heard, last_line, talk}

@@ -1,5 +1,5 @@
 -- What a set-up opens.
-use Rattle.std.specs.Prelude.{◌≡◌, ℕ, ℤ, pos, Bool, false, if◌then◌else◌, List, [], ◌∷◌, bytes_eq, codes, Result, Ok, Err}
+use Rattle.std.specs.Prelude.{◌≡◌, ℕ, ℤ, pos, false, if◌then◌else◌, List, [], ◌∷◌, bytes_eq, codes, Result, Ok}
 use Rattle.dex_answers.specs.Answers.{IsNoScript}
 use Rattle.dex_answers.specs.Told.{text_of}
 use Rattle.dex_replay.specs.Replays.{IsReplayOf}

@@ -1,11 +1,9 @@
-use Rattle.std.proofs.Common.{◌≡◌, ◌∙◌, ◌++◌, ℕ, List, [], OnOk, Option, Some, ap, get_or, map, subst, sym}
+use Rattle.std.proofs.Common.{◌≡◌, ◌∙◌, ◌++◌, ℕ, List, [], OnOk, Option, Some, ap, get_or, subst, sym}
 use Rattle.std.proofs.lemmas.List.{append-nil}
 use Rattle.dex_types.specs.declared.movements.Entry.{Entry}
 use Rattle.dex_types.specs.Rows.{row_of}
 use Rattle.dex_state.specs.declared.outcome.MarketJournal.{MarketJournal}
-use Rattle.dex_state.specs.Outcomes.{market_journal_of}
-use Rattle.dex_report.specs.Report.{entry_line}
-use Rattle.dex_desk.specs.Replies.{answer_to, entry_of, line_told}
+use Rattle.dex_desk.specs.Replies.{entry_of, line_told}
 use Rattle.dex_desk.proofs.AnswerLaws.{entry-found, entry-none, journal-found, no-journal}
 use Rattle.dex_desk.proofs.acting.write_answer.Goals as goal
 

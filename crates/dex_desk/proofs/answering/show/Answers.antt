@@ -1,6 +1,6 @@
-use Rattle.std.proofs.Common.{◌≡◌, ◌∙◌, ◌++◌, ℕ, List, Option, OnOk, Some, None, ap, option_copied, option_map, subst, sym}
-use Rattle.dex_types.specs.Accounts.{PlainMarketAccounts, market_accounts_of}
-use Rattle.dex_desk.specs.Books.{book_text, found_market}
+use Rattle.std.proofs.Common.{◌≡◌, ◌∙◌, ◌++◌, ℕ, List, OnOk, Some, None, ap, option_copied, option_map, subst, sym}
+use Rattle.dex_types.specs.Accounts.{market_accounts_of}
+use Rattle.dex_desk.specs.Books.{found_market}
 use Rattle.dex_desk.specs.Steps.{shown_of}
 use Rattle.dex_desk.proofs.answering.show.Goals as goal
 

@@ -1,4 +1,4 @@
-use Rattle.std.proofs.Common.{◌≡◌, ◌∙◌, List, [], ◌∷◌, ◌++◌, ap, append_assoc, arith, length, refl, subst, sym}
+use Rattle.std.proofs.Common.{◌≡◌, ◌∙◌, List, [], ◌∷◌, ◌++◌, ap, append_assoc, arith, length, subst, sym}
 use Rattle.std.proofs.lemmas.List.{append-nil}
 use Rattle.dex_rows.specs.Records.{rows_of}
 use Rattle.dex_statement.specs.Words.{Fields}

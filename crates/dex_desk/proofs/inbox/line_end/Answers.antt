@@ -1,5 +1,4 @@
 use Rattle.dex_desk.proofs.LineLaws.{line-found}
-use Rattle.dex_desk.proofs.TalkLaws.{talked-on}
 use Rattle.dex_desk.proofs.inbox.line_end.Goals as goal
 
 pub returns-clause-cut : goal.returns-clause-cut

@@ -1,4 +1,4 @@
-use Rattle.std.proofs.Common.{◌≡◌, ◌∙◌, ◌++◌, List, Option, Some, ap, subst, sym}
+use Rattle.std.proofs.Common.{◌≡◌, ◌∙◌, ◌++◌, List, Some, ap, subst, sym}
 use Rattle.dex_desk.specs.Calls.{DeskState}
 use Rattle.dex_desk.specs.Talks.{Talks, first}
 use Rattle.dex_desk.specs.Turns.{Turn}

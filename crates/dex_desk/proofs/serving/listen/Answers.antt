@@ -1,7 +1,7 @@
-use Rattle.std.proofs.Common.{◌≡◌, ◌<◌, ◌∙◌, ◌++◌, [], List, ℕ, ap, arith, length, refl, subst, sym}
+use Rattle.std.proofs.Common.{◌≡◌, ◌<◌, ◌∙◌, [], List, ℕ, ap, arith, length, subst}
 use Rattle.dex_desk.specs.declared.ends.Over.TheVariants as over
 use Rattle.dex_desk.specs.Talks.{talk}
-use Rattle.dex_desk.specs.Talks.Session.{Closes, Serves}
+use Rattle.dex_desk.specs.Talks.Session.{Serves}
 use Rattle.dex_desk.specs.Serving.{TellsClosed}
 use Rattle.dex_desk.proofs.SessionLaws.{clean-here, clean-same, closed-goes, closed-stops, cut-goes, cut-stops, more-of-rows, rows-ended, vain-rows}
 use Rattle.dex_desk.proofs.TalkLaws.{talked-same, talked-went, went-still}

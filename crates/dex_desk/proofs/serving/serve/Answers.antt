@@ -1,8 +1,6 @@
-use Rattle.std.proofs.Common.{List, ℕ, subst}
 use Rattle.dex_desk.specs.declared.ends.Over.TheVariants as over
-use Rattle.dex_desk.specs.Talks.{Talked, talk}
 use Rattle.dex_desk.specs.Talks.Session.{Ended}
-use Rattle.dex_desk.proofs.SessionLaws.{rose-later, served-cut, served-without}
+use Rattle.dex_desk.proofs.SessionLaws.{served-cut, served-without}
 use Rattle.dex_desk.proofs.serving.serve.Goals as goal
 
 pub returns-in-Ok-say_all-clause-talk : goal.returns-in-Ok-say_all-clause-talk

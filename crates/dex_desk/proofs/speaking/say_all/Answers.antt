@@ -1,7 +1,7 @@
 use Rattle.std.proofs.Common.{◌≡◌, ◌∙◌, [], List, ℕ, arith, drop, refl, subst, sym}
 use Rattle.std.proofs.lemmas.List.{drop_all}
 use Rattle.dex_desk.specs.Talks.{Talked, talk}
-use Rattle.dex_desk.proofs.TalkLaws.{talked-piece, talked-same, talked-went, went-still}
+use Rattle.dex_desk.proofs.TalkLaws.{talked-piece, talked-went, went-still}
 use Rattle.dex_desk.proofs.speaking.say_all.Goals as goal
 
 pub loop-sent-init : goal.loop-sent-init

@@ -1,13 +1,9 @@
-use Rattle.std.proofs.Common.{◌≡◌, ◌∙◌, ◌||◌, ◌++◌, ◌∷◌, [], ◌+◌, ℕ, ℤ, w64, to_z, of_z, rules, List, Bool, true, false, max, Option, None, Some, Err, Ok, Result, ap, arith, map, refl, subst, sym}
+use Rattle.std.proofs.Common.{◌≡◌, ◌∙◌, ◌||◌, ◌++◌, ◌∷◌, [], ℤ, w64, to_z, of_z, rules, List, Bool, true, false, None, Some, Ok, ap, arith, map, refl, subst, sym}
 use Rattle.std.proofs.lemmas.Int.{to_z-of_z}
-use Rattle.dex_statement.specs.declared.faults.FaultKind.{FaultKind}
-use Rattle.dex_statement.specs.declared.faults.FaultKind.TheVariants.{OverLimit, UnknownLabel}
 use Rattle.dex_statement.specs.Stated.{PlainInstruction}
 use Rattle.dex_types.specs.declared.rows.Row.{Row}
-use Rattle.dex_types.specs.Accounts.{accounts_of}
 use Rattle.dex_types.specs.Rows.{row_of}
 use Rattle.dex_script.specs.Rows.{exceeds_row, instruction_row, is_full}
-use Rattle.dex_script.specs.declared.names.Stand.{Stand}
 use Rattle.dex_desk.specs.BlockInside.{block_inside}
 use Rattle.dex_desk.specs.Blocks.{IsBlock, PlainBlock, with_words}
 use Rattle.dex_desk.proofs.BlockLaws.{found-by, grown, grown-block, grown-is, made, next-is, not-here, too-much, with-it}

@@ -1,10 +1,9 @@
-use Rattle.std.proofs.Common.{◌≡◌, ◌∙◌, ◌++◌, ◌∷◌, [], ◌+◌, ℤ, w64, to_z, of_z, rules, List, true, false, max, Option, None, Some, Ok, ap, arith, map, refl, subst, sym}
+use Rattle.std.proofs.Common.{◌≡◌, ◌∙◌, [], w64, to_z, of_z, rules, List, true, false, None, Some, Ok, ap, arith, map, refl, subst, sym}
 use Rattle.std.proofs.lemmas.Int.{to_z-of_z}
-use Rattle.dex_statement.specs.Stated.{PlainInstruction, PlainSwap}
+use Rattle.dex_statement.specs.Stated.{PlainSwap}
 use Rattle.dex_types.specs.declared.rows.Row.{Row}
 use Rattle.dex_types.specs.Rows.{row_of}
 use Rattle.dex_script.specs.Rows.{is_bad_swap}
-use Rattle.dex_script.specs.Names.{places_of}
 use Rattle.dex_script.proofs.FaultLaws.{or-none}
 use Rattle.dex_script.proofs.ItemRows.{first_leg, second_leg}
 use Rattle.dex_script.proofs.NameLaws.{stand}
