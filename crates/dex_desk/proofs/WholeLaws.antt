@@ -118,8 +118,13 @@ asked-push [] rows row number clock are =
 asked-push (one ∷ fields) rows row number clock (inl skips) = inl (asked-push fields rows row number clock skips)
 asked-push (one ∷ fields) rows row number clock (inr some) =
     let new = rows_asked (asked_of row) number clock in
-    inr (some.0, some.1, some.2 ++ new, ap (λ (l : List PlainRow). l ++ new) some.3 ∙ append_assoc (rows_asked (asked_of one) some.0 some.1) some.2 new,
-    asked-push fields some.2 row number clock some.4)
+    inr (
+      some.0,
+      some.1,
+      some.2 ++ new,
+      ap (λ (l : List PlainRow). l ++ new) some.3 ∙ append_assoc (rows_asked (asked_of one) some.0 some.1) some.2 new,
+      asked-push fields some.2 row number clock some.4,
+    )
 
 -- ---- what is so of a desk at any time
 
@@ -698,8 +703,14 @@ ends-well block all text said owed after since ends =
 -- before it, of a set-up
 leaves-none : (why : Over) (kept text all said new : List ℕ) → IsSo (Sets kept text) all (said ++ []) → new ≡ [] → HasEnded why all (said ++ (new ++ last_line why))
 leaves-none why kept text all said new is left =
-    inl (is.0, kept ++ text, said ++ [], is.1, is.2,
-    ap (λ (l : List ℕ). said ++ (l ++ last_line why)) left ∙ ap (λ (l : List ℕ). l ++ last_line why) (sym (append-nil said)))
+    inl (
+      is.0,
+      kept ++ text,
+      said ++ [],
+      is.1,
+      is.2,
+      ap (λ (l : List ℕ). said ++ (l ++ last_line why)) left ∙ ap (λ (l : List ℕ). l ++ last_line why) (sym (append-nil said)),
+    )
 
 stops : (why : Over) (session : Session) (all said text : List ℕ) → IsSo session all (said ++ []) → StopsBy why session text
     → IsSo (Ended why) all (said ++ (text ++ last_line why))
@@ -729,7 +740,7 @@ does before after all said is =
         (heard-opening is.0 (said ++ owed) kept text opens.line opens.rest all is.1 opens.opening is.2 opens.cut.parts) opens.opened)
     by (Sets kept text) owed is (inr (inr refuses)) =
         let more = refused-more is.0 kept refuses.line refuses.rest (said ++ owed) refuses.told all is.1
-            (is.2 ∙ ap (λ (l : List ℕ). is.0 ++ (kept ++ l)) refuses.cut.parts) (refuses.opening, refuses.status, refuses.none) in
+        (is.2 ∙ ap (λ (l : List ℕ). is.0 ++ (kept ++ l)) refuses.cut.parts) (refuses.opening, refuses.status, refuses.none) in
         subst (λ (t : Talk). IsSo t.session all (said ++ t.owed)) (sym refuses.is)
         (more.0, subst (HasRefused more.0) (append_assoc said owed refuses.told) more.1, more.2)
     by (Serves block text) owed is (inl takes) =

@@ -40,7 +40,8 @@ rows_in parts = flat_map (λ (part : PlainPart). part.script.rows) parts
 abbrev pub answers_in : PlainPart → List ℕ
 answers_in part = answers_to part.outcome.markets part.script.rows
 
--- each part is replayed, under this program, and starts with the accounts that the one before left; the first with these
+-- each part is replayed, under this program, and starts with the accounts that the one before left; the first with
+-- these
 abbrev pub AreLinked : Program → PlainAccounts → List PlainPart → Type 0
 AreLinked program accounts [] = Unit {0}
 AreLinked program accounts (part ∷ parts) =
@@ -115,9 +116,9 @@ AreAsked (row ∷ others) rows =
 
 -- ---- one replay
 
--- the set-up that was heard is a script; the rows that were accepted of those heard behind it acted in parts, but for these, which are still to
--- act; what the parts leave together is a replay of all their rows behind the script's, and has these accounts; and the answers of each part
--- stand in what was said
+-- the set-up that was heard is a script; the rows that were accepted of those heard behind it acted in parts, but for
+-- these, which are still to act; what the parts leave together is a replay of all their rows behind the script's, and
+-- has these accounts; and the answers of each part stand in what was said
 pub record IsOneReplay (heard : PlainHeard) (accounts : PlainAccounts) (waiting : List PlainRow) (said : List ℕ) : Type 0 where
   pub set_up : List ℕ
   pub lines : List (List ℕ)
@@ -157,7 +158,8 @@ HasEnded why heard said =
     ⊎ ((rest old : List ℕ) × (accounts : PlainAccounts) × IsOneReplay (record { text = heard; rest = rest; more = last_rows why rest }) accounts [] old
     × (said ≡ (old ++ dump_text accounts) ++ last_line why))
 
--- a session that heard this and said this is one replay, where a desk is open, and where its session is over; for want of memory nothing is told
+-- a session that heard this and said this is one replay, where a desk is open, and where its session is over; for want
+-- of memory nothing is told
 abbrev pub IsWhole : Session → List ℕ → List ℕ → Type 0
 IsWhole (Sets kept text) heard said = (before : List ℕ) × HasRefused before said × (heard ≡ before ++ (kept ++ text))
 IsWhole (Serves block text) heard said =
