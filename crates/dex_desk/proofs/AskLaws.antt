@@ -123,7 +123,7 @@ taken-in row asked added block mid after old new is so taken went =
     let does : Added added block (step_of row [] mid) = subst (λ (r : Result PlainBlock FaultKind). Added r block (step_of row [] mid)) (sym taken) (refl, refl) in
     went-on (row ∷ []) [] block mid after old old new (by-asked row (Ok asked) block mid [] old old is (so does) (sym (append-nil old))) went
 
--- or has a fault after the rows before it
+-- or has a fault behind the rows before it
 pub fault-in : (row : Fields) (asked : PlainAsked) (added : Result PlainBlock FaultKind) (kind : FaultKind) (block after : PlainBlock) (old new : List ℕ)
     → asked_of row ≡ Ok asked → ((said : List ℕ) → Added added block (step_of row said after) → TookBy (Ok asked) block (step_of row said after))
     → added ≡ Err kind → SaidIn block after (fault_line block kind) old new → Went (row ∷ []) block after old new

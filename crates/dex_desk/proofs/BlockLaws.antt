@@ -286,7 +286,7 @@ module _ (block : PlainBlock) (words : PlainSwap) (at other : Stand) (here : Are
       ) refl in
       block-more block (grown_both block words).draft row is more refl refl
 
--- the rows after those that are there, one after the other
+-- the rows behind those that are there, one after the other
 pub both-behind : (block : PlainBlock) (words : PlainSwap) (rows mid new : List PlainRow) (first second : PlainInstruction) (time : ℤ)
     → first ≡ first_leg words → second ≡ second_leg words → time ≡ block.draft.clock → rows ≡ block.draft.script.rows
     → mid ≡ rows ++ instruction_row block.number time first ∷ [] → new ≡ mid ++ instruction_row block.number time second ∷ []

@@ -14,7 +14,7 @@ use Rattle.dex_desk.specs.Books.{behind_price, capped, level_text, lots_at, side
 
 -- ---- a walk along a side's bytes
 
--- a walk is at an order: what it has before it is this order and those after it, of which the first is reached
+-- a walk is at an order: what it has before it is this order and those behind it, of which the first is reached
 pub record IsAt (side : Side) (bytes : List ℕ) (next : Option Order) (order : Order) : Type 0 where
   pub front : orders_from next (resting side bytes) ≡ order ∷ orders_from (order_after order.id (resting side bytes)) (resting side bytes)
   pub rests : order_with order.id (resting side bytes) ≡ Some order
@@ -48,7 +48,7 @@ behind-other : (price : ℕ) (order : Order) (orders : List Order) → (price_of
     → behind_price price (order ∷ orders) ≡ order ∷ orders
 behind-other price order orders other = cond-false _ _ _ (ne_eqb (price_of order.id) price other)
 
--- this many lots were counted of the orders of a price, and these orders are still to be looked at
+-- so many lots were counted of the orders of a price, and these orders are still to be looked at
 pub record HasCounted (price counted : ℕ) (orders whole : List Order) : Type 0 where
   pub lots : capped (counted + lots_at price orders) ≡ capped (lots_at price whole)
   pub behind : behind_price price orders ≡ behind_price price whole
@@ -84,7 +84,7 @@ pub side-lines-none : (side : Side) (left : ℕ) → side_lines side left [] ≡
 side-lines-none side zero = refl
 side-lines-none side (suc left) = refl
 
--- the line of the first price, and those after it
+-- the line of the first price, and those behind it
 pub side-lines-more : (side : Side) (left less : ℕ) (first : Order) (orders rest : List Order) → orders ≡ first ∷ rest → left ≡ less + 1
     → side_lines side left orders
     ≡ level_text side (price_of first.id) (capped (lots_at (price_of first.id) orders)) ++ side_lines side less (behind_price (price_of first.id) orders)
@@ -96,7 +96,7 @@ side-lines-more side (suc left) less first orders rest is more =
     ∙ ap (λ (os : List Order). level_text side price (capped (lots_at price os)) ++ side_lines side left (behind_price price os)) (sym is)
     ∙ ap (λ (n : ℕ). level_text side price (capped (lots_at price orders)) ++ side_lines side n (behind_price price orders)) same
 
--- a price that was written, and the lines of those after it
+-- a price that was written, and the lines of those behind it
 pub level-written : (side : Side) (left less : ℕ) (first : Order) (orders rest later : List Order) (of : Side) (price lots : ℕ) → orders ≡ first ∷ rest
     → left ≡ less + 1 → of ≡ side → price ≡ price_of first.id → lots ≡ capped (lots_at (price_of first.id) orders)
     → later ≡ behind_price (price_of first.id) orders → level_text of price lots ++ side_lines side less later ≡ side_lines side left orders

@@ -364,7 +364,7 @@ served-well status why a b is talked =
 pub served-in-part : (a b : Told) → Stopped stop.WriteFault a b first → IsServed status.WriteFault a b
 served-in-part a b stopped = (stopped.0, stopped.1, tt)
 
--- for lack of memory
+-- for want of memory
 pub served-without : (a b c : Told) → Stopped stop.NoMemory a b first → Talked b c (talk (Ended over.NoMemory) (last_line over.NoMemory)) (talk (Ended over.NoMemory) [])
     → IsServed status.NoMemory a c
 served-without a b c stopped said =

@@ -54,15 +54,10 @@ number-kept before after said acted =
     ⊎_elim (λ (none : HadNone before after said). ap (λ (b : PlainBlock). b.number) none.same)
     (λ (have : HaveActed before after said). ap (λ (b : PlainBlock). b.number) have.left) acted
 
--- and after that something was said
+-- and behind that something was said
 pub said-behind : (before after : PlainBlock) (text old mid new : List ℕ) → ActedIn before after old mid → new ≡ mid ++ text → SaidIn before after text old new
 said-behind before after text old mid new acted more = record {
   said = acted.said ++ text;
   is = more ∙ ap (λ (l : List ℕ). l ++ text) acted.text ∙ append_assoc old acted.said text;
   behind = record { answers = acted.said; acted = acted.acted; is = refl };
 }
-
--- what holds of an answer that is Ok
-pub if-ok : {A E : Type 0} (P Q : A → Type 0) → ((x : A) → P x → Q x) → (r : Result A E) → IfOk r P → IfOk r Q
-if-ok P Q so (Ok x) holds = so x holds
-if-ok P Q so (Err e) holds = tt

@@ -92,7 +92,7 @@ talked-piece a b d session text sent count so is =
 
 -- ---- the end
 
--- for lack of memory
+-- for want of memory
 pub clean-stop : (at : Talk) → IsClean at → WentOn at (talk (Ended over.NoMemory) (last_line over.NoMemory))
 clean-stop at clean =
     went-once at (talk (Ended over.NoMemory) (last_line over.NoMemory))

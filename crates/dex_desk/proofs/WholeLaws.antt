@@ -1,5 +1,6 @@
 -- A session is one replay.
 use Rattle.std.proofs.Common.{◌≡◌, ◌∙◌, ◌==◌, ◌+◌, ◌-◌, ◌^◌, ◌<◌, ◌≤◌, ⊎_elim, ℕ, ℤ, Bool, true, false, nat_le, All, List, [], ◌∷◌, ◌++◌, None, Option, Some, Result, Ok, Err, ap, append_assoc, arith, inl, inr, map, refl, subst, sym}
+use Rattle.std.specs.List.{flat_map}
 use Rattle.std.proofs.lemmas.Bool.{eqb-false, eqb-true}
 use Rattle.std.proofs.lemmas.List.{append-nil, map-append}
 use Rattle.std.proofs.lemmas.List.Concat.{flat_map-append}
@@ -35,12 +36,12 @@ use Rattle.dex_desk.specs.Asking.PlainAsked.{Dumps, Instructs, Sets as SetsTime,
 use Rattle.dex_desk.specs.Blocks.{PlainBlock, behind_row, with_both, with_time, with_words}
 use Rattle.dex_desk.specs.Replies.{Acted, ActedIn, HadNone, HaveActed}
 use Rattle.dex_desk.specs.SetUps.{IsOpened}
-use Rattle.dex_desk.specs.Steps.{Added, AreSteps, IsStepBy, PlainStep, SaidBehind, SaidIn, TookBy, Went, text_said}
-use Rattle.dex_desk.specs.Talks.{Does, DoesAll, DoesBy, EndsWell, IsListening, Leaves, Session, Stops, StopsBy, Talk, Talks, first, heard, last_line, open_line}
+use Rattle.dex_desk.specs.Steps.{Added, AreSteps, IsStepBy, PlainStep, SaidBehind, SaidIn, TookBy, Went, row_taken, rows_taken, text_said, told_row}
+use Rattle.dex_desk.specs.Talks.{Does, DoesAll, DoesBy, EndsWell, IsListening, Session, Stops, StopsBy, Talk, Talks, first, heard, last_line, is_opening, open_line}
 use Rattle.dex_desk.specs.Talks.Session.{Closes, Ended, Serves, Sets}
 use Rattle.dex_desk.specs.Turns.{Turn}
 use Rattle.dex_desk.specs.Turns.Turn.{Heard, Said}
-use Rattle.dex_desk.specs.Whole.{AreAmong, AreLinked, HasEnded, IsOneReplay, IsWhole, PlainPart, answers_in, left_in, rows_in, said_in, with_rows}
+use Rattle.dex_desk.specs.Whole.{AreAmong, AreAsked, AreLinked, HasEnded, HasRefused, IsHeard, IsOneReplay, IsRefused, IsWhole, PlainHeard, PlainPart, PlainRefused, answers_in, ended, heard_in, last_rows, left_in, rows_asked, rows_in, said_in, with_rows}
 use Rattle.dex_desk.proofs.BlockLaws.{number-small}
 
 -- ---- parts
@@ -102,11 +103,41 @@ below-more : (low next : ℕ) (rows : List PlainRow) → low ≤ next → AreBel
 below-more low next rows later below =
     All-weaker (λ (row : PlainRow). row.number < low) (λ (row : PlainRow). row.number < next) (λ row less. omega (arith, later, less)) rows below
 
+-- ---- rows that were asked for
+
+asked-skip : (fields : List Fields) (rows : List PlainRow) (row : Fields) → AreAsked fields rows → AreAsked (fields ++ row ∷ []) rows
+asked-skip [] rows row are = inl are
+asked-skip (one ∷ fields) rows row (inl skips) = inl (asked-skip fields rows row skips)
+asked-skip (one ∷ fields) rows row (inr some) = inr (some.0, some.1, some.2, some.3, asked-skip fields some.2 row some.4)
+
+asked-push : (fields : List Fields) (rows : List PlainRow) (row : Fields) (number : ℕ) (clock : ℤ) → AreAsked fields rows
+    → AreAsked (fields ++ row ∷ []) (rows ++ rows_asked (asked_of row) number clock)
+asked-push [] rows row number clock are =
+    let new = rows_asked (asked_of row) number clock in
+    inr (number, clock, [], ap (λ (l : List PlainRow). l ++ new) are ∙ sym (append-nil new), refl)
+asked-push (one ∷ fields) rows row number clock (inl skips) = inl (asked-push fields rows row number clock skips)
+asked-push (one ∷ fields) rows row number clock (inr some) =
+    let new = rows_asked (asked_of row) number clock in
+    inr (
+      some.0,
+      some.1,
+      some.2 ++ new,
+      ap (λ (l : List PlainRow). l ++ new) some.3 ∙ append_assoc (rows_asked (asked_of one) some.0 some.1) some.2 new,
+      asked-push fields some.2 row number clock some.4,
+    )
+
 -- ---- what is so of a desk at any time
 
-record Since (block : PlainBlock) (said : List ℕ) : Type 0 where
-  set_up : List ℕ
-  one : IsOneReplay set_up block.draft.script.start said
+-- all that was heard, where no row of the rest was taken
+abbrev here : List ℕ → List ℕ → PlainHeard
+here text rest = record { text = text; rest = rest; more = [] }
+
+-- these rows of the rest were taken too
+abbrev behind_rows : PlainHeard → List Fields → PlainHeard
+behind_rows at rows = record { text = at.text; rest = at.rest; more = at.more ++ rows }
+
+record Since (at : PlainHeard) (block : PlainBlock) (said : List ℕ) : Type 0 where
+  one : IsOneReplay at block.draft.script.start block.draft.script.rows said
   program : block.draft.script.program ≡ one.script.program
   low : ℕ
   done : AreBelow low (one.script.rows ++ rows_in one.parts)
@@ -115,17 +146,20 @@ record Since (block : PlainBlock) (said : List ℕ) : Type 0 where
   wide : low ≤ block.number
   small : block.number ≤ 2 ^ 32 - 1
 
-more-said : (block : PlainBlock) (said more : List ℕ) → Since block said → Since block (said ++ more)
-more-said block said more since =
+more-said : (at : PlainHeard) (block : PlainBlock) (said more : List ℕ) → Since at block said → Since at block (said ++ more)
+more-said at block said more since =
     let one = since.one in
     record {
-      set_up = since.set_up;
       one = record {
+        set_up = one.set_up;
+        lines = one.lines;
+        is = one.is;
         script = one.script;
         reads = one.reads;
         begin = one.begin;
         first = one.first;
         parts = one.parts;
+        asked = one.asked;
         links = one.links;
         replay = one.replay;
         left = one.left;
@@ -140,9 +174,56 @@ more-said block said more since =
       small = since.small;
     }
 
+-- where more was heard, or was taken that asks for no row
+heard-more : (at next : PlainHeard) (block : PlainBlock) (said : List ℕ) (since : Since at block said) (lines : List (List ℕ))
+    → IsHeard next.text since.one.set_up lines next.rest → AreAsked (flat_map rows_of lines ++ next.more) (rows_in since.one.parts ++ block.draft.script.rows)
+    → Since next block said
+heard-more at next block said since lines is asked =
+    let one = since.one in
+    record {
+      one = record {
+        set_up = one.set_up;
+        lines = lines;
+        is = is;
+        script = one.script;
+        reads = one.reads;
+        begin = one.begin;
+        first = one.first;
+        parts = one.parts;
+        asked = asked;
+        links = one.links;
+        replay = one.replay;
+        left = one.left;
+        told = one.told;
+      };
+      program = since.program;
+      low = since.low;
+      done = since.done;
+      above = since.above;
+      below = since.below;
+      wide = since.wide;
+      small = since.small;
+    }
+
+skipped : (at : PlainHeard) (row : Fields) (block : PlainBlock) (said : List ℕ) → Since at block said → Since (behind_rows at (row ∷ [])) block said
+skipped at row block said since =
+    let one = since.one in
+    let rows = rows_in one.parts ++ block.draft.script.rows in
+    heard-more at (behind_rows at (row ∷ [])) block said since one.lines one.is
+    (subst (λ (l : List Fields). AreAsked l rows) (append_assoc (flat_map rows_of one.lines) at.more (row ∷ []))
+    (asked-skip (flat_map rows_of one.lines ++ at.more) rows row one.asked))
+
+none-taken : (at : PlainHeard) (block : PlainBlock) (said : List ℕ) → Since at block said → Since (behind_rows at []) block said
+none-taken at block said since =
+    let one = since.one in
+    let rows = rows_in one.parts ++ block.draft.script.rows in
+    heard-more at (behind_rows at []) block said since one.lines one.is
+    (subst (λ (l : List Fields). AreAsked (flat_map rows_of one.lines ++ l) rows) (sym (append-nil at.more)) one.asked)
+
 -- rows acted
-have-acted : (block after : PlainBlock) (said answers more : List ℕ) → Since block said → HaveActed block after answers → Since after (said ++ (answers ++ more))
-have-acted block after said answers more since have =
+have-acted : (at : PlainHeard) (block after : PlainBlock) (said answers more : List ℕ) → Since at block said → HaveActed block after answers
+    → Since at after (said ++ (answers ++ more))
+have-acted at block after said answers more since have =
     let one = since.one in
     let rows = block.draft.script.rows in
     let part : PlainPart = record { script = block.draft.script; outcome = have.outcome } in
@@ -161,10 +242,15 @@ have-acted block after said answers more since have =
       program = refl;
       same_program = since.program;
     } in
-    subst (λ (b : PlainBlock). Since b (said ++ (answers ++ more))) (sym have.left)
+    let fields = flat_map rows_of one.lines ++ at.more in
+    let now : rows_in one.parts ++ rows ≡ rows_in parts ++ [] = sym (rows-push one.parts part) ∙ sym (append-nil (rows_in parts)) in
+    subst (λ (b : PlainBlock). Since at b (said ++ (answers ++ more))) (sym have.left)
     (record {
-      set_up = since.set_up;
       one = record {
+        set_up = one.set_up;
+        lines = one.lines;
+        is = one.is;
+        asked = subst (AreAsked fields) now one.asked;
         script = one.script;
         reads = one.reads;
         begin = one.begin;
@@ -188,66 +274,101 @@ have-acted block after said answers more since have =
       small = since.small;
     })
 
-acted : (block after : PlainBlock) (said answers more : List ℕ) → Since block said → Acted block after answers → Since after (said ++ (answers ++ more))
-acted block after said answers more since is =
-    ⊎_elim (λ (none : HadNone block after answers). subst (λ (b : PlainBlock). Since b (said ++ (answers ++ more))) (sym none.same) (more-said block said (answers ++ more) since))
-    (λ (have : HaveActed block after answers). have-acted block after said answers more since have) is
+acted : (at : PlainHeard) (block after : PlainBlock) (said answers more : List ℕ) → Since at block said → Acted block after answers
+    → Since at after (said ++ (answers ++ more))
+acted at block after said answers more since is =
+    ⊎_elim
+    (λ (none : HadNone block after answers).
+    subst (λ (b : PlainBlock). Since at b (said ++ (answers ++ more))) (sym none.same) (more-said at block said (answers ++ more) since))
+    (λ (have : HaveActed block after answers). have-acted at block after said answers more since have) is
 
-said-behind : (block after : PlainBlock) (said text new : List ℕ) → Since block said → SaidBehind block after text new → Since after (said ++ new)
-said-behind block after said text new since is =
-    subst (λ (l : List ℕ). Since after (said ++ l)) (sym is.is) (acted block after said is.answers text since is.acted)
+said-behind : (at : PlainHeard) (block after : PlainBlock) (said text new : List ℕ) → Since at block said → SaidBehind block after text new
+    → Since at after (said ++ new)
+said-behind at block after said text new since is =
+    subst (λ (l : List ℕ). Since at after (said ++ l)) (sym is.is) (acted at block after said is.answers text since is.acted)
+
+-- no row is left where rows acted
+none-left : (block after : PlainBlock) (answers : List ℕ) → Acted block after answers → after.draft.script.rows ≡ []
+none-left block after answers is =
+    ⊎_elim (λ (none : HadNone block after answers). ap (λ (b : PlainBlock). b.draft.script.rows) none.same ∙ none.none)
+    (λ (have : HaveActed block after answers). ap (λ (b : PlainBlock). b.draft.script.rows) have.left) is
 
 -- ---- rows that are accepted
 
 -- the block with rows of its number more
-grown : (block after : PlainBlock) (said : List ℕ) (rows : List PlainRow) (lane : ℕ) → Since block said → is_full block.draft block.number ≡ false
-    → All (λ (row : PlainRow). row.number ≡ block.number) rows → after ≡ record { draft = with_item block.draft rows lane; number = next_number block.number }
-    → Since after said
-grown block after said rows lane since room same is =
+grown : (at : PlainHeard) (row : Fields) (block after : PlainBlock) (said : List ℕ) (rows : List PlainRow) (lane : ℕ) → Since at block said
+    → rows ≡ rows_asked (asked_of row) block.number block.draft.clock → is_full block.draft block.number ≡ false
+    → All (λ (r : PlainRow). r.number ≡ block.number) rows → after ≡ record { draft = with_item block.draft rows lane; number = next_number block.number }
+    → Since (behind_rows at (row ∷ [])) after said
+grown at row block after said rows lane since asks room same is =
+    let one = since.one in
     let other : block.number ≡ 2 ^ 32 - 1 → ⊥ = eqb-false block.number (2 ^ 32 - 1) (or-none (nat_le 100000 block.draft.items) (block.number == 2 ^ 32 - 1) room).1 in
     let next : next_number block.number ≡ block.number + 1 = omega (arith, other, since.small) in
     let old = block.draft.script.rows in
-    subst (λ (b : PlainBlock). Since b said) (sym is)
+    let fields = flat_map rows_of one.lines in
+    let pushed : AreAsked ((fields ++ at.more) ++ row ∷ []) ((rows_in one.parts ++ old) ++ rows) =
+    subst (λ (l : List PlainRow). AreAsked ((fields ++ at.more) ++ row ∷ []) ((rows_in one.parts ++ old) ++ l)) (sym asks)
+    (asked-push (fields ++ at.more) (rows_in one.parts ++ old) row block.number block.draft.clock one.asked) in
+    let asked : AreAsked (fields ++ (at.more ++ row ∷ [])) (rows_in one.parts ++ (old ++ rows)) =
+    subst (λ (l : List Fields). AreAsked l (rows_in one.parts ++ (old ++ rows))) (append_assoc fields at.more (row ∷ []))
+    (subst (AreAsked ((fields ++ at.more) ++ row ∷ [])) (append_assoc (rows_in one.parts) old rows) pushed) in
+    subst (λ (b : PlainBlock). Since (behind_rows at (row ∷ [])) b said) (sym is)
     (record {
-      set_up = since.set_up;
-      one = since.one;
+      one = record {
+        set_up = one.set_up;
+        lines = one.lines;
+        is = one.is;
+        script = one.script;
+        reads = one.reads;
+        begin = one.begin;
+        first = one.first;
+        parts = one.parts;
+        asked = asked;
+        links = one.links;
+        replay = one.replay;
+        left = one.left;
+        told = one.told;
+      };
       program = since.program;
       low = since.low;
       done = since.done;
-      above = All-append (λ (row : PlainRow). since.low ≤ row.number) old rows since.above
-          (All-weaker (λ (row : PlainRow). row.number ≡ block.number) (λ (row : PlainRow). since.low ≤ row.number) (λ row e. omega (arith, e, since.wide)) rows same);
-      below = All-append (λ (row : PlainRow). row.number < next_number block.number) old rows
+      above = All-append (λ (r : PlainRow). since.low ≤ r.number) old rows since.above
+          (All-weaker (λ (r : PlainRow). r.number ≡ block.number) (λ (r : PlainRow). since.low ≤ r.number) (λ r e. omega (arith, e, since.wide)) rows same);
+      below = All-append (λ (r : PlainRow). r.number < next_number block.number) old rows
           (below-more block.number (next_number block.number) old (omega (arith, next)) since.below)
-          (All-weaker (λ (row : PlainRow). row.number ≡ block.number) (λ (row : PlainRow). row.number < next_number block.number) (λ row e. omega (arith, e, next)) rows same);
+          (All-weaker (λ (r : PlainRow). r.number ≡ block.number) (λ (r : PlainRow). r.number < next_number block.number) (λ r e. omega (arith, e, next)) rows same);
       wide = omega (arith, next, since.wide);
       small = omega arith;
     })
 
-with-instruction : (block after : PlainBlock) (said : List ℕ) (words : PlainInstruction) → Since block said → with_words block words ≡ Ok after → Since after said
-with-instruction block after said words since is =
+with-instruction : (at : PlainHeard) (row : Fields) (block after : PlainBlock) (said : List ℕ) (words : PlainInstruction) → asked_of row ≡ Ok (Instructs words)
+    → Since at block said → with_words block words ≡ Ok after → Since (behind_rows at (row ∷ [])) after said
+with-instruction at row block after said words asks since is =
     let a = bind-ok (with_instruction block.draft block.number words) (behind_row block) after is in
-    let row = instruction-row block.number block.draft a.0 words a.1 in
+    let kept = instruction-row block.number block.draft a.0 words a.1 in
     let made : after ≡ record { draft = a.0; number = next_number block.number } = sym (ok-same {E = FaultKind} _ after a.2) in
-    grown block after said (instruction_row block.number block.draft.clock words ∷ []) words.lane since row.room
+    grown at row block after said (instruction_row block.number block.draft.clock words ∷ []) words.lane since
+    (ap (λ (r : Result PlainAsked FaultKind). rows_asked r block.number block.draft.clock) (sym asks)) kept.room
     (All-push (λ (r : PlainRow). r.number ≡ block.number) [] (instruction_row block.number block.draft.clock words) (All-nil (λ (r : PlainRow). r.number ≡ block.number)) refl)
-    (made ∙ ap (λ (d : PlainDraft). record { draft = d; number = next_number block.number }) (sym row.is))
+    (made ∙ ap (λ (d : PlainDraft). record { draft = d; number = next_number block.number }) (sym kept.is))
 
-with-legs : (block after : PlainBlock) (said : List ℕ) (words : PlainSwap) → Since block said → with_both block words ≡ Ok after → Since after said
-with-legs block after said words since is =
+with-legs : (at : PlainHeard) (row : Fields) (block after : PlainBlock) (said : List ℕ) (words : PlainSwap) → asked_of row ≡ Ok (Swaps words)
+    → Since at block said → with_both block words ≡ Ok after → Since (behind_rows at (row ∷ [])) after said
+with-legs at row block after said words asks since is =
     let a = bind-ok (with_swap block.draft block.number words) (behind_row block) after is in
-    let row = swap-row block.number block.draft a.0 words a.1 in
+    let kept = swap-row block.number block.draft a.0 words a.1 in
     let made : after ≡ record { draft = a.0; number = next_number block.number } = sym (ok-same {E = FaultKind} _ after a.2) in
     let one = instruction_row block.number block.draft.clock (first_leg words) in
     let other = instruction_row block.number block.draft.clock (second_leg words) in
     let Same : PlainRow → Type 0 = λ (r : PlainRow). r.number ≡ block.number in
-    grown block after said (one ∷ other ∷ []) words.lane since row.room
+    grown at row block after said (one ∷ other ∷ []) words.lane since
+    (ap (λ (r : Result PlainAsked FaultKind). rows_asked r block.number block.draft.clock) (sym asks)) kept.room
     (All-push Same (one ∷ []) other (All-push Same [] one (All-nil Same) refl) refl)
-    (made ∙ ap (λ (d : PlainDraft). record { draft = d; number = next_number block.number }) (sym row.is))
+    (made ∙ ap (λ (d : PlainDraft). record { draft = d; number = next_number block.number }) (sym kept.is))
 
--- after a `clock` row
-later : (block : PlainBlock) (now : ℤ) (said : List ℕ) → Since block said → Since (with_time block now) said
-later block now said since = record {
-  set_up = since.set_up;
+-- behind a `clock` row
+later : (at : PlainHeard) (block : PlainBlock) (now : ℤ) (said : List ℕ) → Since at block said → Since at (with_time block now) said
+later at block now said since = record {
   one = since.one;
   program = since.program;
   low = since.low;
@@ -260,50 +381,69 @@ later block now said since = record {
 
 -- ---- steps
 
-added : (meant : Result PlainBlock FaultKind) (block : PlainBlock) (said : List ℕ) (step : PlainStep) → Since block said
-    → ((after : PlainBlock) → meant ≡ Ok after → Since after said) → Added meant block step → Since step.after (said ++ step.said)
-added (Ok after) block said step since more is =
-    subst (λ (b : PlainBlock). Since b (said ++ step.said)) (sym is.1) (more-said after said step.said (more after refl))
-added (Err kind) block said step since more is = said-behind block step.after said _ step.said since is
+added : (at : PlainHeard) (row : Fields) (meant : Result PlainBlock FaultKind) (block : PlainBlock) (said : List ℕ) (step : PlainStep) → Since at block said
+    → ((after : PlainBlock) → meant ≡ Ok after → Since (behind_rows at (row ∷ [])) after said) → Added meant block step
+    → Since (behind_rows at (row ∷ [])) step.after (said ++ step.said)
+added at row (Ok after) block said step since more is =
+    subst (λ (b : PlainBlock). Since (behind_rows at (row ∷ [])) b (said ++ step.said)) (sym is.1)
+    (more-said (behind_rows at (row ∷ [])) after said step.said (more after refl))
+added at row (Err kind) block said step since more is =
+    skipped at row step.after (said ++ step.said) (said-behind at block step.after said _ step.said since is)
 
-took : (asked : Result PlainAsked FaultKind) (block : PlainBlock) (said : List ℕ) (step : PlainStep) → Since block said → TookBy asked block step
-    → Since step.after (said ++ step.said)
-took (Ok (Instructs words)) block said step since is =
-    added (with_words block words) block said step since (λ after same. with-instruction block after said words since same) is
-took (Ok (Swaps words)) block said step since is = added (with_both block words) block said step since (λ after same. with-legs block after said words since same) is
-took (Ok (SetsTime now)) block said step since is =
-    subst (λ (b : PlainBlock). Since b (said ++ step.said)) (sym is.2) (later is.0 now (said ++ step.said) (said-behind block is.0 said _ step.said since is.1))
-took (Ok (Shows market depth)) block said step since is = said-behind block step.after said _ step.said since is
-took (Ok Dumps) block said step since is = said-behind block step.after said _ step.said since is
-took (Err kind) block said step since is = said-behind block step.after said _ step.said since is
+took : (at : PlainHeard) (row : Fields) (asked : Result PlainAsked FaultKind) (block : PlainBlock) (said : List ℕ) (step : PlainStep) → asked_of row ≡ asked
+    → Since at block said → TookBy asked block step → Since (behind_rows at (row ∷ [])) step.after (said ++ step.said)
+took at row (Ok (Instructs words)) block said step asks since is =
+    added at row (with_words block words) block said step since (λ after same. with-instruction at row block after said words asks since same) is
+took at row (Ok (Swaps words)) block said step asks since is =
+    added at row (with_both block words) block said step since (λ after same. with-legs at row block after said words asks since same) is
+took at row (Ok (SetsTime now)) block said step asks since is =
+    skipped at row step.after (said ++ step.said)
+    (subst (λ (b : PlainBlock). Since at b (said ++ step.said)) (sym is.2) (later at is.0 now (said ++ step.said) (said-behind at block is.0 said _ step.said since is.1)))
+took at row (Ok (Shows market depth)) block said step asks since is =
+    skipped at row step.after (said ++ step.said) (said-behind at block step.after said _ step.said since is)
+took at row (Ok Dumps) block said step asks since is =
+    skipped at row step.after (said ++ step.said) (said-behind at block step.after said _ step.said since is)
+took at row (Err kind) block said step asks since is =
+    skipped at row step.after (said ++ step.said) (said-behind at block step.after said _ step.said since is)
 
-stepped : (row : Option Fields) (block : PlainBlock) (said : List ℕ) (step : PlainStep) → Since block said → IsStepBy row block step
-    → Since step.after (said ++ step.said)
-stepped None block said step since is =
-    subst (λ (l : List ℕ). Since step.after (said ++ l)) (append-nil step.said) (acted block step.after said step.said [] since is)
-stepped (Some row) block said step since is = took (asked_of row) block said step since is
+stepped : (at : PlainHeard) (row : Option Fields) (block : PlainBlock) (said : List ℕ) (step : PlainStep) → Since at block said → IsStepBy row block step
+    → Since (behind_rows at (told_row row)) step.after (said ++ step.said)
+stepped at None block said step since is =
+    none-taken at step.after (said ++ step.said)
+    (subst (λ (l : List ℕ). Since at step.after (said ++ l)) (append-nil step.said) (acted at block step.after said step.said [] since is))
+stepped at (Some row) block said step since is = took at row (asked_of row) block said step refl since is
 
-steps-on : (block : PlainBlock) (steps : List PlainStep) (after : PlainBlock) (said : List ℕ) → Since block said → AreSteps block steps after
-    → Since after (said ++ text_said steps)
-steps-on block [] after said since are = subst (λ (b : PlainBlock). Since b (said ++ [])) (sym are) (more-said block said [] since)
-steps-on block (step ∷ steps) after said since are =
-    subst (λ (l : List ℕ). Since after l) (append_assoc said step.said (text_said steps))
-    (steps-on step.after steps after (said ++ step.said) (stepped step.row block said step since are.0) are.1)
+steps-on : (at : PlainHeard) (block : PlainBlock) (steps : List PlainStep) (after : PlainBlock) (said : List ℕ) → Since at block said
+    → AreSteps block steps after → Since (behind_rows at (rows_taken steps)) after (said ++ text_said steps)
+steps-on at block [] after said since are =
+    none-taken at after (said ++ []) (subst (λ (b : PlainBlock). Since at b (said ++ [])) (sym are) (more-said at block said [] since))
+steps-on at block (step ∷ steps) after said since are =
+    let next = behind_rows at (row_taken step) in
+    let rest : Since (behind_rows next (rows_taken steps)) after ((said ++ step.said) ++ text_said steps) =
+    steps-on next step.after steps after (said ++ step.said) (stepped at step.row block said step since are.0) are.1 in
+    subst (λ (l : List Fields). Since (record { text = at.text; rest = at.rest; more = l }) after (said ++ (step.said ++ text_said steps)))
+    (append_assoc at.more (row_taken step) (rows_taken steps))
+    (subst (λ (l : List ℕ). Since (behind_rows next (rows_taken steps)) after l) (append_assoc said step.said (text_said steps)) rest)
 
 -- what was said already, and what is still to be said
-went : (rows : List Fields) (block after : PlainBlock) (said old new : List ℕ) → Since block (said ++ old) → Went rows block after old new → Since after (said ++ new)
-went rows block after said old new since is =
-    subst (λ (l : List ℕ). Since after l) (append_assoc said old (text_said is.steps) ∙ ap (λ (l : List ℕ). said ++ l) (sym is.said))
-    (steps-on block is.steps after (said ++ old) since is.are)
+went : (at : PlainHeard) (rows : List Fields) (block after : PlainBlock) (said old new : List ℕ) → Since at block (said ++ old)
+    → Went rows block after old new → Since (behind_rows at rows) after (said ++ new)
+went at rows block after said old new since is =
+    subst (λ (l : List Fields). Since (behind_rows at l) after (said ++ new)) is.taken
+    (subst (λ (l : List ℕ). Since (behind_rows at (rows_taken is.steps)) after l)
+    (append_assoc said old (text_said is.steps) ∙ ap (λ (l : List ℕ). said ++ l) (sym is.said))
+    (steps-on at block is.steps after (said ++ old) since is.are))
 
-acted-in : (block after : PlainBlock) (said old new : List ℕ) → Since block (said ++ old) → ActedIn block after old new → Since after (said ++ new)
-acted-in block after said old new since is =
-    subst (λ (l : List ℕ). Since after l) (ap (λ (l : List ℕ). (said ++ old) ++ l) (append-nil is.said) ∙ append_assoc said old is.said ∙ ap (λ (l : List ℕ). said ++ l) (sym is.text))
-    (acted block after (said ++ old) is.said [] since is.acted)
+acted-in : (at : PlainHeard) (block after : PlainBlock) (said old new : List ℕ) → Since at block (said ++ old) → ActedIn block after old new
+    → Since at after (said ++ new)
+acted-in at block after said old new since is =
+    subst (λ (l : List ℕ). Since at after l)
+    (ap (λ (l : List ℕ). (said ++ old) ++ l) (append-nil is.said) ∙ append_assoc said old is.said ∙ ap (λ (l : List ℕ). said ++ l) (sym is.text))
+    (acted at block after (said ++ old) is.said [] since is.acted)
 
 -- ---- a set-up
 
--- the rows of a script are numbered below the row after it
+-- the rows of a script are numbered below the row behind it
 record IsNumbered (number : ℕ) (draft : PlainDraft) : Type 0 where
   below : AreBelow number draft.script.rows
   small : number ≤ 2 ^ 32 - 1
@@ -389,21 +529,24 @@ script-below text script reads = by (rows_of text) (begins_with_dump (rows_of te
     by rows false is =
         from-numbered 1 (no_rows false) rows script (record { below = All-nil (λ (r : PlainRow). r.number < 1); small = omega arith }) is
 
-opened : (text : List ℕ) (block : PlainBlock) (said : List ℕ) → IsOpened text block → Since block said
-opened text block said is =
+opened : (text all rest : List ℕ) (block : PlainBlock) (said : List ℕ) → IsHeard all text [] rest → IsOpened text block → Since (here all rest) block said
+opened text all rest block said before is =
     let script = is.script in
     let number = number_after 1 (rows_of text) in
     let rows : script.rows ++ [] ≡ script.rows = append-nil script.rows in
     let below = script-below text script is.reads in
-    subst (λ (b : PlainBlock). Since b said) (sym is.fresh)
+    subst (λ (b : PlainBlock). Since (here all rest) b said) (sym is.fresh)
     (record {
-      set_up = text;
       one = record {
+        set_up = text;
+        lines = [];
+        is = before;
         script = script;
         reads = is.reads;
         begin = is.outcome;
         first = is.replay;
         parts = [];
+        asked = refl;
         links = tt;
         replay = subst (λ (l : List PlainRow). IsReplayOf (record script { rows = l }) is.outcome) (sym rows) is.replay;
         left = refl;
@@ -418,107 +561,242 @@ opened text block said is =
       small = number-small 1 (rows_of text) (omega arith);
     })
 
+-- ---- what was heard
+
+-- a line, and what is behind it
+line-behind : (line rest : List ℕ) → line ++ 10 ∷ rest ≡ ended line ++ rest
+line-behind line rest = sym (append_assoc line (10 ∷ []) rest)
+
+-- a line of a set-up is kept
+kept-line : (before kept text line rest all : List ℕ) → all ≡ before ++ (kept ++ text) → text ≡ line ++ 10 ∷ rest
+    → all ≡ before ++ ((kept ++ line ++ 10 ∷ []) ++ rest)
+kept-line before kept text line rest all is cut =
+    is
+    ∙ ap (λ (l : List ℕ). before ++ l)
+    (ap (λ (l : List ℕ). kept ++ l) cut ∙ sym (append_assoc kept line (10 ∷ rest)) ∙ sym (append_assoc (kept ++ line) (10 ∷ []) rest))
+
+-- a set-up that is none
+refused-more : (before kept line rest old told all : List ℕ) (one : HasRefused before old) → all ≡ before ++ (kept ++ (line ++ 10 ∷ rest))
+    → IsRefused (record { set_up = kept; line = line; told = told })
+    → (more : List ℕ) × HasRefused more (old ++ told) × (all ≡ more ++ ([] ++ rest))
+refused-more before kept line rest old told all one is none =
+    let new : PlainRefused = record { set_up = kept; line = line; told = told } in
+    let text_in : PlainRefused → List ℕ = λ (r : PlainRefused). r.set_up ++ ended r.line in
+    let told_in : PlainRefused → List ℕ = λ (r : PlainRefused). r.told in (
+      before ++ (kept ++ ended line),
+      record {
+        refused = one.refused ++ new ∷ [];
+        are = All-push IsRefused one.refused new one.are none;
+        text = ap (λ (l : List ℕ). l ++ (kept ++ ended line)) one.text
+            ∙ ap (λ (l : List ℕ). flat_map text_in one.refused ++ l) (sym (append-nil (kept ++ ended line)))
+            ∙ sym (flat_map-append text_in one.refused (new ∷ []));
+        told = ap (λ (l : List ℕ). l ++ told) one.told ∙ ap (λ (l : List ℕ). flat_map told_in one.refused ++ l) (sym (append-nil told))
+            ∙ sym (flat_map-append told_in one.refused (new ∷ []));
+      },
+      is ∙ ap (λ (l : List ℕ). before ++ (kept ++ l)) (line-behind line rest)
+          ∙ ap (λ (l : List ℕ). before ++ l) (sym (append_assoc kept (ended line) rest)) ∙ sym (append_assoc before (kept ++ ended line) rest),
+    )
+
+-- the set-up that opens a desk
+heard-opening : (before old kept text line rest all : List ℕ) → HasRefused before old → is_opening line ≡ true → all ≡ before ++ (kept ++ text)
+    → text ≡ line ++ 10 ∷ rest → IsHeard all kept [] rest
+heard-opening before old kept text line rest all refused opening is cut = record {
+  before = before;
+  told = old;
+  refused = refused;
+  line = line;
+  opening = opening;
+  is = is ∙ ap (λ (l : List ℕ). before ++ (kept ++ l)) (cut ∙ line-behind line rest);
+}
+
+-- a line of a session
+heard-line : (all set_up text line rest : List ℕ) (lines : List (List ℕ)) → IsHeard all set_up lines text → text ≡ line ++ 10 ∷ rest
+    → IsHeard all set_up (lines ++ line ∷ []) rest
+heard-line all set_up text line rest lines is cut =
+    let front = flat_map ended lines in
+    let more : front ++ text ≡ flat_map ended (lines ++ line ∷ []) ++ rest =
+    ap (λ (l : List ℕ). front ++ l) (cut ∙ line-behind line rest)
+    ∙ sym (append_assoc front (ended line) rest)
+    ∙ ap (λ (l : List ℕ). l ++ rest) (ap (λ (l : List ℕ). front ++ l) (sym (append-nil (ended line))) ∙ sym (flat_map-append ended lines (line ∷ []))) in
+    record {
+      before = is.before;
+      told = is.told;
+      refused = is.refused;
+      line = is.line;
+      opening = is.opening;
+      is = is.is ∙ ap (λ (l : List ℕ). is.before ++ (set_up ++ (ended is.line ++ l))) more;
+    }
+
+-- more bytes
+heard-bytes : (all set_up text bytes : List ℕ) (lines : List (List ℕ)) → IsHeard all set_up lines text → IsHeard (all ++ bytes) set_up lines (text ++ bytes)
+heard-bytes all set_up text bytes lines is =
+    let front = flat_map ended lines in record {
+      before = is.before;
+      told = is.told;
+      refused = is.refused;
+      line = is.line;
+      opening = is.opening;
+      is = ap (λ (l : List ℕ). l ++ bytes) is.is ∙ append_assoc is.before (set_up ++ (ended is.line ++ (front ++ text))) bytes
+          ∙ ap (λ (l : List ℕ). is.before ++ l)
+          (append_assoc set_up (ended is.line ++ (front ++ text)) bytes
+          ∙ ap (λ (l : List ℕ). set_up ++ l)
+          (append_assoc (ended is.line) (front ++ text) bytes ∙ ap (λ (l : List ℕ). ended is.line ++ l) (append_assoc front text bytes)));
+    }
+
+-- a line was taken
+line-taken : (all text line rest : List ℕ) (block : PlainBlock) (said : List ℕ) → text ≡ line ++ 10 ∷ rest
+    → Since (behind_rows (here all text) (rows_of line)) block said → Since (here all rest) block said
+line-taken all text line rest block said cut since =
+    let one = since.one in
+    let rows = rows_in one.parts ++ block.draft.script.rows in
+    let same : flat_map rows_of one.lines ++ rows_of line ≡ flat_map rows_of (one.lines ++ line ∷ []) ++ [] =
+    ap (λ (l : List Fields). flat_map rows_of one.lines ++ l) (sym (append-nil (rows_of line)))
+    ∙ sym (flat_map-append rows_of one.lines (line ∷ [])) ∙ sym (append-nil (flat_map rows_of (one.lines ++ line ∷ []))) in
+    heard-more (behind_rows (here all text) (rows_of line)) (here all rest) block said since (one.lines ++ line ∷ [])
+    (heard-line all one.set_up text line rest one.lines one.is cut) (subst (λ (l : List Fields). AreAsked l rows) same one.asked)
+
 -- ---- a talk
 
--- what is so where a session stands
-abbrev IsSo : Session → List ℕ → Type 0
-IsSo (Sets kept text) said = Unit {0}
-IsSo (Serves block text) said = Since block said
-IsSo (Closes block text) said = Since block said
-IsSo (Ended why) said = IsWhole (Ended why) said
+-- what is so where a session stands that heard this and said this
+abbrev IsSo : Session → List ℕ → List ℕ → Type 0
+IsSo (Sets kept text) all said = IsWhole (Sets kept text) all said
+IsSo (Serves block text) all said = Since (here all text) block said
+IsSo (Closes block text) all said = Since (here all text) block said
+IsSo (Ended why) all said = IsWhole (Ended why) all said
 
-whole : (session : Session) (said : List ℕ) → IsSo session said → IsWhole session said
-whole (Sets kept text) said is = tt
-whole (Serves block text) said is = (is.set_up, is.one)
-whole (Closes block text) said is = (is.set_up, is.one)
-whole (Ended why) said is = is
+whole : (session : Session) (all said : List ℕ) → IsSo session all said → IsWhole session all said
+whole (Sets kept text) all said is = is
+whole (Serves block text) all said is = is.one
+whole (Closes block text) all said is = is.one
+whole (Ended why) all said is = is
 
 -- the accounts are written, and then a line
-dumped : (block left : PlainBlock) (said old new line : List ℕ) → Since block (said ++ old) → SaidIn block left (dump_text left.draft.script.start) old new
-    → HasEnded line (said ++ (new ++ line))
-dumped block left said old new line since is =
+dumped : (why : Over) (all rest : List ℕ) (block left : PlainBlock) (said old new : List ℕ)
+    → Since (record { text = all; rest = rest; more = last_rows why rest }) block (said ++ old) → SaidIn block left (dump_text left.draft.script.start) old new
+    → HasEnded why all (said ++ (new ++ last_line why))
+dumped why all rest block left said old new since is =
+    let at : PlainHeard = record { text = all; rest = rest; more = last_rows why rest } in
+    let line = last_line why in
     let dump = dump_text left.draft.script.start in
     let answers = is.behind.answers in
-    let last = acted block left (said ++ old) answers [] since is.behind.acted in
-    let text : said ++ (new ++ line) ≡ (((said ++ old) ++ (answers ++ [])) ++ dump) ++ line =
+    let last = acted at block left (said ++ old) answers [] since is.behind.acted in
+    let before = (said ++ old) ++ (answers ++ []) in
+    let one : IsOneReplay at left.draft.script.start [] before =
+    subst (λ (rows : List PlainRow). IsOneReplay at left.draft.script.start rows before) (none-left block left answers is.behind.acted) last.one in
+    let text : said ++ (new ++ line) ≡ (before ++ dump) ++ line =
     ap (λ (l : List ℕ). said ++ (l ++ line)) (is.is ∙ ap (λ (l : List ℕ). old ++ l) is.behind.is)
     ∙ sym (append_assoc said (old ++ (answers ++ dump)) line)
     ∙ ap (λ (l : List ℕ). l ++ line)
     (sym (append_assoc said old (answers ++ dump)) ∙ sym (append_assoc (said ++ old) answers dump)
     ∙ ap (λ (l : List ℕ). ((said ++ old) ++ l) ++ dump) (sym (append-nil answers))) in
-    inr (last.set_up, (said ++ old) ++ (answers ++ []), left.draft.script.start, last.one, text)
+    inr (rest, before, left.draft.script.start, one, text)
 
 -- at the end of input
-ends-well : (block : PlainBlock) (text said owed : List ℕ) (after : Talk) → Since block (said ++ owed) → EndsWell block text owed after
-    → IsSo after.session (said ++ after.owed)
-ends-well block text said owed after since ends =
-    let mid = went (rows_of text) block ends.between said owed ends.mid since ends.went in
-    subst (λ (t : Talk). IsSo t.session (said ++ t.owed)) (sym ends.is)
-    (subst (λ (l : List ℕ). HasEnded [] (said ++ l)) (append-nil ends.said) (dumped ends.between ends.left said ends.mid ends.said [] mid ends.dump))
+ends-well : (block : PlainBlock) (all text said owed : List ℕ) (after : Talk) → Since (here all text) block (said ++ owed) → EndsWell block text owed after
+    → IsSo after.session all (said ++ after.owed)
+ends-well block all text said owed after since ends =
+    let mid = went (here all text) (rows_of text) block ends.between said owed ends.mid since ends.went in
+    subst (λ (t : Talk). IsSo t.session all (said ++ t.owed)) (sym ends.is)
+    (subst (λ (l : List ℕ). HasEnded over.Input all (said ++ l)) (append-nil ends.said)
+    (dumped over.Input all text ends.between ends.left said ends.mid ends.said mid ends.dump))
 
--- before it
-leaves : (session : Session) (said text line : List ℕ) → IsListening session → IsSo session (said ++ []) → Leaves session text → HasEnded line (said ++ (text ++ line))
-leaves (Sets kept heard) said text line listens is left = inl tt
-leaves (Serves block heard) said text line listens is left = dumped block left.0 said [] text line is left.1
-leaves (Closes block heard) said text line listens is left = absurd listens
-leaves (Ended why) said text line listens is left = absurd listens
+-- before it, of a set-up
+leaves-none : (why : Over) (kept text all said new : List ℕ) → IsSo (Sets kept text) all (said ++ []) → new ≡ [] → HasEnded why all (said ++ (new ++ last_line why))
+leaves-none why kept text all said new is left =
+    inl (
+      is.0,
+      kept ++ text,
+      said ++ [],
+      is.1,
+      is.2,
+      ap (λ (l : List ℕ). said ++ (l ++ last_line why)) left ∙ ap (λ (l : List ℕ). l ++ last_line why) (sym (append-nil said)),
+    )
 
-stops : (why : Over) (session : Session) (said text : List ℕ) → IsSo session (said ++ []) → StopsBy why session text
-    → IsSo (Ended why) (said ++ (text ++ last_line why))
-stops over.Input session said text is stop = absurd stop
-stops over.ReadFault session said text is stop = leaves session said text (last_line over.ReadFault) stop.0 is stop.1
-stops over.TooLong session said text is stop = leaves session said text (last_line over.TooLong) stop.0 is stop.2
-stops over.NoMemory session said text is stop = tt
+stops : (why : Over) (session : Session) (all said text : List ℕ) → IsSo session all (said ++ []) → StopsBy why session text
+    → IsSo (Ended why) all (said ++ (text ++ last_line why))
+stops over.Input session all said text is stop = absurd stop
+stops over.ReadFault (Sets kept rest) all said text is stop = leaves-none over.ReadFault kept rest all said text is stop.1
+stops over.ReadFault (Serves block rest) all said text is stop = dumped over.ReadFault all rest block stop.1.0 said [] text is stop.1.1
+stops over.ReadFault (Closes block rest) all said text is stop = absurd stop.0
+stops over.ReadFault (Ended why) all said text is stop = absurd stop.0
+stops over.TooLong (Sets kept rest) all said text is stop = leaves-none over.TooLong kept rest all said text is stop.2
+stops over.TooLong (Serves block rest) all said text is stop = dumped over.TooLong all rest block stop.2.0 said [] text is stop.2.1
+stops over.TooLong (Closes block rest) all said text is stop = absurd stop.0
+stops over.TooLong (Ended why) all said text is stop = absurd stop.0
+stops over.NoMemory session all said text is stop = tt
 
-does : (before after : Talk) (said : List ℕ) → IsSo before.session (said ++ before.owed) → Does before after → IsSo after.session (said ++ after.owed)
-does before after said is =
+does : (before after : Talk) (all said : List ℕ) → IsSo before.session all (said ++ before.owed) → Does before after → IsSo after.session all (said ++ after.owed)
+does before after all said is =
     ⊎_elim (λ on. by before.session before.owed is on)
-    (λ (stop : Stops before after). subst (λ (t : Talk). IsSo t.session (said ++ t.owed)) (sym stop.is)
-    (stops stop.why before.session said stop.said (subst (λ (l : List ℕ). IsSo before.session (said ++ l)) stop.quiet is) stop.stops))
+    (λ (stop : Stops before after). subst (λ (t : Talk). IsSo t.session all (said ++ t.owed)) (sym stop.is)
+    (stops stop.why before.session all said stop.said (subst (λ (l : List ℕ). IsSo before.session all (said ++ l)) stop.quiet is) stop.stops))
   where
-    by : (session : Session) (owed : List ℕ) → IsSo session (said ++ owed) → DoesBy session owed after → IsSo after.session (said ++ after.owed)
-    by (Sets kept text) owed is (inl keeps) = subst (λ (t : Talk). IsSo t.session (said ++ t.owed)) (sym keeps.is) tt
+    by : (session : Session) (owed : List ℕ) → IsSo session all (said ++ owed) → DoesBy session owed after → IsSo after.session all (said ++ after.owed)
+    by (Sets kept text) owed is (inl keeps) =
+        subst (λ (t : Talk). IsSo t.session all (said ++ t.owed)) (sym keeps.is) (is.0, is.1, kept-line is.0 kept text keeps.line keeps.rest all is.2 keeps.cut.parts)
     by (Sets kept text) owed is (inr (inl opens)) =
-        subst (λ (t : Talk). IsSo t.session (said ++ t.owed)) (sym opens.is) (opened kept opens.block (said ++ (owed ++ open_line opens.block.number)) opens.opened)
-    by (Sets kept text) owed is (inr (inr refuses)) = subst (λ (t : Talk). IsSo t.session (said ++ t.owed)) (sym refuses.is) tt
+        subst (λ (t : Talk). IsSo t.session all (said ++ t.owed)) (sym opens.is)
+        (opened kept all opens.rest opens.block (said ++ (owed ++ open_line opens.block.number))
+        (heard-opening is.0 (said ++ owed) kept text opens.line opens.rest all is.1 opens.opening is.2 opens.cut.parts) opens.opened)
+    by (Sets kept text) owed is (inr (inr refuses)) =
+        let more = refused-more is.0 kept refuses.line refuses.rest (said ++ owed) refuses.told all is.1
+        (is.2 ∙ ap (λ (l : List ℕ). is.0 ++ (kept ++ l)) refuses.cut.parts) (refuses.opening, refuses.status, refuses.none) in
+        subst (λ (t : Talk). IsSo t.session all (said ++ t.owed)) (sym refuses.is)
+        (more.0, subst (HasRefused more.0) (append_assoc said owed refuses.told) more.1, more.2)
     by (Serves block text) owed is (inl takes) =
-        subst (λ (t : Talk). IsSo t.session (said ++ t.owed)) (sym takes.is) (went (rows_of takes.line) block takes.left said owed takes.said is takes.went)
+        subst (λ (t : Talk). IsSo t.session all (said ++ t.owed)) (sym takes.is)
+        (line-taken all text takes.line takes.rest takes.left (said ++ takes.said) takes.cut.parts
+        (went (here all text) (rows_of takes.line) block takes.left said owed takes.said is takes.went))
     by (Serves block text) owed is (inr acts) =
-        subst (λ (t : Talk). IsSo t.session (said ++ t.owed)) (sym acts.is) (acted-in block acts.left said owed acts.said is acts.acted)
-    by (Closes block text) owed is ends = ends-well block text said owed after is ends
+        subst (λ (t : Talk). IsSo t.session all (said ++ t.owed)) (sym acts.is) (acted-in (here all text) block acts.left said owed acts.said is acts.acted)
+    by (Closes block text) owed is ends = ends-well block all text said owed after is ends
     by (Ended why) owed is ends = absurd ends
 
-does-all : (before : Talk) (through : List Talk) (after : Talk) (said : List ℕ) → IsSo before.session (said ++ before.owed) → DoesAll before through after
-    → IsSo after.session (said ++ after.owed)
-does-all before [] after said is are = subst (λ (t : Talk). IsSo t.session (said ++ t.owed)) (sym are) is
-does-all before (next ∷ others) after said is are = does-all next others after said (does before next said is are.0) are.1
+does-all : (before : Talk) (through : List Talk) (after : Talk) (all said : List ℕ) → IsSo before.session all (said ++ before.owed) → DoesAll before through after
+    → IsSo after.session all (said ++ after.owed)
+does-all before [] after all said is are = subst (λ (t : Talk). IsSo t.session all (said ++ t.owed)) (sym are) is
+does-all before (next ∷ others) after all said is are = does-all next others after all said (does before next all said is are.0) are.1
 
-heard-so : (bytes : List ℕ) (session : Session) (said : List ℕ) → IsListening session → IsSo session said → IsSo (heard bytes session) said
-heard-so [] (Sets kept text) said listens is = inl tt
-heard-so [] (Serves block text) said listens is = is
-heard-so (byte ∷ bytes) (Sets kept text) said listens is = tt
-heard-so (byte ∷ bytes) (Serves block text) said listens is = is
-heard-so [] (Closes block text) said listens is = absurd listens
-heard-so [] (Ended why) said listens is = absurd listens
-heard-so (byte ∷ bytes) (Closes block text) said listens is = absurd listens
-heard-so (byte ∷ bytes) (Ended why) said listens is = absurd listens
+heard-so : (bytes : List ℕ) (session : Session) (all said : List ℕ) → IsListening session → IsSo session all said → IsSo (heard bytes session) (all ++ bytes) said
+heard-so [] (Sets kept text) all said listens is =
+    inl (is.0, kept ++ text, said, is.1, append-nil all ∙ is.2, sym (append-nil said))
+heard-so [] (Serves block text) all said listens is = subst (λ (l : List ℕ). Since (here l text) block said) (sym (append-nil all)) is
+heard-so (byte ∷ bytes) (Sets kept text) all said listens is =
+    let more = byte ∷ bytes in (
+      is.0,
+      is.1,
+      ap (λ (l : List ℕ). l ++ more) is.2 ∙ append_assoc is.0 (kept ++ text) more ∙ ap (λ (l : List ℕ). is.0 ++ l) (append_assoc kept text more),
+    )
+heard-so (byte ∷ bytes) (Serves block text) all said listens is =
+    let more = byte ∷ bytes in
+    heard-more (here all text) (here (all ++ more) (text ++ more)) block said is is.one.lines
+    (heard-bytes all is.one.set_up text more is.one.lines is.one.is) is.one.asked
+heard-so [] (Closes block text) all said listens is = absurd listens
+heard-so [] (Ended why) all said listens is = absurd listens
+heard-so (byte ∷ bytes) (Closes block text) all said listens is = absurd listens
+heard-so (byte ∷ bytes) (Ended why) all said listens is = absurd listens
 
-talks-whole : (before : Talk) (turns : List Turn) (after : Talk) (said : List ℕ) → IsSo before.session (said ++ before.owed) → Talks before turns after
-    → IsSo after.session ((said ++ said_in turns) ++ after.owed)
-talks-whole before [] after said is talks =
-    subst (λ (l : List ℕ). IsSo after.session (l ++ after.owed)) (sym (append-nil said)) (does-all before talks.through after said is talks.does)
-talks-whole before (Heard bytes ∷ turns) after said is talks =
-    let ready = does-all before talks.2.through talks.0 said is talks.2.does in
+talks-whole : (before : Talk) (turns : List Turn) (after : Talk) (all said : List ℕ) → IsSo before.session all (said ++ before.owed) → Talks before turns after
+    → IsSo after.session (all ++ heard_in turns) ((said ++ said_in turns) ++ after.owed)
+talks-whole before [] after all said is talks =
+    subst (λ (l : List ℕ). IsSo after.session l ((said ++ []) ++ after.owed)) (sym (append-nil all))
+    (subst (λ (l : List ℕ). IsSo after.session all (l ++ after.owed)) (sym (append-nil said)) (does-all before talks.through after all said is talks.does))
+talks-whole before (Heard bytes ∷ turns) after all said is talks =
+    let ready = does-all before talks.2.through talks.0 all said is talks.2.does in
     let turn = talks.3 in
     let quiet : said ++ talks.0.owed ≡ said ++ [] = ap (λ (l : List ℕ). said ++ l) turn.0 in
-    let now = heard-so bytes talks.0.session (said ++ []) turn.1 (subst (IsSo talks.0.session) quiet ready) in
-    talks-whole talks.1 turns after said (subst (λ (t : Talk). IsSo t.session (said ++ t.owed)) (sym turn.2) now) talks.4
-talks-whole before (Said bytes ∷ turns) after said is talks =
-    let ready = does-all before talks.2.through talks.0 said is talks.2.does in
+    let now = heard-so bytes talks.0.session all (said ++ []) turn.1 (subst (IsSo talks.0.session all) quiet ready) in
+    subst (λ (l : List ℕ). IsSo after.session l ((said ++ said_in turns) ++ after.owed)) (append_assoc all bytes (heard_in turns))
+    (talks-whole talks.1 turns after (all ++ bytes) said (subst (λ (t : Talk). IsSo t.session (all ++ bytes) (said ++ t.owed)) (sym turn.2) now) talks.4)
+talks-whole before (Said bytes ∷ turns) after all said is talks =
+    let ready = does-all before talks.2.through talks.0 all said is talks.2.does in
     let turn = talks.3 in
     let text : said ++ talks.0.owed ≡ (said ++ bytes) ++ talks.1.owed = ap (λ (l : List ℕ). said ++ l) turn.0 ∙ sym (append_assoc said bytes talks.1.owed) in
-    let now = subst (λ (s : Session). IsSo s ((said ++ bytes) ++ talks.1.owed)) (sym turn.1) (subst (IsSo talks.0.session) text ready) in
-    subst (λ (l : List ℕ). IsSo after.session (l ++ after.owed)) (append_assoc said bytes (said_in turns)) (talks-whole talks.1 turns after (said ++ bytes) now talks.4)
+    let now = subst (λ (s : Session). IsSo s all ((said ++ bytes) ++ talks.1.owed)) (sym turn.1) (subst (IsSo talks.0.session all) text ready) in
+    subst (λ (l : List ℕ). IsSo after.session (all ++ heard_in turns) (l ++ after.owed)) (append_assoc said bytes (said_in turns))
+    (talks-whole talks.1 turns after all (said ++ bytes) now talks.4)
 
-pub a-whole-session : (turns : List Turn) (after : Talk) → Talks first turns after → IsWhole after.session (said_in turns ++ after.owed)
-a-whole-session turns after talks = whole after.session (said_in turns ++ after.owed) (talks-whole first turns after [] tt talks)
+pub a-whole-session : (turns : List Turn) (after : Talk) → Talks first turns after → IsWhole after.session (heard_in turns) (said_in turns ++ after.owed)
+a-whole-session turns after talks =
+    let begin : IsSo (Sets [] []) [] [] = ([], record { refused = []; are = All-nil IsRefused; text = refl; told = refl }, refl) in
+    whole after.session (heard_in turns) (said_in turns ++ after.owed) (talks-whole first turns after [] [] begin talks)

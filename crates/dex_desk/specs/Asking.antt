@@ -54,7 +54,7 @@ asked_of row =
     if bytes_eq (field_at row 0) (codes "book") then book_of row
     else (if bytes_eq (field_at row 0) (codes "dump") then dump_of row else asked_by row)
 
--- the answer of a call is what is meant, where an instruction's words stand in a buffer; a lack of memory tells nothing
+-- the answer of a call is what is meant, where an instruction's words stand in a buffer; want of memory tells nothing
 abbrev pub TellsAsked : Result Asked RowError → PlainInstruction → Result PlainAsked FaultKind → Type 0
 TellsAsked (Ok asked.Instruction) words meant = meant ≡ Ok (Instructs words)
 TellsAsked (Ok (asked.Swap swap)) words meant = meant ≡ Ok (Swaps swap)

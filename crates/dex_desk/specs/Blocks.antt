@@ -43,23 +43,23 @@ pub record IsBlock (block : PlainBlock) : Type 0 where
   pub next : block.number ≡ number_after first rows
   pub start : IsStart block.draft.script.start
 
--- the block after a row that left this draft
+-- the block behind a row that left this draft
 abbrev pub behind_row : PlainBlock → PlainDraft → Result PlainBlock FaultKind
 behind_row block draft = Ok (record { draft = draft; number = next_number block.number })
 
--- the block with an instruction row more, or what is wrong with the row after the others
+-- the block with an instruction row more, or what is wrong with the row behind the others
 abbrev pub with_words : PlainBlock → PlainInstruction → Result PlainBlock FaultKind
 with_words block words = with_instruction block.draft block.number words >>= behind_row block
 
--- the block with a swap more, or what is wrong with the row after the others
+-- the block with a swap more, or what is wrong with the row behind the others
 abbrev pub with_both : PlainBlock → PlainSwap → Result PlainBlock FaultKind
 with_both block words = with_swap block.draft block.number words >>= behind_row block
 
--- the block after a `clock` row
+-- the block behind a `clock` row
 abbrev pub with_time : PlainBlock → ℤ → PlainBlock
 with_time block now = record { draft = with_clock block.draft now; number = next_number block.number }
 
--- after a row that was accepted a block is so, after one with a fault it is as it was; lack of memory leaves it too
+-- behind a row that was accepted a block is so, behind one with a fault it is as it was; want of memory leaves it too
 abbrev pub TellsRow : Result (Unit {0}) RowError → PlainBlock → PlainBlock → Result PlainBlock FaultKind → Type 0
 TellsRow (Ok done) old new meant = meant ≡ Ok new
 TellsRow (Err (row_error.Fault kind)) old new meant = (meant ≡ Err kind) × (new ≡ old)

@@ -18,7 +18,7 @@ abbrev pub lots_at : ℕ → List Order → ℕ
 lots_at price [] = 0
 lots_at price (order ∷ orders) = if price_of order.id == price then order.lots + lots_at price orders else 0
 
--- the orders after those
+-- the orders behind those
 abbrev pub behind_price : ℕ → List Order → List Order
 behind_price price [] = []
 behind_price price (order ∷ orders) = if price_of order.id == price then behind_price price orders else order ∷ orders
@@ -36,7 +36,7 @@ side_word Ask = codes "ask"
 abbrev pub level_text : Side → ℕ → ℕ → List ℕ
 level_text side price lots = line (side_word side ++ spaced (decimal price) ++ spaced (decimal lots))
 
--- this many prices of a side at most, from the best on
+-- so many prices of a side at most, from the best on
 abbrev pub side_lines : Side → ℕ → List Order → List ℕ
 side_lines side zero orders = []
 side_lines side (suc depth) [] = []

@@ -49,7 +49,7 @@ pub record HadNone (before after : PlainBlock) (said : List ℕ) : Type 0 where
 abbrev pub Acted : PlainBlock → PlainBlock → List ℕ → Type 0
 Acted before after said = HadNone before after said ⊎ HaveActed before after said
 
--- a block acted, and what was said stands after a text
+-- a block acted, and what was said stands behind a text
 pub record ActedIn (before after : PlainBlock) (old new : List ℕ) : Type 0 where
   pub said : List ℕ
   pub text : new ≡ old ++ said

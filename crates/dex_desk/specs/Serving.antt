@@ -27,7 +27,7 @@ pub record AreLater (deaf mute deaf_new mute_new : ℕ) : Type 0 where
   pub hearing : deaf ≤ deaf_new
   pub saying : mute ≤ mute_new
 
--- more was heard, after what was there; or the input has ended; or hearing failed
+-- more was heard, behind what was there; or the input has ended; or hearing failed
 abbrev pub TellsEar : Ear → Option (List Turn) → Option (List Turn) → List ℕ → List ℕ → Type 0
 TellsEar ear.More old new before after =
     (byte : ℕ) × (bytes : List ℕ) × (new ≡ and_then old (Heard (byte ∷ bytes))) × (after ≡ before ++ byte ∷ bytes)
@@ -43,7 +43,7 @@ pub record IsClean (at : Talk) : Type 0 where
   pub quiet : at.owed ≡ []
   pub going : IsGoingOn at.session
 
--- where a session stops: for lack of memory at a clean place, or wherever a write failed
+-- where a session stops: for want of memory at a clean place, or wherever a write failed
 abbrev pub StopsAt : Stop → Talk → Type 0
 StopsAt stop.NoMemory at = IsClean at
 StopsAt stop.WriteFault at = Unit {0}
@@ -92,7 +92,7 @@ TellsOver (Ok _) meant old new = ⊥
 TellsOver (Err stop.NoMemory) meant old new = Unit {0}
 TellsOver (Err stop.WriteFault) meant old new = ⊥
 
--- where a session stands after lines of set-ups
+-- where a session stands behind lines of set-ups
 abbrev pub session_of : Option PlainBlock → List ℕ → List ℕ → Session
 session_of None kept inbox = Sets kept inbox
 session_of (Some block) kept inbox = Serves block inbox

@@ -23,16 +23,16 @@ abbrev pub time_stated : ℤ → Result Statement FaultKind → ℤ
 time_stated before (Ok (statement.Clock now)) = now
 time_stated before _ = before
 
--- the clock after a row
+-- the clock behind a row
 abbrev pub clock_behind : ℤ → Fields → ℤ
 clock_behind before row = if bytes_eq (field_at row 0) (codes "clock") then time_stated before (statement_of row) else before
 
--- the clock after rows
+-- the clock behind rows
 abbrev pub clock_after : ℤ → List Fields → ℤ
 clock_after clock [] = clock
 clock_after clock (row ∷ rows) = clock_after (clock_behind clock row) rows
 
--- the text is a script, whose rows have acted; the next row has the number and the clock of one after them; and none
+-- the text is a script, whose rows have acted; the next row has the number and the clock of one behind them; and none
 -- was accepted yet
 pub record IsOpened (text : List ℕ) (block : PlainBlock) : Type 0 where
   pub script : PlainScript

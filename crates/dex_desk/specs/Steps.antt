@@ -39,7 +39,7 @@ shown_of block depth (Some accounts) = book_text depth accounts
 abbrev pub shown : PlainBlock → Address → ℕ → List ℕ
 shown block market depth = shown_of block depth (found_market market block.draft.script.start.markets)
 
--- the rows of the block acted, and were answered, and after that this was said
+-- the rows of the block acted, and were answered, and behind that this was said
 pub record SaidBehind (before after : PlainBlock) (text said : List ℕ) : Type 0 where
   pub answers : List ℕ
   pub acted : Acted before after answers
@@ -94,7 +94,7 @@ pub record Went (rows : List Fields) (before after : PlainBlock) (old new : List
   pub taken : rows_taken steps ≡ rows
   pub said : new ≡ old ++ text_said steps
 
--- a block acted, and then this was said, after a text
+-- a block acted, and then this was said, behind a text
 pub record SaidIn (before after : PlainBlock) (text old new : List ℕ) : Type 0 where
   pub said : List ℕ
   pub is : new ≡ old ++ said

@@ -17,7 +17,7 @@ use Rattle.dex_desk.specs.Turns.Turn.{Heard, Said}
 
 -- ---- where a session stands
 
--- a set-up, of which these lines are kept, and after them this was heard; or a block, and what was heard of which no
+-- a set-up, of which these lines are kept, and behind them this was heard; or a block, and what was heard of which no
 -- line was taken yet; or a block, where the input has ended, and all that is left of it; or nothing more is heard
 pub data Session : Type 0 where
   Sets : (kept text : List ℕ) → Session
@@ -43,7 +43,7 @@ first = talk (Sets [] []) []
 abbrev pub HasNoEnd : List ℕ → Type 0
 HasNoEnd text = All (λ (byte : ℕ). byte ≢ 10) text
 
--- the first line of a text, and what is after it
+-- the first line of a text, and what is behind it
 pub record IsCut (text line rest : List ℕ) : Type 0 where
   pub parts : text ≡ line ++ 10 ∷ rest
   pub whole : HasNoEnd line
@@ -205,7 +205,7 @@ Talks before [] after = WentOn before after
 Talks before (turn ∷ turns) after =
     (ready done : Talk) × WentOn before ready × IsTurn turn ready done × Talks done turns after
 
--- what a desk tells of its turns: after those before, they are a talk
+-- what a desk tells of its turns: behind those before, they are a talk
 abbrev pub Talked : Option (List Turn) → Option (List Turn) → Talk → Talk → Type 0
 Talked None new before after = Unit {0}
 Talked (Some old) new before after = (turns : List Turn) × (new ≡ Some (old ++ turns)) × Talks before turns after
@@ -224,7 +224,7 @@ abbrev pub EndsAs : Status → Talk → Type 0
 EndsAs status.WriteFault after = Unit {0}
 EndsAs status after = (why : Over) × (status ≡ status_of why) × (after ≡ talk (Ended why) [])
 
--- what is recorded of a session is a talk from its first byte on, which ends as its status says
+-- what is told of a session is a talk from its first byte on, which ends as its status says
 abbrev pub IsServed : Status → Option (List Turn) → Option (List Turn) → Type 0
 IsServed status old new = (after : Talk) × Talked old new first after × EndsAs status after
 

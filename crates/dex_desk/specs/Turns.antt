@@ -6,7 +6,7 @@ pub data Turn : Type 0 where
   Heard : (bytes : List ℕ) → Turn
   Said : (bytes : List ℕ) → Turn
 
--- one turn more after those that are told
+-- one turn more behind those that are told
 abbrev pub and_then : Option (List Turn) → Turn → Option (List Turn)
 and_then None turn = None
 and_then (Some turns) turn = Some (turns ++ turn ∷ [])

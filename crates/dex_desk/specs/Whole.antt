@@ -1,18 +1,28 @@
--- A session as one replay: of its set-up's script, and after it of the rows that were accepted and have acted.
-use Rattle.std.specs.Prelude.{◌≡◌, ◌⊎◌, ℕ, false, List, [], ◌∷◌, ◌++◌, map}
+-- A session as one replay: of its set-up's script, and behind it of the rows that were accepted and have acted.
+use Rattle.std.specs.Prelude.{◌≡◌, ◌⊎◌, ℕ, ℤ, true, false, All, List, [], ◌∷◌, ◌++◌, Result, Ok, map}
 use Rattle.std.specs.List.{flat_map}
 use Rattle.dex_types.specs.declared.terms.Program.{Program}
 use Rattle.dex_types.specs.Accounts.{PlainAccounts}
 use Rattle.dex_types.specs.Rows.{PlainRow}
+use Rattle.dex_answers.specs.Answers.{IsNoScript}
+use Rattle.dex_answers.specs.declared.status.Status.{Status}
 use Rattle.dex_dump.specs.DumpText.{dump_text}
 use Rattle.dex_parts.specs.Chains.{outcome_behind}
 use Rattle.dex_replay.specs.Replays.{IsReplayOf}
+use Rattle.dex_rows.specs.Records.{rows_of}
+use Rattle.dex_script.specs.Rows.{instruction_row}
 use Rattle.dex_script.specs.Scripts.{Reads}
 use Rattle.dex_script_facts.specs.PlainScript.{PlainScript}
 use Rattle.dex_state.specs.Outcomes.{PlainOutcome}
+use Rattle.dex_statement.specs.declared.faults.FaultKind.{FaultKind}
+use Rattle.dex_statement.specs.Stated.{leg_words}
+use Rattle.dex_statement.specs.Words.{Fields}
+use Rattle.dex_desk.specs.declared.ends.Over.{Over}
 use Rattle.dex_desk.specs.declared.ends.Over.TheVariants as over
+use Rattle.dex_desk.specs.Asking.{PlainAsked, asked_of}
+use Rattle.dex_desk.specs.Asking.PlainAsked.{Instructs, Swaps}
 use Rattle.dex_desk.specs.Replies.{answers_to}
-use Rattle.dex_desk.specs.Talks.{Session, last_line}
+use Rattle.dex_desk.specs.Talks.{Session, is_opening, last_line}
 use Rattle.dex_desk.specs.Talks.Session.{Closes, Ended, Serves, Sets}
 use Rattle.dex_desk.specs.Turns.{Turn}
 use Rattle.dex_desk.specs.Turns.Turn.{Heard, Said}
@@ -37,7 +47,7 @@ AreLinked program accounts [] = Unit {0}
 AreLinked program accounts (part ∷ parts) =
     (part.script.start ≡ accounts) × (part.script.program ≡ program) × IsReplayOf part.script part.outcome × AreLinked program part.outcome.accounts parts
 
--- what is left after all parts, each journal after those before
+-- what is left behind all parts, each journal behind those before
 abbrev pub left_in : PlainOutcome → List PlainPart → PlainOutcome
 left_in before [] = before
 left_in before (part ∷ parts) = left_in (outcome_behind before part.outcome) parts
@@ -46,23 +56,89 @@ left_in before (part ∷ parts) = left_in (outcome_behind before part.outcome) p
 abbrev pub with_rows : PlainScript → List PlainRow → PlainScript
 with_rows script rows = record script { rows = script.rows ++ rows }
 
--- these stand in a text, one after the other
+-- these stand in a text, one behind the other
 abbrev pub AreAmong : List (List ℕ) → List ℕ → Type 0
 AreAmong [] text = Unit {0}
 AreAmong (piece ∷ pieces) text = (front rest : List ℕ) × (text ≡ front ++ (piece ++ rest)) × AreAmong pieces rest
 
--- the text of a set-up is a script; the rows that were accepted after it acted in parts; what these leave together is a
--- replay of all these rows, and has these accounts; and the answers of each part stand in what was said
-pub record IsOneReplay (text : List ℕ) (accounts : PlainAccounts) (said : List ℕ) : Type 0 where
+-- ---- what was heard
+
+-- a line with its end
+abbrev pub ended : List ℕ → List ℕ
+ended line = line ++ 10 ∷ []
+
+-- a set-up, the line `open` behind it, and what was told of it
+pub record PlainRefused : Type 0 where
+  pub set_up : List ℕ
+  pub line : List ℕ
+  pub told : List ℕ
+
+-- it is no script
+abbrev pub IsRefused : PlainRefused → Type 0
+IsRefused one = (is_opening one.line ≡ true) × (status : Status) × IsNoScript false one.set_up status one.told
+
+-- set-ups were heard that are none, one behind the other, and nothing was said but why
+pub record HasRefused (heard said : List ℕ) : Type 0 where
+  pub refused : List PlainRefused
+  pub are : All IsRefused refused
+  pub text : heard ≡ flat_map (λ (one : PlainRefused). one.set_up ++ ended one.line) refused
+  pub told : said ≡ flat_map (λ (one : PlainRefused). one.told) refused
+
+-- all that was heard, the part of it of which no whole line was taken, and the rows of this part that were taken
+pub record PlainHeard : Type 0 where
+  pub text : List ℕ
+  pub rest : List ℕ
+  pub more : List Fields
+
+-- this was heard: set-ups that are none, then this set-up, the line `open`, these lines, and this rest
+pub record IsHeard (text set_up : List ℕ) (lines : List (List ℕ)) (rest : List ℕ) : Type 0 where
+  pub before : List ℕ
+  pub told : List ℕ
+  pub refused : HasRefused before told
+  pub line : List ℕ
+  pub opening : is_opening line ≡ true
+  pub is : text ≡ before ++ (set_up ++ (ended line ++ (flat_map ended lines ++ rest)))
+
+-- the rows that a row asks for, of this number and clock: an instruction's, or those of both legs of a swap
+abbrev pub rows_asked : Result PlainAsked FaultKind → ℕ → ℤ → List PlainRow
+rows_asked (Ok (Instructs words)) number clock = instruction_row number clock words ∷ []
+rows_asked (Ok (Swaps words)) number clock =
+    instruction_row number clock (leg_words words.lane words.signer words.first)
+    ∷ instruction_row number clock (leg_words words.lane words.signer words.second) ∷ []
+rows_asked _ number clock = []
+
+-- these are the rows that some of the rows which were heard ask for, in their order
+abbrev pub AreAsked : List Fields → List PlainRow → Type 0
+AreAsked [] rows = rows ≡ []
+AreAsked (row ∷ others) rows =
+    AreAsked others rows
+    ⊎ ((number : ℕ) × (clock : ℤ) × (rest : List PlainRow) × (rows ≡ rows_asked (asked_of row) number clock ++ rest) × AreAsked others rest)
+
+-- ---- one replay
+
+-- the set-up that was heard is a script; the rows that were accepted of those heard behind it acted in parts, but for
+-- these, which are still to act; what the parts leave together is a replay of all their rows behind the script's, and
+-- has these accounts; and the answers of each part stand in what was said
+pub record IsOneReplay (heard : PlainHeard) (accounts : PlainAccounts) (waiting : List PlainRow) (said : List ℕ) : Type 0 where
+  pub set_up : List ℕ
+  pub lines : List (List ℕ)
+  pub is : IsHeard heard.text set_up lines heard.rest
   pub script : PlainScript
-  pub reads : Reads false text script
+  pub reads : Reads false set_up script
   pub begin : PlainOutcome
   pub first : IsReplayOf script begin
   pub parts : List PlainPart
+  pub asked : AreAsked (flat_map rows_of lines ++ heard.more) (rows_in parts ++ waiting)
   pub links : AreLinked script.program begin.accounts parts
   pub replay : IsReplayOf (with_rows script (rows_in parts)) (left_in begin parts)
   pub left : accounts ≡ (left_in begin parts).accounts
   pub told : AreAmong (map answers_in parts) said
+
+-- what turns heard
+abbrev pub heard_in : List Turn → List ℕ
+heard_in [] = []
+heard_in (Heard bytes ∷ turns) = bytes ++ heard_in turns
+heard_in (Said bytes ∷ turns) = heard_in turns
 
 -- what turns said
 abbrev pub said_in : List Turn → List ℕ
@@ -70,15 +146,25 @@ said_in [] = []
 said_in (Heard bytes ∷ turns) = said_in turns
 said_in (Said bytes ∷ turns) = bytes ++ said_in turns
 
--- the accounts were said, and then this line; or no desk was opened
-abbrev pub HasEnded : List ℕ → List ℕ → Type 0
-HasEnded line said =
-    Unit {0} ⊎ ((set_up before : List ℕ) × (accounts : PlainAccounts) × IsOneReplay set_up accounts before × (said ≡ (before ++ dump_text accounts) ++ line))
+-- the rows that are taken of the last line: where the input has ended all of them, and else none
+abbrev pub last_rows : Over → List ℕ → List Fields
+last_rows over.Input rest = rows_of rest
+last_rows _ rest = []
 
--- it is one replay, where a desk is open, and where its session is over; for lack of memory nothing is told
-abbrev pub IsWhole : Session → List ℕ → Type 0
-IsWhole (Sets kept text) said = Unit {0}
-IsWhole (Serves block text) said = (set_up : List ℕ) × IsOneReplay set_up block.draft.script.start said
-IsWhole (Closes block text) said = (set_up : List ℕ) × IsOneReplay set_up block.draft.script.start said
-IsWhole (Ended over.NoMemory) said = Unit {0}
-IsWhole (Ended why) said = HasEnded (last_line why) said
+-- no desk was opened; or the accounts were said behind the answers. The last line is the end's
+abbrev pub HasEnded : Over → List ℕ → List ℕ → Type 0
+HasEnded why heard said =
+    ((before rest old : List ℕ) × HasRefused before old × (heard ≡ before ++ rest) × (said ≡ old ++ last_line why))
+    ⊎ ((rest old : List ℕ) × (accounts : PlainAccounts) × IsOneReplay (record { text = heard; rest = rest; more = last_rows why rest }) accounts [] old
+    × (said ≡ (old ++ dump_text accounts) ++ last_line why))
+
+-- a session that heard this and said this is one replay, where a desk is open, and where its session is over; for want
+-- of memory nothing is told
+abbrev pub IsWhole : Session → List ℕ → List ℕ → Type 0
+IsWhole (Sets kept text) heard said = (before : List ℕ) × HasRefused before said × (heard ≡ before ++ (kept ++ text))
+IsWhole (Serves block text) heard said =
+    IsOneReplay (record { text = heard; rest = text; more = [] }) block.draft.script.start block.draft.script.rows said
+IsWhole (Closes block text) heard said =
+    IsOneReplay (record { text = heard; rest = text; more = [] }) block.draft.script.start block.draft.script.rows said
+IsWhole (Ended over.NoMemory) heard said = Unit {0}
+IsWhole (Ended why) heard said = HasEnded why heard said

@@ -4,7 +4,7 @@ ghost use Rattle.std.specs.Prelude.{◌≡◌, ◌∷◌, ◌++◌, [], Err, IfO
 ghost use Rattle.dex_dump.specs.DumpText.{dump_text};
 ghost use Rattle.dex_rows.specs.Records.{rows_of};
 ghost use Rattle.dex_statement.specs.Words.{Fields as FieldsOf};
-ghost use Rattle.dex_desk.specs.Asking.PlainAsked.{Instructs, Sets, Shows, Swaps};
+ghost use Rattle.dex_desk.specs.Asking.PlainAsked.{Instructs, Sets, Swaps};
 ghost use Rattle.dex_desk.specs.Asking.{asked_of};
 ghost use Rattle.dex_desk.specs.Replies.{ActedIn};
 ghost use Rattle.dex_desk.specs.Steps.{SaidIn, Went, clock_line, fault_line, shown};
@@ -85,7 +85,7 @@ pub fn answer_all(alloc: Global, block: Block, buffers: &mut Buffers) -> Result<
     act(alloc, block, &mut buffers.text, &mut buffers.line)
 }
 
-/// Takes a row: an instruction row without a fault is kept to act, and any other is answered after the rows before.
+/// Takes a row: an instruction row without a fault is kept to act, and any other is answered behind the rows before.
 fn take_row(
     alloc: Global,
     block: Block,

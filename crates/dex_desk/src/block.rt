@@ -5,7 +5,6 @@ ghost use Rattle.std.specs.List.{position};
 ghost use Rattle.dex_types.specs.declared.account_bytes.MarketAccounts.{MarketAccounts as AccountsOf};
 ghost use Rattle.dex_types.specs.Accounts.{accounts_of, market_accounts_of};
 ghost use Rattle.dex_types.specs.Addresses.{is_same};
-ghost use Rattle.dex_types.specs.Rows.{row_of};
 ghost use Rattle.dex_statement.specs.declared.statement.Statement.TheVariants as statement;
 ghost use Rattle.dex_statement.specs.Statements.{statement_of};
 ghost use Rattle.dex_statement.specs.Words.{Fields as FieldsOf};
@@ -13,7 +12,7 @@ ghost use Rattle.dex_script_facts.specs.Facts.{IsScript, IsStart};
 ghost use Rattle.dex_desk.specs.Blocks as spec;
 ghost use Rattle.dex_accounts.specs.Accepted.{IsAccepted};
 ghost use Rattle.dex_desk.specs.Books.{found_market};
-ghost use Rattle.dex_desk.specs.Blocks.{IsBlock, TellsRow};
+ghost use Rattle.dex_desk.specs.Blocks.{TellsRow};
 ghost use Rattle.dex_script.specs.Names.{AreNames};
 ghost use Rattle.dex_script.specs.Rows as rules;
 
@@ -114,7 +113,7 @@ impl Block {
         }
     }
 
-    /// After a `clock` row.
+    /// Behind a `clock` row.
     pub fn set_clock(&mut self, now: i64)
         requires { (row : FieldsOf) × (statement_of row ≡ Ok (statement.Clock now)) }
         ensures { self.new ≡ spec.with_time self.old now }
@@ -123,7 +122,7 @@ impl Block {
         self.number = self.number.saturating_add(1);
     }
 
-    /// Adds an instruction row, or says what is wrong with it after the rows before.
+    /// Adds an instruction row, or says what is wrong with it behind the rows before.
     pub fn add_instruction(&mut self, words: &mut InstructionWords) -> Result<(), RowError>
         requires { (row : FieldsOf) × (statement_of row ≡ Ok (statement.Instruction words.old)) }
         ensures { TellsRow result self.old self.new (spec.with_words self.old words.old) }
@@ -150,7 +149,7 @@ impl Block {
         Ok(())
     }
 
-    /// Adds the two legs of a swap row, or says what is wrong with it after the rows before.
+    /// Adds the two legs of a swap row, or says what is wrong with it behind the rows before.
     pub fn add_swap(&mut self, alloc: Global, words: SwapWords) -> Result<(), RowError>
         requires { (row : FieldsOf) × (statement_of row ≡ Ok (statement.Swap words)) }
         ensures { TellsRow result self.old self.new (spec.with_both self.old words) }
@@ -194,7 +193,7 @@ impl Block {
         Ok(())
     }
 
-    /// The rows, as a script; and what is needed to go on after it.
+    /// The rows, as a script; and what is needed to go on behind it.
     pub fn into_script(self, alloc: Global) -> Result<(Script, Behind), NoMemory>
         ensures script { IfOk result (λ made. made.0 ≡ self.draft.script) }
         ensures is { IsScript self.draft.script }
@@ -233,7 +232,7 @@ impl Block {
     }
 }
 
-/// What stands after the rows of a block.
+/// What stands behind the rows of a block.
 #[derive(Drop)]
 pub struct Behind {
     pub names: Names,
@@ -251,14 +250,14 @@ fn place_of_market(markets: &[MarketAccounts], address: Address) -> Option<usize
         .position(|accounts| is_same(address, accounts.address))
 }
 
-/// Whether no row of this number finds room after so many items.
+/// Whether no row of this number finds room behind so many items.
 fn is_full(items: u32, number: u32) -> bool
     ensures { result ≡ (nat_le 100000 items || (number == 2 ^ 32 - 1)) }
 {
     100_000 <= items || number == u32::MAX
 }
 
-/// Whether no swap of this number finds room after so many items, or one of its legs passes a limit.
+/// Whether no swap of this number finds room behind so many items, or one of its legs passes a limit.
 fn exceeds_swap(
     items: u32,
     number: u32,

@@ -1,6 +1,6 @@
 //! The prices of a market.
 
-ghost use Rattle.std.specs.Prelude.{◌≡◌, ◌++◌, IfOk, OnOk, Some, min, ◌-◌, ◌^◌};
+ghost use Rattle.std.specs.Prelude.{◌≡◌, ◌++◌, OnOk, Some, ◌-◌};
 ghost use Rattle.dex_types.specs.Accounts.{market_accounts_of};
 ghost use Rattle.dex_types.specs.Cancel.{order_with};
 ghost use Rattle.dex_types.specs.Side.{price_of as price_in};
@@ -102,7 +102,7 @@ fn write_level(alloc: Global, text: &mut Vec<u8>, level: Level) -> Result<(), No
     }
 }
 
-/// What rests at the price of an order that is the first there, and the first order after it.
+/// What rests at the price of an order that is the first there, and the first order behind it.
 fn level_at(side: &SlabRef<'_>, first: Order) -> (Level, Option<Order>)
     requires slab { IsSlab side.now.bytes.now }
     requires rests { order_with first.id (resting side.now.side side.now.bytes.now) ≡ Some first }

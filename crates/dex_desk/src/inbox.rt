@@ -49,7 +49,7 @@ impl Inbox {
         &self.bytes[self.at..]
     }
 
-    /// Puts bytes after the others. Where memory is wanting, all stays.
+    /// Puts bytes behind the others. Where memory is wanting, all stays.
     pub fn add(&mut self, more: &[u8]) -> Result<(), AllocError>
         ensures { OnOk result (self.new ≡ self.old ++ more.now) }
     {

@@ -3,9 +3,9 @@
 ghost use Rattle.std.specs.Prelude.{◌++◌, List};
 ghost use Rattle.dex_desk.specs.Talks.{Talk, Talks, first};
 ghost use Rattle.dex_desk.specs.Turns.{Turn};
-ghost use Rattle.dex_desk.specs.Whole.{IsWhole, said_in};
+ghost use Rattle.dex_desk.specs.Whole.{IsWhole, heard_in, said_in};
 
-/// A front of turns that talk talks. Each call of a desk puts a turn after those before, so at any moment, also where
+/// A front of turns that talk talks. Each call of a desk puts a turn behind those before, so at any moment, also where
 /// the process is killed, what was heard and said until then is a talk: what stands in the pipe is a front of true
 /// answers.
 pub fn a_front_of_turns_that_talk_talks()
@@ -13,10 +13,11 @@ pub fn a_front_of_turns_that_talk_talks()
         → (between : Talk) × Talks before turns between × Talks between more after }
 {}
 
-/// A session is one replay: of the script of its set-up, and after it of the rows that were accepted and have acted. So
-/// it makes no difference where rows are cut into blocks: the answers of each block, which stand in what was said one
-/// after the other, are of the entries that this one replay has; the desk's accounts are those that it leaves; and a
-/// session that ends well says these last.
+/// A session is one replay: of the script of the set-up that was heard before the line `open`, and behind it of the
+/// rows that were accepted, in their order, of those heard behind it. So it makes no difference where rows are cut into
+/// blocks: the answers of each block, which stand in what was said one behind the other, are of the entries that this
+/// one replay has; the desk's accounts are those that it leaves; and a session that ends well says these last.
 pub fn a_session_is_one_replay()
-    ensures { (turns : List Turn) (after : Talk) → Talks first turns after → IsWhole after.session (said_in turns ++ after.owed) }
+    ensures { (turns : List Turn) (after : Talk) → Talks first turns after → IsWhole after.session (heard_in turns)
+        (said_in turns ++ after.owed) }
 {}

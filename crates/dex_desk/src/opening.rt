@@ -20,7 +20,7 @@ use dex_report::write_head;
 use dex_types::NoMemory;
 use std::alloc::Global;
 
-/// The most bytes that a set-up may have, and a line after it.
+/// The most bytes that a set-up may have, and a line behind it.
 pub const MOST: usize = 67_108_864;
 
 /// What set-ups come to.
@@ -169,7 +169,7 @@ fn take_set_ups(
     Ok(None)
 }
 
-/// Takes the first line, of this many bytes.
+/// Takes the first line, of so many bytes.
 fn take_set_up_line(
     alloc: Global,
     size: usize,
@@ -218,7 +218,7 @@ fn is_opening(line: &[u8]) -> bool
     line == b"open".as_slice() || line == b"open\r".as_slice()
 }
 
-/// Puts bytes after a text.
+/// Puts bytes behind a text.
 pub fn append(text: &mut Vec<u8>, more: &[u8]) -> Result<(), NoMemory>
     ensures { OnOk result (text.new.items ≡ text.old.items ++ more.now) }
 {
@@ -231,7 +231,7 @@ pub fn append(text: &mut Vec<u8>, more: &[u8]) -> Result<(), NoMemory>
 /// The text of a piece of zeros. It stands in the program itself.
 const ZEROS: [u8; 65_536] = [b'A'; 65_536];
 
-/// Puts a text in pieces after another.
+/// Puts a text in pieces behind another.
 #[tactic(auto, unfolding(dex_dump::specs::Pieces::zeros_text))]
 fn append_pieces(text: &mut Vec<u8>, pieces: &[Piece]) -> Result<(), NoMemory>
     ensures { OnOk result (text.new.items ≡ text.old.items ++ flat_map piece_text pieces.now) }

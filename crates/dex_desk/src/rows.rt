@@ -1,6 +1,5 @@
 //! What a row asks of an open desk.
 
-ghost use Rattle.std.specs.Prelude.{◌≡◌};
 ghost use Rattle.dex_statement.specs.Stated.{PlainInstruction as WordsOf};
 ghost use Rattle.dex_desk.specs.Asking.{TellsAsked, asked_by, asked_of, book_of, dump_of};
 

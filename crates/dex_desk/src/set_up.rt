@@ -28,7 +28,7 @@ pub enum Opened {
     Refused(StatusText),
 }
 
-/// Opens a desk over the accounts that a script leaves. The next row's number and its clock are as they are after the
+/// Opens a desk over the accounts that a script leaves. The next row's number and its clock are as they are behind the
 /// script.
 pub fn open_desk(alloc: Global, text: &[u8]) -> Result<Opened, NoMemory>
     ensures { IfOk result (λ opened. TellsOpened opened text.now) }
@@ -55,7 +55,7 @@ fn names_of(alloc: Global, accounts: &Accounts) -> Result<Names, NoMemory>
     Names::of(alloc, &markets, &wallets)
 }
 
-/// The number of the row after a script, and the clock there.
+/// The number of the row behind a script, and the clock there.
 fn behind(alloc: Global, text: &[u8]) -> Result<(u32, i64), NoMemory>
     ensures number { IfOk result (λ found. found.0 ≡ number_after 1 (rows_of text.now)) }
     ensures clock { IfOk result (λ found. found.1 ≡ spec.clock_after (pos 0) (rows_of text.now)) }
@@ -71,7 +71,7 @@ fn behind(alloc: Global, text: &[u8]) -> Result<(u32, i64), NoMemory>
     Ok((number, clock))
 }
 
-/// The clock after a row.
+/// The clock behind a row.
 fn clock_behind(alloc: Global, row: &Fields<'_>, before: i64) -> Result<i64, NoMemory>
     ensures { IfOk result (λ clock. clock ≡ spec.clock_behind before row.now) }
 {

@@ -26,7 +26,7 @@ pub enum Ear {
     Failed,
 }
 
-/// Hears more, and puts it after what was heard.
+/// Hears more, and puts it behind what was heard.
 pub fn hear_more<D: Desk>(
     desk: &mut D,
     inbox: &mut Inbox,

@@ -4,7 +4,7 @@ use Rattle.dex_statement.specs.Words.{Fields}
 use Rattle.dex_desk.specs.Steps.{Went}
 use Rattle.dex_desk.proofs.answering.take_line.Given as goal
 
--- this many rows were taken, and the others are left
+-- so many rows were taken, and the others are left
 abbrev pub invariant-rows : goal.invariant-rows
 invariant-rows l =
     (done : List Fields) × (rows_of l.line ≡ done ++ l.rows) × Went done l.fn.block l.block l.fn.buffers.text.items l.buffers.text.items
