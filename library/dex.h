@@ -1,7 +1,7 @@
 /* The commands of Daisyhook on one thread, as functions of bytes. docs/LIBRARY.md tells how to build and link them.
  *
  * What a call promises. There are a status and a text that the command answers to these bytes, just as the program's (the table of
- * statuses is in docs/FORMATS.md). The call returns the status, sets *size to the length of the text in bytes, and, where the text
+ * statuses is in docs/FORMATS.md; dex_shards and dex_chained, which are no commands, say their texts below). The call returns the status, sets *size to the length of the text in bytes, and, where the text
  * fits into the room, writes it to the front of the room and leaves what stands behind it as it was. Where it does not fit, the
  * room is as it was: call again with a room of *size bytes. Two statuses come with no text, *size 0 and the room as it was:
  * DEX_NO_MEMORY, where memory was wanting, and DEX_USAGE, where a number is not within its limits. This is proved of the very

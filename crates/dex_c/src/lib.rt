@@ -1,7 +1,7 @@
 //! The commands on one thread for C, and for all that can call C. Each function calls that of `dex_call` and says its clause again.
 #![tactic(auto)]
 
-ghost use Rattle.std.specs.Prelude.{◌≡◌, ◌⊎◌, []};
+ghost use Rattle.std.specs.Prelude.{◌≡◌, ◌<◌, ◌⊎◌, []};
 ghost use Rattle.dex_words.specs.declared.command.PlainCommand.TheVariants.{Audit, Bulk, Dump, Make, Migrate, Replay, Worth};
 ghost use Rattle.dex_answers.specs.declared.status.Status.TheVariants as status;
 ghost use Rattle.dex_call.specs.Calls.{Ends, EndsWith, HasStopped, done};
@@ -101,7 +101,7 @@ pub extern "C" fn dex_chained(
     room: &mut [u8],
     size: &mut usize,
 ) -> u8
-    ensures { EndsWith (SaysParts rows script.now) (done room.old room.new result size.new)
+    ensures { ((0 < rows) × EndsWith (SaysParts rows script.now) (done room.old room.new result size.new))
         ⊎ ((rows ≡ 0) × HasStopped status.Usage (done room.old room.new result size.new)) }
 {
     dex_call::chained(alloc, rows, script, room, size)

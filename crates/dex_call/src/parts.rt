@@ -21,7 +21,7 @@ pub fn shards(alloc: Global, script: &[u8], room: &mut [u8], size: &mut usize) -
 /// How many rows each part of a chain has, for parts of at most `rows` rows (two where that is one): lines `part COUNT`, and `end`. A swap is
 /// two rows and never parted. 1 where `rows` is 0.
 pub fn chained(alloc: Global, rows: u32, script: &[u8], room: &mut [u8], size: &mut usize) -> u8
-    ensures { EndsWith (SaysParts rows script.now) (done room.old room.new result size.new)
+    ensures { ((0 < rows) × EndsWith (SaysParts rows script.now) (done room.old room.new result size.new))
         ⊎ ((rows ≡ 0) × HasStopped status.Usage (done room.old room.new result size.new)) }
 {
     if rows == 0 {

@@ -1,5 +1,5 @@
 -- Rows that are cut where no number is parted are a chain.
-use Rattle.std.proofs.Common.{◌≡◌, ◌<◌, ◌≤◌, ◌+◌, ◌-◌, ◌==◌, ℕ, zero, suc, false, List, [], ◌∷◌, ◌++◌, append_assoc, drop, get_or, length, map, max, take, refl, sym, ap, ◌∙◌, subst, arith, ⊎_elim}
+use Rattle.std.proofs.Common.{◌≡◌, ◌<◌, ◌≤◌, ◌+◌, ◌-◌, ◌==◌, ◌⊎◌, inl, inr, ℕ, zero, suc, false, List, [], ◌∷◌, ◌++◌, append_assoc, drop, get_or, length, map, max, take, refl, sym, ap, ◌∙◌, subst, arith, ⊎_elim}
 use Rattle.std.specs.List.{All, AllPairs}
 use Rattle.std.proofs.lemmas.Bool.{cases_eq, ne_eqb}
 use Rattle.std.proofs.lemmas.List.{append-nil, get_or-drop, get_or-map, get_or-take, get_or_default, length-drop, length-map, length-take-le}
@@ -12,7 +12,7 @@ use Rattle.dex_script_facts.specs.Places.{AreBeside, IsBeside}
 use Rattle.dex_script_facts.specs.PlainScript.{PlainScript}
 use Rattle.dex_state.specs.Outcomes.{PlainOutcome}
 use Rattle.dex_parts.specs.Chains.{AreCut, AreLinked, IsChainOf, IsCut, rows_of_parts}
-use Rattle.dex_parts.specs.Cuts.{AreCutBy, AreInOrder, ArePartedAt, numbers_of, parts_by}
+use Rattle.dex_parts.specs.Cuts.{AreCutBy, AreInOrder, ArePartedAt, IsPart, numbers_of, parts_by}
 
 -- ---- lists in two
 
@@ -131,16 +131,28 @@ pub record AreCutUpTo (most : ℕ) (counts : List ℕ) (left places : List RowPl
   pub order : AreInOrder (map (λ (at : RowPlaces). at.number) left)
   pub cut : (more : List ℕ) → AreCutBy most more (map (λ (at : RowPlaces). at.number) left) → AreCutBy most (counts ++ more) (map (λ (at : RowPlaces). at.number) places)
 
-pub one-part-more : (most count : ℕ) (counts new : List ℕ) (left rest places : List RowPlaces) → AreCutUpTo most counts left places → 0 < count → count ≤ max most 2
-    → ArePartedAt count (map (λ (at : RowPlaces). at.number) left) → new ≡ counts ++ count ∷ [] → rest ≡ drop count left → AreCutUpTo most new rest places
-one-part-more most count counts new left rest places upto some few parted is behind =
+pub is-part : (most count : ℕ) (left : List RowPlaces) → 0 < count → count ≤ length left → count ≤ max most 2 → (length left ≤ count) ⊎ (most ≤ count + 1)
+    → ArePartedAt count (map (λ (at : RowPlaces). at.number) left) → IsPart most count (map (λ (at : RowPlaces). at.number) left)
+is-part most count left some within few full parted =
+    let long = length-map left (λ (at : RowPlaces). at.number) in
+    record {
+      some = some;
+      within = omega (arith, within, long);
+      few = few;
+      full = ⊎_elim (λ (last : length left ≤ count). inl (omega (arith, last, long))) (λ (most_of : most ≤ count + 1). inr most_of) full;
+      parted = parted;
+    }
+
+pub one-part-more : (most count : ℕ) (counts new : List ℕ) (left rest places : List RowPlaces) → AreCutUpTo most counts left places
+    → IsPart most count (map (λ (at : RowPlaces). at.number) left) → new ≡ counts ++ count ∷ [] → rest ≡ drop count left → AreCutUpTo most new rest places
+one-part-more most count counts new left rest places upto part is behind =
     let number : RowPlaces → ℕ = λ (at : RowPlaces). at.number in
     let numbers : map number rest ≡ drop count (map number left) = ap (map number) behind ∙ map-drop number count left in
     record {
       order = subst AreInOrder (sym numbers) (order-behind count (map number left) upto.order);
       cut = λ more cut.
           subst (λ (all : List ℕ). AreCutBy most all (map number places)) (sym (append_assoc counts (count ∷ []) more) ∙ ap (λ (all : List ℕ). all ++ more) (sym is))
-          (upto.cut (count ∷ more) (some, few, parted, subst (AreCutBy most more) numbers cut));
+          (upto.cut (count ∷ more) (part, subst (AreCutBy most more) numbers cut));
     }
 
 -- none is left
@@ -191,11 +203,11 @@ parts-cut most (count ∷ counts) rows [] cut same = absurd (cc)
 parts-cut most (count ∷ counts) rows (part ∷ parts) cut same =
     let number : PlainRow → ℕ = λ (row : PlainRow). row.number in
     let front : part.rows ≡ take count rows = head-same same in
-    let rest = parts-cut most counts (drop count rows) parts (subst (AreCutBy most counts) (sym (map-drop number count rows)) cut.3) (tail-same same) in (
+    let rest = parts-cut most counts (drop count rows) parts (subst (AreCutBy most counts) (sym (map-drop number count rows)) cut.1) (tail-same same) in (
       sym (take-and-drop count rows) ∙ ap (λ (some : List PlainRow). some ++ drop count rows) (sym front) ∙ ap (λ (some : List PlainRow). part.rows ++ some) rest.0,
       (
         subst (λ (some : List PlainRow). IsCut some (rows_of_parts parts)) (sym front)
-            (subst (IsCut (take count rows)) rest.0 (cut-of count rows cut.2)),
+            (subst (IsCut (take count rows)) rest.0 (cut-of count rows cut.0.parted)),
         rest.1,
       ),
     )

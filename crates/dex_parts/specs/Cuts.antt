@@ -1,5 +1,5 @@
 -- Rows cut into parts that follow each other.
-use Rattle.std.specs.Prelude.{◌≡◌, ◌==◌, ◌<◌, ◌≤◌, ◌+◌, ℕ, false, List, [], ◌∷◌, All, drop, length, map, max, slice_index, take}
+use Rattle.std.specs.Prelude.{◌≡◌, ◌==◌, ◌<◌, ◌≤◌, ◌+◌, ◌⊎◌, ℕ, false, List, [], ◌∷◌, All, drop, length, map, max, slice_index, take}
 use Rattle.dex_types.specs.Rows.{PlainRow}
 
 -- numbers never fall, and no three are one
@@ -11,12 +11,19 @@ pub record AreInOrder (numbers : List ℕ) : Type 0 where
 abbrev pub ArePartedAt : ℕ → List ℕ → Type 0
 ArePartedAt count numbers = All (λ (one : ℕ). All (λ (other : ℕ). (one == other) ≡ false) (drop count numbers)) (take count numbers)
 
--- so many numbers, and so many behind them, and so on, are all of these numbers: at least one each time and at most `most`, or two where
--- that is one; and no number stands on both sides of a cut
+-- the first part of these numbers: it has one at least and `most` at most, or two where that is one; it has them all, or one more would be
+-- too many, or would part a swap; and no number stands on both sides
+pub record IsPart (most count : ℕ) (numbers : List ℕ) : Type 0 where
+  pub some : 0 < count
+  pub within : count ≤ length numbers
+  pub few : count ≤ max most 2
+  pub full : (length numbers ≤ count) ⊎ (most ≤ count + 1)
+  pub parted : ArePartedAt count numbers
+
+-- these counts are those of the parts, one after the other, of all of these numbers
 abbrev pub AreCutBy : ℕ → List ℕ → List ℕ → Type 0
 AreCutBy most [] numbers = numbers ≡ []
-AreCutBy most (count ∷ counts) numbers =
-    (0 < count) × (count ≤ max most 2) × ArePartedAt count numbers × AreCutBy most counts (drop count numbers)
+AreCutBy most (count ∷ counts) numbers = IsPart most count numbers × AreCutBy most counts (drop count numbers)
 
 -- the numbers of rows
 abbrev pub numbers_of : List PlainRow → List ℕ

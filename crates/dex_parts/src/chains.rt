@@ -1,6 +1,6 @@
 //! Where a script may be cut into parts that follow each other.
 
-ghost use Rattle.std.specs.Prelude.{◌≡◌, ◌<◌, ◌≤◌, ◌++◌, ◌∷◌, [], ℕ, IfOk, OnOk, length, map, max};
+ghost use Rattle.std.specs.Prelude.{◌≡◌, ◌<◌, ◌≤◌, ◌+◌, ◌++◌, ◌⊎◌, ◌∷◌, [], ℕ, IfOk, OnOk, length, map, max};
 ghost use Rattle.dex_types.specs.declared.rows.RowPlaces.{RowPlaces as RowPlacesOf};
 ghost use Rattle.dex_parts.specs.Cuts.{AreCutBy, AreInOrder, ArePartedAt, numbers_of};
 
@@ -26,6 +26,7 @@ fn front_of(places: &[RowPlaces], most: usize) -> usize
     ensures some { 0 < result }
     ensures within { result ≤ length places.now }
     ensures few { result ≤ max most 2 }
+    ensures full { (length places.now ≤ result) ⊎ (most ≤ result + 1) }
     ensures parted { ArePartedAt result (map (λ (at : RowPlacesOf). at.number) places.now) }
 {
     if places.len() <= most {
