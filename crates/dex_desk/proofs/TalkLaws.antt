@@ -102,6 +102,3 @@ clean-stop at clean =
 
 pub later-on : (a b c d e f : ℕ) → AreLater a b c d → AreLater c d e f → AreLater a b e f
 later-on a b c d e f one two = record { hearing = omega (arith, one.hearing, two.hearing); saying = omega (arith, one.saying, two.saying) }
-
-pub later-same : (a b : ℕ) → AreLater a b a b
-later-same a b = record { hearing = omega arith; saying = omega arith }
