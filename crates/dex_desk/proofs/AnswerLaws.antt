@@ -1,16 +1,14 @@
 -- Entries found for rows.
-use Rattle.std.proofs.Common.{◌≡◌, ◌∙◌, ◌<◌, ◌==◌, ℕ, zero, suc, Bool, List, [], ◌∷◌, ◌++◌, Option, None, Some, ap, append_assoc, arith, get_or, length, map, map-id, sym, take}
-use Rattle.std.proofs.lemmas.List.{append-nil}
+use Rattle.std.proofs.Common.{◌≡◌, ◌∙◌, ◌==◌, ℕ, Bool, List, [], Option, None, Some, ap, get_or, map, map-id, sym}
 use Rattle.std.specs.List.{position}
 use Rattle.dex_types.specs.declared.movements.Entry.{Entry}
-use Rattle.dex_types.specs.declared.rows.Row.{Row}
 use Rattle.dex_types.specs.Addresses.{is_same}
-use Rattle.dex_types.specs.Rows.{PlainRow, row_of}
+use Rattle.dex_types.specs.Rows.{PlainRow}
 use Rattle.dex_state.specs.declared.outcome.MarketJournal.{MarketJournal}
 use Rattle.dex_state.specs.Outcomes.{PlainMarketJournal, market_journal_of}
 use Rattle.dex_script_facts.specs.Firsts.{first_of}
 use Rattle.dex_script.proofs.FirstLaws.{first-at, first-none, is-first, none-passes}
-use Rattle.dex_desk.specs.Replies.{answer_to, answers_to, entry_of, line_told}
+use Rattle.dex_desk.specs.Replies.{answer_to, entry_of, line_told}
 
 -- ---- the entry of a number
 
@@ -50,14 +48,3 @@ pub journal-found : (journals : List MarketJournal) (row : PlainRow) (place : �
 journal-found journals row place d found =
     let first = is-first (λ (journal : MarketJournal). is_same row.market journal.address) journals place d found in
     ap line_told (first-at (is_of row) (tells row) market_journal_of journals place d first.within first.passes first.others)
-
--- ---- one row more
-
-pub answers-more : (journals : List PlainMarketJournal) (rows : List Row) (i : ℕ) (row : Row) → i < length rows → row ≡ get_or rows i row
-    → answers_to journals (map row_of (take (suc i) rows)) ≡ answers_to journals (map row_of (take i rows)) ++ answer_to journals (row_of row)
-answers-more journals [] i row within is = absurd (omega (arith, within))
-answers-more journals (first ∷ rows) zero row within is =
-    append-nil (answer_to journals (row_of first)) ∙ ap (λ (r : Row). answer_to journals (row_of r)) (sym is)
-answers-more journals (first ∷ rows) (suc i) row within is =
-    ap (λ (l : List ℕ). answer_to journals (row_of first) ++ l) (answers-more journals rows i row (omega (arith, within)) is)
-    ∙ sym (append_assoc (answer_to journals (row_of first)) _ _)

@@ -1,5 +1,5 @@
 -- The prices of a side, counted along a walk.
-use Rattle.std.proofs.Common.{◌≡◌, ◌∙◌, ◌+◌, ◌-◌, ◌^◌, ◌≤◌, ℕ, zero, suc, List, [], ◌∷◌, ◌++◌, Option, Some, ap, arith, refl, subst, sym}
+use Rattle.std.proofs.Common.{◌≡◌, ◌∙◌, ◌+◌, ◌-◌, ◌^◌, ◌≤◌, ℕ, zero, suc, List, [], ◌∷◌, ◌++◌, Option, Some, ap, arith, subst, sym}
 use Rattle.std.proofs.lemmas.Bool.{cond-true, cond-false, eq-eqb, ne_eqb}
 use Rattle.dex_types.specs.declared.orders.Order.{Order}
 use Rattle.dex_types.specs.declared.terms.Side.{Side}
@@ -79,10 +79,6 @@ pub counted-end : (price lots : ℕ) (whole : List Order) → HasCounted price l
 counted-end price lots whole held = (omega (arith, held.lots, held.small), held.behind)
 
 -- ---- the lines of a side
-
-pub side-lines-none : (side : Side) (left : ℕ) → side_lines side left [] ≡ []
-side-lines-none side zero = refl
-side-lines-none side (suc left) = refl
 
 -- the line of the first price, and those behind it
 pub side-lines-more : (side : Side) (left less : ℕ) (first : Order) (orders rest : List Order) → orders ≡ first ∷ rest → left ≡ less + 1

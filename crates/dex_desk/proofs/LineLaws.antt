@@ -34,10 +34,6 @@ line-found text (Some n) found =
     let next : suc n ≡ n + 1 = omega arith in
     subst (λ (m : ℕ). IsCut text (take n text) (drop m text)) next (cut-at text n found.0.high found.0.before found.1)
 
-pub within-found : (text : List ℕ) (found : Option ℕ) → IsFirstByte (is_byte 10) text found → MatchOption found (Unit {0}) (λ n. n < length text)
-within-found text None none = tt
-within-found text (Some n) found = found.0.high
-
 -- the line with its end
 pub line-with-end : (text : List ℕ) (n : ℕ) → n < length text → IsCut text (take n text) (drop (n + 1) text)
     → take (n + 1) text ≡ take n text ++ 10 ∷ []

@@ -1,5 +1,5 @@
 -- What the calls of a session tell, as talk.
-use Rattle.std.proofs.Common.{◌≡◌, ◌∙◌, ◌+◌, ◌-◌, ◌^◌, ◌<◌, ◌≤◌, ⊎_elim, arith, ℕ, true, false, List, [], ◌∷◌, ◌++◌, IfErr, IfOk, Option, Some, None, Result, Ok, Err, ap, append_assoc, drop, is_some, length, inl, inr, refl, subst, sym, take}
+use Rattle.std.proofs.Common.{◌≡◌, ◌∙◌, ◌+◌, ◌<◌, ◌≤◌, ℕ, true, false, List, [], ◌∷◌, ◌++◌, IfErr, IfOk, Option, Some, None, Result, Ok, Err, ap, append_assoc, drop, is_some, length, inl, inr, refl, subst, sym, take}
 use Rattle.dex_desk.specs.declared.ends.Over.{Over}
 use Rattle.dex_desk.specs.declared.ends.Over.TheVariants as over
 use Rattle.dex_desk.specs.declared.ends.Stop.{Stop}
@@ -11,11 +11,9 @@ use Rattle.dex_desk.specs.declared.serving.Goes.TheVariants as goes
 use Rattle.dex_desk.specs.declared.speaking.Ear.TheVariants as ear
 use Rattle.dex_desk.specs.Blocks.{PlainBlock}
 use Rattle.std.proofs.lemmas.Bool.{false≢true}
-use Rattle.dex_io.specs.Faults.{Rose}
-use Rattle.dex_desk.specs.Serving.{EndedFor, GoesFor, StoppedFor, WaitingFor, session_of, IsWaiting, HasDone, HeardInVain, IsClean, OpensOrRefuses, Stopped, TellsClosed, TellsCutOff, TellsEar, TellsGoes, TellsOver, TellsSetUp, TellsWaiting}
-use Rattle.dex_answers.specs.declared.status.Status.{Status}
+use Rattle.dex_desk.specs.Serving.{EndedFor, session_of, IsWaiting, HasDone, HeardInVain, IsClean, OpensOrRefuses, Stopped, TellsClosed, TellsCutOff, TellsEar, TellsGoes, TellsOver, TellsSetUp, TellsWaiting}
 use Rattle.dex_answers.specs.declared.status.Status.TheVariants as status
-use Rattle.dex_desk.specs.Talks.{EndsAs, IsServed, first, status_of, HasNoEnd, IsCut, IsGoingOn, IsListening, Leaves, Session, StopsBy, Talk, Talked, WentOn, is_opening, last_line, talk}
+use Rattle.dex_desk.specs.Talks.{IsServed, first, HasNoEnd, IsCut, IsGoingOn, IsListening, Leaves, Session, StopsBy, Talk, Talked, WentOn, is_opening, last_line, talk}
 use Rattle.dex_desk.specs.Talks.Session.{Closes, Ended, Serves, Sets}
 use Rattle.dex_desk.specs.Turns.{Turn}
 use Rattle.dex_desk.proofs.LineLaws.{line-with-end}
@@ -34,41 +32,42 @@ IsCleanFrom a b before = (at : Talk) × Talked a b before at × IsClean at
 -- ---- what was heard
 
 pub more-of-set-up : (a b : Told) (kept before inbox after : List ℕ) → TellsEar ear.More a b before after → before ≡ inbox → HasNoEnd inbox
-    → Talked a b (talk (Sets kept inbox) []) (talk (Sets kept after) [])
-more-of-set-up a b kept before inbox after told same whole =
+    → length (kept ++ inbox) ≤ 67108864 → Talked a b (talk (Sets kept inbox) []) (talk (Sets kept after) [])
+more-of-set-up a b kept before inbox after told same whole few =
     let is : inbox ++ told.0 ∷ told.1 ≡ after = ap (λ (l : List ℕ). l ++ told.0 ∷ told.1) (sym same) ∙ sym told.3 in
     subst (λ (l : List ℕ). Talked a b (talk (Sets kept inbox) []) (talk (Sets kept l) [])) is
-    (talked-heard a b (told.0 ∷ told.1) (Sets kept inbox) told.2 whole)
+    (talked-heard a b (told.0 ∷ told.1) (Sets kept inbox) told.2 whole few)
 
 pub more-of-rows : (a b : Told) (block : PlainBlock) (before inbox after : List ℕ) → TellsEar ear.More a b before after → before ≡ inbox
-    → IsListening (Serves block inbox) → Talked a b (talk (Serves block inbox) []) (talk (Serves block after) [])
-more-of-rows a b block before inbox after told same listens =
+    → IsListening (Serves block inbox) → length inbox ≤ 67108864 → Talked a b (talk (Serves block inbox) []) (talk (Serves block after) [])
+more-of-rows a b block before inbox after told same listens few =
     let is : inbox ++ told.0 ∷ told.1 ≡ after = ap (λ (l : List ℕ). l ++ told.0 ∷ told.1) (sym same) ∙ sym told.3 in
     subst (λ (l : List ℕ). Talked a b (talk (Serves block inbox) []) (talk (Serves block l) [])) is
-    (talked-heard a b (told.0 ∷ told.1) (Serves block inbox) told.2 listens)
+    (talked-heard a b (told.0 ∷ told.1) (Serves block inbox) told.2 listens few)
 
-pub vain-set-up : (a b : Told) (kept inbox : List ℕ) → HeardInVain a b → HasNoEnd inbox → IsCleanFrom a b (talk (Sets kept inbox) [])
-vain-set-up a b kept inbox vain whole = (
+pub vain-set-up : (a b : Told) (kept inbox : List ℕ) → HeardInVain a b → HasNoEnd inbox → length (kept ++ inbox) ≤ 67108864
+    → IsCleanFrom a b (talk (Sets kept inbox) [])
+vain-set-up a b kept inbox vain whole few = (
   talk (Sets kept (inbox ++ vain.0 ∷ vain.1)) [],
-  talked-heard a b (vain.0 ∷ vain.1) (Sets kept inbox) vain.2 whole,
+  talked-heard a b (vain.0 ∷ vain.1) (Sets kept inbox) vain.2 whole few,
   record { quiet = refl; going = tt },
 )
 
 pub vain-rows : (a b : Told) (block : PlainBlock) (inbox : List ℕ) → HeardInVain a b → IsListening (Serves block inbox)
-    → IsCleanFrom a b (talk (Serves block inbox) [])
-vain-rows a b block inbox vain listens = (
+    → length inbox ≤ 67108864 → IsCleanFrom a b (talk (Serves block inbox) [])
+vain-rows a b block inbox vain listens few = (
   talk (Serves block (inbox ++ vain.0 ∷ vain.1)) [],
-  talked-heard a b (vain.0 ∷ vain.1) (Serves block inbox) vain.2 listens,
+  talked-heard a b (vain.0 ∷ vain.1) (Serves block inbox) vain.2 listens few,
   record { quiet = refl; going = tt },
 )
 
 pub set-up-ended : (a b : Told) (kept before inbox after : List ℕ) → TellsEar ear.Ended a b before after → HasNoEnd inbox
-    → Talked a b (talk (Sets kept inbox) []) (talk (Ended over.Input) [])
-set-up-ended a b kept before inbox after told whole = talked-heard a b [] (Sets kept inbox) told.0 whole
+    → length (kept ++ inbox) ≤ 67108864 → Talked a b (talk (Sets kept inbox) []) (talk (Ended over.Input) [])
+set-up-ended a b kept before inbox after told whole few = talked-heard a b [] (Sets kept inbox) told.0 whole few
 
 pub rows-ended : (a b : Told) (block : PlainBlock) (before inbox after : List ℕ) → TellsEar ear.Ended a b before after
-    → IsListening (Serves block inbox) → Talked a b (talk (Serves block inbox) []) (talk (Closes block inbox) [])
-rows-ended a b block before inbox after told listens = talked-heard a b [] (Serves block inbox) told.0 listens
+    → IsListening (Serves block inbox) → length inbox ≤ 67108864 → Talked a b (talk (Serves block inbox) []) (talk (Closes block inbox) [])
+rows-ended a b block before inbox after told listens few = talked-heard a b [] (Serves block inbox) told.0 listens few
 
 -- ---- a session that is over while it is set up
 
@@ -106,9 +105,6 @@ clean-here turns session going = (
 pub clean-same : (a b : Told) (session : Session) → b ≡ a → IsGoingOn session → IsCleanFrom a b (talk session [])
 clean-same a b session same going =
     subst (λ (t : Told). IsCleanFrom a t (talk session [])) (sym same) (clean-here a session going)
-
-pub clean-on : (a b c : Told) (before mid : Talk) → Talked a b before mid → IsCleanFrom b c mid → IsCleanFrom a c before
-clean-on a b c before mid talked clean = (clean.0, talked-on a b c before mid clean.0 talked clean.1, clean.2)
 
 -- ---- a line of a set-up
 
@@ -216,31 +212,6 @@ pub goes-on : (goes : Goes) (a b c : Told) (x y : Talk) (inbox text : List ℕ) 
 goes-on (goes.On block) a b c x y inbox text talked told = (talked-on a b c x y (talk (Serves block inbox) []) talked told.0, told.1)
 goes-on (goes.Over why) a b c x y inbox text talked told = talked-on a b c x y (talk (Ended why) text) talked told
 
--- ---- faults
-
-pub rose-later : (a b c : ℕ) → a ≤ b → Rose b c → Rose a c
-rose-later a b c le rose =
-    ⊎_elim (λ (less : b < c). inl (omega (arith, le, less))) (λ (top : c ≡ 2 ^ 64 - 1). inr top) rose
-
-pub ended-for : (why : Over) (a b c : ℕ) → a ≤ b → EndedFor why b c → EndedFor why a c
-ended-for over.Input a b c le for = tt
-ended-for over.ReadFault a b c le for = rose-later a b c le for
-ended-for over.TooLong a b c le for = tt
-ended-for over.NoMemory a b c le for = tt
-
-pub waiting-for : (found : Option SetUp) (a b c : ℕ) → a ≤ b → WaitingFor found b c → WaitingFor found a c
-waiting-for None a b c le for = tt
-waiting-for (Some (set_up.Open block)) a b c le for = tt
-waiting-for (Some (set_up.Over why)) a b c le for = ended-for why a b c le for
-
-pub goes-for : (goes : Goes) (a b c : ℕ) → a ≤ b → GoesFor goes b c → GoesFor goes a c
-goes-for (goes.On block) a b c le for = tt
-goes-for (goes.Over why) a b c le for = ended-for why a b c le for
-
-pub stopped-for : (why : Stop) (a b c : ℕ) → a ≤ b → StoppedFor why b c → StoppedFor why a c
-stopped-for stop.NoMemory a b c le for = tt
-stopped-for stop.WriteFault a b c le for = rose-later a b c le for
-
 -- ---- lines of rows
 
 pub line-on : (begin : Talk) (block after : PlainBlock) (text owed said : List ℕ) (n : ℕ) (rest : List ℕ) → WentOn begin (talk (Serves block text) owed)
@@ -300,28 +271,10 @@ pub stops-then : {A : Type 0} (result : Result A Stop) (a b c : Told) (x y : Tal
 stops-then (Ok value) a b c x y talked stopped = tt
 stops-then (Err why) a b c x y talked stopped = stops-on why a b c x y talked stopped
 
-pub waiting-for-then : (result : Result (Option SetUp) Stop) (a b c : ℕ) → a ≤ b → IfOk result (λ found. WaitingFor found b c)
-    → IfOk result (λ found. WaitingFor found a c)
-waiting-for-then (Ok found) a b c le for = waiting-for found a b c le for
-waiting-for-then (Err e) a b c le for = tt
-
-pub goes-for-then : (result : Result Goes Stop) (a b c : ℕ) → a ≤ b → IfOk result (λ goes. GoesFor goes b c) → IfOk result (λ goes. GoesFor goes a c)
-goes-for-then (Ok goes) a b c le for = goes-for goes a b c le for
-goes-for-then (Err e) a b c le for = tt
-
-pub stopped-for-then : {A : Type 0} (result : Result A Stop) (a b c : ℕ) → a ≤ b → IfErr result (λ why. StoppedFor why b c)
-    → IfErr result (λ why. StoppedFor why a c)
-stopped-for-then (Ok value) a b c le for = tt
-stopped-for-then (Err why) a b c le for = stopped-for why a b c le for
-
 pub talks-then : (result : Result Over Stop) (a b c : Told) (x y : Talk) → Talked a b x y → IfOk result (λ why. Talked b c y (talk (Ended why) []))
     → IfOk result (λ why. Talked a c x (talk (Ended why) []))
 talks-then (Ok why) a b c x y talked told = talked-on a b c x y (talk (Ended why) []) talked told
 talks-then (Err e) a b c x y talked told = tt
-
-pub ended-for-then : (result : Result Over Stop) (a b c : ℕ) → a ≤ b → IfOk result (λ why. EndedFor why b c) → IfOk result (λ why. EndedFor why a c)
-ended-for-then (Ok why) a b c le for = ended-for why a b c le for
-ended-for-then (Err e) a b c le for = tt
 
 -- the rest is said
 abbrev pub SaysRest : Over → Told → Told → List ℕ → Over → Type 0
@@ -350,19 +303,6 @@ found-on (set_up.Open block) a b c x y inbox text talked told = (talked-on a b c
 found-on (set_up.Over why) a b c x y inbox text talked told = talked-on a b c x y (talk (Ended why) text) talked told
 
 -- ---- the end
-
-pub ends-as : (why : Over) (after : Talk) → after ≡ talk (Ended why) [] → EndsAs (status_of why) after
-ends-as over.Input after is = (over.Input, refl, is)
-ends-as over.ReadFault after is = (over.ReadFault, refl, is)
-ends-as over.TooLong after is = (over.TooLong, refl, is)
-ends-as over.NoMemory after is = (over.NoMemory, refl, is)
-
-pub served-well : (status : Status) (why : Over) (a b : Told) → status ≡ status_of why → Talked a b first (talk (Ended why) []) → IsServed status a b
-served-well status why a b is talked =
-    (talk (Ended why) [], talked, subst (λ (s : Status). EndsAs s (talk (Ended why) [])) (sym is) (ends-as why (talk (Ended why) []) refl))
-
-pub served-in-part : (a b : Told) → Stopped stop.WriteFault a b first → IsServed status.WriteFault a b
-served-in-part a b stopped = (stopped.0, stopped.1, tt)
 
 -- for want of memory
 pub served-without : (a b c : Told) → Stopped stop.NoMemory a b first → Talked b c (talk (Ended over.NoMemory) (last_line over.NoMemory)) (talk (Ended over.NoMemory) [])

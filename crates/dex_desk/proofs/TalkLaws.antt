@@ -1,9 +1,9 @@
 -- Talks, put together.
-use Rattle.std.proofs.Common.{◌≡◌, ◌∙◌, ◌+◌, ℕ, List, [], ◌∷◌, ◌++◌, Option, Some, None, ap, append_assoc, drop, drop-drop, inr, refl, subst, sym, take, arith}
+use Rattle.std.proofs.Common.{◌≡◌, ◌∙◌, ◌+◌, ◌≤◌, ℕ, List, [], ◌∷◌, ◌++◌, Option, Some, None, ap, append_assoc, drop, drop-drop, inr, length, refl, subst, sym, take, arith}
 use Rattle.std.proofs.lemmas.List.{append-nil, take-append-drop}
 use Rattle.dex_desk.specs.declared.ends.Over.TheVariants as over
 use Rattle.dex_desk.specs.Serving.{AreLater, IsClean}
-use Rattle.dex_desk.specs.Talks.{Does, DoesAll, IsListening, IsTurn, Session, Talk, Talked, Talks, WentOn, heard, last_line, talk}
+use Rattle.dex_desk.specs.Talks.{Does, DoesAll, IsListening, IsTurn, Session, Talk, Talked, Talks, WentOn, heard, heard_so_far, last_line, talk}
 use Rattle.dex_desk.specs.Talks.Session.{Ended}
 use Rattle.dex_desk.specs.Turns.{Turn, and_then}
 use Rattle.dex_desk.specs.Turns.Turn.{Heard, Said}
@@ -69,9 +69,9 @@ talked-turn (Some old) new turn x y is told = (turn ∷ [], is, (x, y, went-stil
 
 -- what was heard
 pub talked-heard : (old new : Option (List Turn)) (bytes : List ℕ) (session : Session) → new ≡ and_then old (Heard bytes) → IsListening session
-    → Talked old new (talk session []) (talk (heard bytes session) [])
-talked-heard old new bytes session is listens =
-    talked-turn old new (Heard bytes) (talk session []) (talk (heard bytes session) []) is (refl, listens, refl)
+    → length (heard_so_far session) ≤ 67108864 → Talked old new (talk session []) (talk (heard bytes session) [])
+talked-heard old new bytes session is listens few =
+    talked-turn old new (Heard bytes) (talk session []) (talk (heard bytes session) []) is (refl, listens, refl, few)
 
 -- what was said
 pub talked-said : (old new : Option (List Turn)) (bytes rest : List ℕ) (session : Session) → new ≡ and_then old (Said bytes)
@@ -102,6 +102,3 @@ clean-stop at clean =
 
 pub later-on : (a b c d e f : ℕ) → AreLater a b c d → AreLater c d e f → AreLater a b e f
 later-on a b c d e f one two = record { hearing = omega (arith, one.hearing, two.hearing); saying = omega (arith, one.saying, two.saying) }
-
-pub later-same : (a b : ℕ) → AreLater a b a b
-later-same a b = record { hearing = omega arith; saying = omega arith }

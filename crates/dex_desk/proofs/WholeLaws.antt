@@ -37,7 +37,7 @@ use Rattle.dex_desk.specs.Blocks.{PlainBlock, behind_row, with_both, with_time, 
 use Rattle.dex_desk.specs.Replies.{Acted, ActedIn, HadNone, HaveActed}
 use Rattle.dex_desk.specs.SetUps.{IsOpened}
 use Rattle.dex_desk.specs.Steps.{Added, AreSteps, IsStepBy, PlainStep, SaidBehind, SaidIn, TookBy, Went, row_taken, rows_taken, text_said, told_row}
-use Rattle.dex_desk.specs.Talks.{Does, DoesAll, DoesBy, EndsWell, IsListening, Session, Stops, StopsBy, Talk, Talks, first, heard, last_line, is_opening, open_line}
+use Rattle.dex_desk.specs.Talks.{Does, DoesAll, DoesBy, EndsWell, HasNoEnd, IsListening, Session, Stops, StopsBy, Talk, Talks, first, heard, last_line, is_opening, open_line}
 use Rattle.dex_desk.specs.Talks.Session.{Closes, Ended, Serves, Sets}
 use Rattle.dex_desk.specs.Turns.{Turn}
 use Rattle.dex_desk.specs.Turns.Turn.{Heard, Said}
@@ -606,13 +606,14 @@ heard-opening before old kept text line rest all refused opening is cut = record
   refused = refused;
   line = line;
   opening = opening;
+  whole = All-nil HasNoEnd;
   is = is ∙ ap (λ (l : List ℕ). before ++ (kept ++ l)) (cut ∙ line-behind line rest);
 }
 
 -- a line of a session
 heard-line : (all set_up text line rest : List ℕ) (lines : List (List ℕ)) → IsHeard all set_up lines text → text ≡ line ++ 10 ∷ rest
-    → IsHeard all set_up (lines ++ line ∷ []) rest
-heard-line all set_up text line rest lines is cut =
+    → HasNoEnd line → IsHeard all set_up (lines ++ line ∷ []) rest
+heard-line all set_up text line rest lines is cut none =
     let front = flat_map ended lines in
     let more : front ++ text ≡ flat_map ended (lines ++ line ∷ []) ++ rest =
     ap (λ (l : List ℕ). front ++ l) (cut ∙ line-behind line rest)
@@ -624,6 +625,7 @@ heard-line all set_up text line rest lines is cut =
       refused = is.refused;
       line = is.line;
       opening = is.opening;
+      whole = All-push HasNoEnd lines line is.whole none;
       is = is.is ∙ ap (λ (l : List ℕ). is.before ++ (set_up ++ (ended is.line ++ l))) more;
     }
 
@@ -636,6 +638,7 @@ heard-bytes all set_up text bytes lines is =
       refused = is.refused;
       line = is.line;
       opening = is.opening;
+      whole = is.whole;
       is = ap (λ (l : List ℕ). l ++ bytes) is.is ∙ append_assoc is.before (set_up ++ (ended is.line ++ (front ++ text))) bytes
           ∙ ap (λ (l : List ℕ). is.before ++ l)
           (append_assoc set_up (ended is.line ++ (front ++ text)) bytes
@@ -644,16 +647,16 @@ heard-bytes all set_up text bytes lines is =
     }
 
 -- a line was taken
-line-taken : (all text line rest : List ℕ) (block : PlainBlock) (said : List ℕ) → text ≡ line ++ 10 ∷ rest
+line-taken : (all text line rest : List ℕ) (block : PlainBlock) (said : List ℕ) → text ≡ line ++ 10 ∷ rest → HasNoEnd line
     → Since (behind_rows (here all text) (rows_of line)) block said → Since (here all rest) block said
-line-taken all text line rest block said cut since =
+line-taken all text line rest block said cut none since =
     let one = since.one in
     let rows = rows_in one.parts ++ block.draft.script.rows in
     let same : flat_map rows_of one.lines ++ rows_of line ≡ flat_map rows_of (one.lines ++ line ∷ []) ++ [] =
     ap (λ (l : List Fields). flat_map rows_of one.lines ++ l) (sym (append-nil (rows_of line)))
     ∙ sym (flat_map-append rows_of one.lines (line ∷ [])) ∙ sym (append-nil (flat_map rows_of (one.lines ++ line ∷ []))) in
     heard-more (behind_rows (here all text) (rows_of line)) (here all rest) block said since (one.lines ++ line ∷ [])
-    (heard-line all one.set_up text line rest one.lines one.is cut) (subst (λ (l : List Fields). AreAsked l rows) same one.asked)
+    (heard-line all one.set_up text line rest one.lines one.is cut none) (subst (λ (l : List Fields). AreAsked l rows) same one.asked)
 
 -- ---- a talk
 
@@ -745,7 +748,7 @@ does before after all said is =
         (more.0, subst (HasRefused more.0) (append_assoc said owed refuses.told) more.1, more.2)
     by (Serves block text) owed is (inl takes) =
         subst (λ (t : Talk). IsSo t.session all (said ++ t.owed)) (sym takes.is)
-        (line-taken all text takes.line takes.rest takes.left (said ++ takes.said) takes.cut.parts
+        (line-taken all text takes.line takes.rest takes.left (said ++ takes.said) takes.cut.parts takes.cut.whole
         (went (here all text) (rows_of takes.line) block takes.left said owed takes.said is takes.went))
     by (Serves block text) owed is (inr acts) =
         subst (λ (t : Talk). IsSo t.session all (said ++ t.owed)) (sym acts.is) (acted-in (here all text) block acts.left said owed acts.said is acts.acted)

@@ -1,5 +1,5 @@
 -- What rows are answered: the entries of their markets' journals.
-use Rattle.std.specs.Prelude.{◌≡◌, ◌⊎◌, ℕ, ◌==◌, List, [], ◌++◌, Option, Some}
+use Rattle.std.specs.Prelude.{◌≡◌, ◌⊎◌, ℕ, ◌≤◌, ◌==◌, List, [], ◌++◌, length, Option, Some}
 use Rattle.std.specs.List.{flat_map}
 use Rattle.dex_types.specs.declared.movements.Entry.{Entry}
 use Rattle.dex_types.specs.Addresses.{is_same}
@@ -29,9 +29,10 @@ answer_to journals row = line_told
 abbrev pub answers_to : List PlainMarketJournal → List PlainRow → List ℕ
 answers_to journals rows = flat_map (answer_to journals) rows
 
--- the rows of a block acted, as a replay of them, and were answered by their entries there; what is left is a block
+-- the rows of a block acted, one at least, as a replay of them, and were answered by their entries there; what is left is a block
 -- without rows, of the accounts that they leave
 pub record HaveActed (before after : PlainBlock) (said : List ℕ) : Type 0 where
+  pub some : 1 ≤ length before.draft.script.rows
   pub outcome : PlainOutcome
   pub replay : IsReplayOf before.draft.script outcome
   pub run : IsRunOf before.draft.script outcome

@@ -1,5 +1,5 @@
 -- How a session goes: what is heard and said, call by call, and what the desk does between the calls.
-use Rattle.std.specs.Prelude.{◌≡◌, ◌≢◌, ◌⊎◌, ◌||◌, ◌<◌, ℕ, Bool, true, false, List, [], ◌∷◌, ◌++◌, All, Option, Some, None, bytes_eq, codes, length}
+use Rattle.std.specs.Prelude.{◌≡◌, ◌≢◌, ◌⊎◌, ◌||◌, ◌<◌, ◌≤◌, ℕ, Bool, true, false, List, [], ◌∷◌, ◌++◌, All, Option, Some, None, bytes_eq, codes, length}
 use Rattle.dex_answers.specs.Answers.{IsNoScript}
 use Rattle.dex_answers.specs.declared.status.Status.{Status}
 use Rattle.dex_answers.specs.declared.status.Status.TheVariants as status
@@ -192,11 +192,12 @@ heard (byte ∷ bytes) (Sets kept text) = Sets kept (text ++ byte ∷ bytes)
 heard (byte ∷ bytes) (Serves block text) = Serves block (text ++ byte ∷ bytes)
 heard bytes session = session
 
--- a call: the desk hears only when it has said all that it owes, and has taken and answered all that it heard; and it
--- says a front of what it owes
+-- a call: the desk hears only when it has said all that it owes, and has taken and answered all that it heard, and what
+-- it keeps of it is not too long; and it says a front of what it owes
 abbrev pub IsTurn : Turn → Talk → Talk → Type 0
 IsTurn (Heard bytes) before after =
     (before.owed ≡ []) × IsListening before.session × (after ≡ talk (heard bytes before.session) [])
+    × (length (heard_so_far before.session) ≤ 67108864)
 IsTurn (Said bytes) before after = (before.owed ≡ bytes ++ after.owed) × (after.session ≡ before.session)
 
 -- calls, one after the other, and what the desk does between them

@@ -22,7 +22,7 @@ use Rattle.dex_desk.specs.declared.ends.Over.TheVariants as over
 use Rattle.dex_desk.specs.Asking.{PlainAsked, asked_of}
 use Rattle.dex_desk.specs.Asking.PlainAsked.{Instructs, Swaps}
 use Rattle.dex_desk.specs.Replies.{answers_to}
-use Rattle.dex_desk.specs.Talks.{Session, is_opening, last_line}
+use Rattle.dex_desk.specs.Talks.{HasNoEnd, Session, is_opening, last_line}
 use Rattle.dex_desk.specs.Talks.Session.{Closes, Ended, Serves, Sets}
 use Rattle.dex_desk.specs.Turns.{Turn}
 use Rattle.dex_desk.specs.Turns.Turn.{Heard, Said}
@@ -97,6 +97,7 @@ pub record IsHeard (text set_up : List ℕ) (lines : List (List ℕ)) (rest : Li
   pub refused : HasRefused before told
   pub line : List ℕ
   pub opening : is_opening line ≡ true
+  pub whole : All HasNoEnd lines
   pub is : text ≡ before ++ (set_up ++ (ended line ++ (flat_map ended lines ++ rest)))
 
 -- the rows that a row asks for, of this number and clock: an instruction's, or those of both legs of a swap

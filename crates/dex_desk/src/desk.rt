@@ -19,9 +19,10 @@ pub trait Desk {
     /// How often saying has failed.
     ghost mute: { Self → ℕ };
 
-    /// Puts the next bytes at the front of the buffer, and answers how many: 0 only at the end of input or into an
-    /// empty buffer.
+    /// Puts the next bytes at the front of the buffer, and answers how many: 0 only at the end of input. The buffer is not
+    /// empty, so that no bytes heard is the end.
     fn hear(&mut self, buf: &mut [u8]) -> Result<usize, Failed>
+        requires room { 0 < length buf.old }
         ensures within { IfOk result (λ n. n ≤ length buf.old) }
         ensures heard { IfOk result (λ n. turns self.new ≡ and_then (turns self.old) (Heard (take n buf.new))) }
         ensures failed { OnErr result (Rose (deaf self.old) (deaf self.new)) }

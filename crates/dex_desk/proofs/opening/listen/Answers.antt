@@ -1,4 +1,4 @@
-use Rattle.std.proofs.Common.{◌<◌, ◌++◌, [], List, ℕ, ap, arith, length, length-append, refl, subst, sym}
+use Rattle.std.proofs.Common.{◌<◌, ◌≤◌, ◌++◌, [], List, ℕ, ap, arith, length, length-append, refl, subst, sym}
 use Rattle.dex_desk.specs.declared.ends.Over.TheVariants as over
 use Rattle.dex_desk.specs.Talks.{Talked, last_line, talk}
 use Rattle.dex_desk.specs.Talks.Session.{Ended, Sets}
@@ -27,21 +27,25 @@ returns-then-saturating_add-gt-MOST-clause-stopped g c =
 
 pub returns-in-Ok-More-clause-found : goal.returns-in-Ok-More-clause-found
 returns-in-Ok-More-clause-found g c =
+    let few : length (c.args.kept.now.items ++ c.args.inbox.now) ≤ 67108864 =
+    omega (arith, length-append c.args.kept.now.items c.args.inbox.now, c.saturating_add.ensures, c.len.ensures, c.len-2.ensures, ap length c.close_up.ensures, c.if-saturating_add-gt-MOST.false) in
     let told = rw c.in-Ok-More.field-0-is at c.in-Ok-More.ensures.heard in (
       more-of-set-up (g.D.Desk.turns c.args.desk.now) (g.D.Desk.turns c.hear_more.new.desk) c.args.kept.now.items c.close_up.new.self c.args.inbox.now c.hear_more.new.inbox told
-          c.close_up.ensures c.requires.listening,
+          c.close_up.ensures c.requires.listening few,
       c.requires.text,
     )
 
 pub returns-in-Ok-Ended-clause-found : goal.returns-in-Ok-Ended-clause-found
 returns-in-Ok-Ended-clause-found g c =
+    let few : length (c.args.kept.now.items ++ c.args.inbox.now) ≤ 67108864 =
+    omega (arith, length-append c.args.kept.now.items c.args.inbox.now, c.saturating_add.ensures, c.len.ensures, c.len-2.ensures, ap length c.close_up.ensures, c.if-saturating_add-gt-MOST.false) in
     let a = g.D.Desk.turns c.args.desk.now in
     let b = g.D.Desk.turns c.hear_more.new.desk in
     let kept = c.args.kept.now.items in
     let inbox = c.args.inbox.now in
     let told = rw c.in-Ok-Ended.field-0-is at c.in-Ok-Ended.ensures.heard in
     subst (λ (l : List ℕ). Talked a b (talk (Sets kept inbox) []) (talk (Ended over.Input) l)) (sym c.requires.text)
-    (set-up-ended a b kept c.close_up.new.self inbox c.hear_more.new.inbox told c.requires.listening)
+    (set-up-ended a b kept c.close_up.new.self inbox c.hear_more.new.inbox told c.requires.listening few)
 
 pub returns-in-Ok-Failed-clause-found : goal.returns-in-Ok-Failed-clause-found
 returns-in-Ok-Failed-clause-found g c =
@@ -64,4 +68,6 @@ returns-in-Ok-Failed-clause-stopped g c =
 
 pub returns-in-Err-clause-stopped : goal.returns-in-Err-clause-stopped
 returns-in-Err-clause-stopped g c =
-    vain-set-up (g.D.Desk.turns c.args.desk.now) (g.D.Desk.turns c.hear_more.new.desk) c.args.kept.now.items c.args.inbox.now c.in-Err.ensures.vain c.requires.listening
+    let few : length (c.args.kept.now.items ++ c.args.inbox.now) ≤ 67108864 =
+    omega (arith, length-append c.args.kept.now.items c.args.inbox.now, c.saturating_add.ensures, c.len.ensures, c.len-2.ensures, ap length c.close_up.ensures, c.if-saturating_add-gt-MOST.false) in
+    vain-set-up (g.D.Desk.turns c.args.desk.now) (g.D.Desk.turns c.hear_more.new.desk) c.args.kept.now.items c.args.inbox.now c.in-Err.ensures.vain c.requires.listening few

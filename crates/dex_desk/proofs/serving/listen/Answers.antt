@@ -1,4 +1,4 @@
-use Rattle.std.proofs.Common.{◌≡◌, ◌<◌, ◌∙◌, [], List, ℕ, ap, arith, length, subst}
+use Rattle.std.proofs.Common.{◌≡◌, ◌<◌, ◌≤◌, ◌∙◌, [], List, ℕ, ap, arith, length, subst}
 use Rattle.dex_desk.specs.declared.ends.Over.TheVariants as over
 use Rattle.dex_desk.specs.Talks.{talk}
 use Rattle.dex_desk.specs.Talks.Session.{Serves}
@@ -24,14 +24,16 @@ returns-then-len-gt-MOST-clause-stopped g c =
 
 pub returns-in-Ok-More-clause-goes : goal.returns-in-Ok-More-clause-goes
 returns-in-Ok-More-clause-goes g c =
+    let few : length c.args.inbox.now ≤ 67108864 = omega (arith, c.len.ensures, ap length c.close_up.ensures, c.if-len-gt-MOST.false) in
     let told = rw c.in-Ok-More.field-0-is at c.in-Ok-More.ensures.heard in (
       more-of-rows (g.D.Desk.turns c.args.desk.now) (g.D.Desk.turns c.hear_more.new.desk) c.args.block c.close_up.new.self c.args.inbox.now c.hear_more.new.inbox told
-          c.close_up.ensures c.requires.listening,
+          c.close_up.ensures c.requires.listening few,
       c.requires.text,
     )
 
 pub returns-in-Ok-Ended-clause-goes : goal.returns-in-Ok-Ended-clause-goes
 returns-in-Ok-Ended-clause-goes g c =
+    let few : length c.args.inbox.now ≤ 67108864 = omega (arith, c.len.ensures, ap length c.close_up.ensures, c.if-len-gt-MOST.false) in
     let a = g.D.Desk.turns c.args.desk.now in
     let b = g.D.Desk.turns c.hear_more.new.desk in
     let block = c.args.block in
@@ -40,10 +42,11 @@ returns-in-Ok-Ended-clause-goes g c =
     let line : c.bytes.result.now ≡ inbox = c.bytes.ensures ∙ told.1 ∙ c.close_up.ensures in
     let closed = subst (λ (l : List ℕ). TellsClosed c.close.result block l c.args.buffers.now.text.items c.close.new.buffers.text.items) line c.close.ensures in
     closed-goes c.close.result block inbox c.args.buffers.now.text.items c.close.new.buffers.text.items _ a b (talk (Serves block inbox) []) closed c.requires.text
-    (rows-ended a b block c.close_up.new.self inbox c.hear_more.new.inbox told c.requires.listening)
+    (rows-ended a b block c.close_up.new.self inbox c.hear_more.new.inbox told c.requires.listening few)
 
 pub returns-in-Ok-Ended-clause-stopped : goal.returns-in-Ok-Ended-clause-stopped
 returns-in-Ok-Ended-clause-stopped g c =
+    let few : length c.args.inbox.now ≤ 67108864 = omega (arith, c.len.ensures, ap length c.close_up.ensures, c.if-len-gt-MOST.false) in
     let a = g.D.Desk.turns c.args.desk.now in
     let b = g.D.Desk.turns c.hear_more.new.desk in
     let block = c.args.block in
@@ -52,7 +55,7 @@ returns-in-Ok-Ended-clause-stopped g c =
     let line : c.bytes.result.now ≡ inbox = c.bytes.ensures ∙ told.1 ∙ c.close_up.ensures in
     let closed = subst (λ (l : List ℕ). TellsClosed c.close.result block l c.args.buffers.now.text.items c.close.new.buffers.text.items) line c.close.ensures in
     closed-stops c.close.result block inbox c.args.buffers.now.text.items c.close.new.buffers.text.items a b (talk (Serves block inbox) []) closed
-    (rows-ended a b block c.close_up.new.self inbox c.hear_more.new.inbox told c.requires.listening)
+    (rows-ended a b block c.close_up.new.self inbox c.hear_more.new.inbox told c.requires.listening few)
 
 pub returns-in-Ok-Failed-clause-goes : goal.returns-in-Ok-Failed-clause-goes
 returns-in-Ok-Failed-clause-goes g c =
@@ -76,4 +79,5 @@ returns-in-Ok-Failed-clause-stopped g c =
 
 pub returns-in-Err-clause-stopped : goal.returns-in-Err-clause-stopped
 returns-in-Err-clause-stopped g c =
-    vain-rows (g.D.Desk.turns c.args.desk.now) (g.D.Desk.turns c.hear_more.new.desk) c.args.block c.args.inbox.now c.in-Err.ensures.vain c.requires.listening
+    let few : length c.args.inbox.now ≤ 67108864 = omega (arith, c.len.ensures, ap length c.close_up.ensures, c.if-len-gt-MOST.false) in
+    vain-rows (g.D.Desk.turns c.args.desk.now) (g.D.Desk.turns c.hear_more.new.desk) c.args.block c.args.inbox.now c.in-Err.ensures.vain c.requires.listening few
