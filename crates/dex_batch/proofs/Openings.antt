@@ -1,40 +1,38 @@
 -- The cells with which a script starts: all its rows can act on them.
-use Rattle.std.proofs.Common.{◌≡◌, ℕ, ◌+◌, ◌≤◌, true, List, [], ◌∷◌, length, map, refl, sym, ap, ◌∙◌, subst, arith}
+use Rattle.std.proofs.Common.{◌≡◌, ◌+◌, ◌≤◌, true, List, [], ◌∷◌, map, refl, sym, ap, ◌∙◌, subst, arith}
 use Rattle.std.specs.List.{All, AllZip, list_any}
-use Rattle.std.proofs.lemmas.List.Elements.{All-map, All-weaker}
+use Rattle.std.proofs.lemmas.List.Elements.{All-weaker}
 use Rattle.dex_types.specs.declared.addresses.Address.{Address}
 use Rattle.dex_types.specs.declared.rows.RowPlaces.{RowPlaces}
 use Rattle.dex_types.specs.Accounts.{PlainAccount, PlainMarketAccounts}
 use Rattle.dex_types.specs.Addresses.{is_same}
 use Rattle.dex_types.specs.Rows.{PlainRow}
-use Rattle.dex_types.specs.Wallets.{row_wallets}
 use Rattle.dex_cell.specs.CellState.{MarketCellState}
-use Rattle.dex_wallet.specs.CellState.{CellState, IsWalletCell}
 use Rattle.dex_fold.specs.Fold.{fold}
 use Rattle.dex_fold.specs.Items.{items_of}
 use Rattle.dex_fold.specs.RowsOf.{rows_on}
-use Rattle.dex_fold.specs.World.{MarketState, WalletState, World}
+use Rattle.dex_fold.specs.World.{WalletState, World}
 use Rattle.dex_fold.proofs.MappedLists.{list_any-map, map-map}
 use Rattle.dex_act.specs.Opened.{market_opened, market_state_of, wallet_opened}
 use Rattle.dex_act.specs.Wallets.{is_among, wallet_state_of}
 use Rattle.dex_act.proofs.CellLists.{is_among-any}
 use Rattle.dex_state.specs.Addresses.{address_of}
-use Rattle.dex_bank.specs.Cells.{AreCells, CellsState, is_market, opened_of, world_of}
+use Rattle.dex_bank.specs.Cells.{AreCells, CellsState, is_market}
 use Rattle.dex_bank.specs.Closed.{closed}
 use Rattle.dex_bank.specs.Opened.{opened}
 use Rattle.dex_bank.specs.Places.{ArePlacedIn}
 use Rattle.dex_replay.specs.Replays.{IsReplayOf}
 use Rattle.dex_replay.proofs.Ends.{is-left}
 use Rattle.dex_replay.proofs.Singles.{script-acts}
-use Rattle.dex_replay.proofs.Starts.{AreOfScript, HasItsAddress, are-of-script, market-addresses, opened-address, opened-opened, opened-world, wallet-addresses}
+use Rattle.dex_replay.proofs.Starts.{AreOfScript, are-of-script, market-addresses, opened-address, opened-opened, opened-world, wallet-addresses}
 use Rattle.dex_script_facts.specs.PlainScript.{PlainScript}
 use Rattle.dex_script_facts.specs.Facts.{HasNoSwap, IsRowOf, IsScript}
 use Rattle.dex_script_facts.specs.Known.{has_account}
-use Rattle.dex_script_facts.specs.Starts.{market_state, start_world, wallet_state}
+use Rattle.dex_script_facts.specs.Starts.{market_state, wallet_state}
 use Rattle.dex_script_facts.proofs.Apart.{markets-distinct, wallets-distinct}
 use Rattle.dex_script_facts.proofs.Roles.{roles-all}
 use Rattle.dex_team.specs.Acting.{AreDistinct, AreDistinctCells, CanAllAct, HaveActed, IsHere, market_addresses, wallet_addresses}
-use Rattle.dex_team.specs.Rooms.{HasRoom, MarketRoom, WalletRoom}
+use Rattle.dex_team.specs.Rooms.{MarketRoom, WalletRoom}
 use Rattle.dex_team.proofs.RoomLaws.{listing-address, market_room, wallet_room}
 
 module _ (script : PlainScript) (is : IsScript script) where

@@ -52,7 +52,17 @@ pub fn run_batch_with_rows<R: Threads + Sync, P: Pace + Sync>(
     };
     let (cells, rows, places) = Cells::of_script(alloc, script)?;
     let rows = rows.into_rows(alloc)?;
-    let left = work_all(rt, alloc, cells, terms, sizes, &rows, &places, workers as usize, pace)?;
+    let left = work_all(
+        rt,
+        alloc,
+        cells,
+        terms,
+        sizes,
+        &rows,
+        &places,
+        workers as usize,
+        pace,
+    )?;
     match left.close(alloc) {
         Ok(outcome) => Ok((outcome, in_one_piece(alloc, rows)?)),
         Err(_) => Err(NoMemory),

@@ -1,7 +1,6 @@
 -- Rows that act one after the other.
 use Rattle.std.proofs.Common.{◌≡◌, ℕ, ◌+◌, ◌<◌, ◌≤◌, true, false, cond, eqb, List, [], ◌∷◌, ◌++◌, drop, get_or, length, map, take, refl, sym, ap, ◌∙◌, subst, arith}
-use Rattle.std.specs.List.{All, AllZip}
-use Rattle.std.proofs.lemmas.List.{append-nil, append_assoc, drop-map, drop_more, get_or-map, length-map, length-take-le, take-append-drop, take-map, take_all, take_more}
+use Rattle.std.proofs.lemmas.List.{append_assoc, drop-map, drop_more, get_or-map, length-map, length-take-le, take-append-drop, take-map, take_all, take_more}
 use Rattle.std.proofs.lemmas.Bool.{cond-false, cond-true}
 use Rattle.std.proofs.lemmas.List.Elements.{All-drop, All-take, All-weaker}
 use Rattle.std.proofs.lemmas.Slice.Zip.{AllZip-long}
@@ -13,7 +12,7 @@ use Rattle.dex_fold.specs.Fold.{fold}
 use Rattle.dex_fold.specs.World.{World}
 use Rattle.dex_fold.proofs.FoldLaws.{fold-append}
 use Rattle.dex_act.specs.Wallets.{wallet_places}
-use Rattle.dex_bank.specs.Cells.{CanAct, CellsState, opened_of, world_of}
+use Rattle.dex_bank.specs.Cells.{CanAct, CellsState, world_of}
 use Rattle.dex_bank.specs.Places.{ArePlacesIn}
 use Rattle.dex_bank.specs.Stepped.{HasStepped}
 use Rattle.dex_bank.proofs.Stands.{its-address, stand-still, stands-still}

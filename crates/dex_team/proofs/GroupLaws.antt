@@ -1,8 +1,8 @@
 -- Groups: each row is of one, and acts on that alone.
-use Rattle.std.proofs.Common.{◌≡◌, ℕ, zero, suc, ◌<◌, Bool, true, false, ◌||◌, cond, eqb, List, [], ◌∷◌, get_or, length, map, Option, None, Some, refl, sym, ap, ◌∙◌, subst, arith}
-use Rattle.std.specs.List.{All, AllZip, filter, list_any}
-use Rattle.std.proofs.lemmas.Bool.{cond-false, cond-true, cond_both, false≢true, or_right}
-use Rattle.dex_fold.proofs.Common.{Address, All-cons, All-head, All-map, All-nil, All-tail, All-weaker, AllZip-long, Market, MarketState, PlainRow, WalletState, World, acted, alone, fold, fold_items, get_or-map, is_role, is_same, is_same-refl, is_same-sym, is_same-true, length-map, markets_acted, market_acted, names, names-roles, seen_by, wallet_acted}
+use Rattle.std.proofs.Common.{◌≡◌, ℕ, zero, suc, ◌<◌, Bool, true, false, ◌||◌, eqb, List, [], ◌∷◌, get_or, length, map, Option, None, Some, refl, sym, ap, ◌∙◌, arith}
+use Rattle.std.specs.List.{All, AllZip}
+use Rattle.std.proofs.lemmas.Bool.{cond-false, cond-true, cond_both, false≢true}
+use Rattle.dex_fold.proofs.Common.{Address, All-cons, All-map, All-nil, All-weaker, Market, MarketState, PlainRow, WalletState, World, acted, alone, fold, fold_items, get_or-map, is_role, is_same, is_same-refl, is_same-sym, is_same-true, length-map, markets_acted, market_acted, names-roles, seen_by}
 use Rattle.dex_types.specs.declared.rows.RowPlaces.{RowPlaces}
 use Rattle.dex_types.specs.declared.rows.Seen.{Seen}
 use Rattle.dex_types.specs.declared.rows.WalletSeen.{WalletSeen}
@@ -14,7 +14,7 @@ use Rattle.dex_act.specs.Opened.{market_state_of}
 use Rattle.dex_act.specs.Wallets.{IsRoleAt, wallet_state_of}
 use Rattle.dex_bank.specs.Cells.{CellsState, world_of}
 use Rattle.dex_bank.specs.Places.{ArePlacesIn}
-use Rattle.dex_parts.specs.Shards.{IsItemOfOneShard, IsOfOneShard, Sharding, items_in, rows_in, world_in}
+use Rattle.dex_parts.specs.Shards.{IsItemOfOneShard, IsOfOneShard, Sharding, rows_in, world_in}
 use Rattle.dex_parts.proofs.KeptLaws.{items-keep, msrm-kept, named, named-kept, program-kept, srm-kept}
 use Rattle.dex_parts.proofs.ShardWorlds.{items-act}
 use Rattle.dex_replay.proofs.Singles.{singles-act}

@@ -1,8 +1,8 @@
 -- Shares of a bank: ready, and what they leave together.
-use Rattle.std.proofs.Common.{◌≡◌, ℕ, zero, suc, ◌<◌, Bool, true, false, ◌||◌, cond, eqb, List, [], ◌∷◌, ◌++◌, get_or, length, map, Option, refl, sym, ap, ◌∙◌, subst, arith}
+use Rattle.std.proofs.Common.{◌≡◌, ℕ, ◌<◌, Bool, true, false, ◌||◌, cond, eqb, List, [], ◌∷◌, ◌++◌, get_or, length, map, Option, refl, sym, ap, ◌∙◌, subst, arith}
 use Rattle.std.specs.List.{All, AllZip, filter, list_any}
 use Rattle.std.proofs.lemmas.Bool.{cond_both, eq-eqb, false≢true, or_left, or_parts, or_right}
-use Rattle.dex_fold.proofs.Common.{Address, All-cons, All-head, All-nil, All-tail, All-weaker, AllZip-long, MarketState, PlainAccount, PlainRow, WalletState, World, fold, get_or-map, is_same, is_same-refl, is_same-true, length-map, names, row_wallets}
+use Rattle.dex_fold.proofs.Common.{Address, All-cons, All-head, All-nil, All-tail, All-weaker, AllZip-long, MarketState, PlainRow, WalletState, World, fold, get_or-map, is_same, is_same-refl, is_same-true, length-map, names, row_wallets}
 use Rattle.dex_types.specs.declared.rows.RowPlaces.{RowPlaces}
 use Rattle.dex_types.specs.declared.terms.Program.{Program}
 use Rattle.dex_cell.specs.CellState.{IsMarketCell, MarketCellState}
@@ -16,7 +16,7 @@ use Rattle.dex_bank.proofs.Stands.{its-address}
 use Rattle.dex_bank.proofs.StepWorld.{among-opened, opened_market}
 use Rattle.dex_parts.specs.Shards.{IsOfOneShard, Sharding, rows_in, world_in}
 use Rattle.dex_stage.specs.declared.parts.Terms.{Terms}
-use Rattle.dex_team.specs.Acting.{AreTermsIn, CanAllAct, HaveActed, IsHere, market_addresses, wallet_addresses}
+use Rattle.dex_team.specs.Acting.{AreTermsIn, CanAllAct, HaveActed, IsHere}
 use Rattle.dex_team.specs.Groups.{IsOfGroup}
 use Rattle.dex_team.specs.Parts.{AreAsLong, AreParts, part}
 use Rattle.dex_team.specs.Rooms.{HasRoom, MarketRoom, WalletRoom}
@@ -24,7 +24,7 @@ use Rattle.dex_team.specs.Shares.{AreShares, HasRun, IsReady, ShareState, own_ce
 use Rattle.dex_team.proofs.GroupLaws as group
 use Rattle.dex_team.proofs.GroupLaws.{fold-markets, fold-wallets, group-acts}
 use Rattle.dex_team.proofs.PartLaws.{part-all, part-filter, part-long, part-map, part-zip, parts-same, parts-zip, zip-at, zip-of}
-use Rattle.dex_team.proofs.RoomLaws.{listing-address, market_room, same-rooms, wallet_room}
+use Rattle.dex_team.proofs.RoomLaws.{listing-address, market_room, wallet_room}
 
 -- ---- lists
 

@@ -33,7 +33,11 @@ impl Groups {
         let count = components(&sizes).min(most).max(1);
         let of_markets = groups_of_markets(alloc, &links, &sizes, markets, count)?;
         let of_wallets = groups_of_wallets(alloc, &links, &of_markets, wallets, count)?;
-        let largest = if links.is_one() { places.len() } else { largest(&sizes) };
+        let largest = if links.is_one() {
+            places.len()
+        } else {
+            largest(&sizes)
+        };
         Ok(Groups {
             markets: of_markets,
             wallets: of_wallets,
@@ -146,7 +150,10 @@ fn groups_of_wallets(
 {
     let mut numbers = Vec::new(alloc);
     for wallet in 0..wallets {
-        add(&mut numbers, group_of_wallet(links, of_markets, wallet, count))?;
+        add(
+            &mut numbers,
+            group_of_wallet(links, of_markets, wallet, count),
+        )?;
     }
     Ok(numbers)
 }

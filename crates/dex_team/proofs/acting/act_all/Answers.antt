@@ -1,4 +1,4 @@
-use Rattle.std.proofs.Common.{arith, length, map, ◌∙◌}
+use Rattle.std.proofs.Common.{arith}
 use Rattle.std.proofs.lemmas.List.{get_or_default}
 use Rattle.dex_team.proofs.ActLaws.{all-more, next-can, next-stands, places-long}
 use Rattle.dex_team.proofs.acting.act_all.Goals as goal

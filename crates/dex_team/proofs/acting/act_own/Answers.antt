@@ -1,4 +1,4 @@
-use Rattle.std.proofs.Common.{◌+◌, arith, get_or, length, map, sym, subst, take, ◌∙◌}
+use Rattle.std.proofs.Common.{◌+◌, arith, get_or, map, sym, subst, take}
 use Rattle.std.proofs.lemmas.Bool.{eq-eqb, ne_eqb}
 use Rattle.std.proofs.lemmas.List.{get_or_default, length-map}
 use Rattle.dex_bank.specs.Cells.{CellsState}

@@ -3,7 +3,6 @@ use Rattle.std.specs.List.{All}
 use Rattle.dex_types.specs.Rows.{row_of}
 use Rattle.dex_cell.specs.CellState.{MarketCellState}
 use Rattle.dex_wallet.specs.CellState.{CellState}
-use Rattle.dex_bank.specs.Cells.{AreCells, CellsState}
 use Rattle.dex_team.specs.Acting.{HaveActed}
 use Rattle.dex_team.specs.Parts.{AreAsLong, AreParts}
 use Rattle.dex_team.proofs.ShareLaws.{all-kept, all-ready, as-long, below, home-acted, home-kept}

@@ -1,4 +1,4 @@
-use Rattle.std.proofs.Common.{◌≡◌, ◌+◌, ◌≤◌, ◌<◌, ℕ, [], ◌∷◌, List, arith, get_or, length, map, ap, refl, sym, subst, ◌∙◌}
+use Rattle.std.proofs.Common.{◌≡◌, ◌+◌, ℕ, [], List, arith, get_or, length, map, ap, sym, subst, ◌∙◌}
 use Rattle.std.proofs.lemmas.List.{get_or-set_other, length-append, length-set}
 use Rattle.dex_types.specs.declared.account_bytes.Named.{Named}
 use Rattle.dex_types.specs.Accounts.{named_of}
@@ -8,7 +8,6 @@ use Rattle.dex_wallet.specs.CellState.{CellState}
 use Rattle.dex_bank.specs.Cells.{AreCells}
 use Rattle.dex_team.specs.Shares.{ShareState, own_cells, share, share_at}
 use Rattle.dex_team.proofs.PartLaws.{each-more, zip-at}
-use Rattle.dex_team.proofs.shares.shares.Given as given
 use Rattle.dex_team.proofs.shares.shares.Goals as goal
 
 pub of-cells-requires : goal.of-cells-requires
