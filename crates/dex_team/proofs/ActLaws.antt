@@ -189,10 +189,10 @@ module _ (rows now later : List Row) (places now_places later_places : List RowP
       subst (λ (some : List PlainRow). CanAllAct some now_places cells) (sym now-rows)
       (subst (λ (some : List RowPlaces). CanAllAct (take count (map row_of rows)) some cells) (sym now_places_are) (front-can (map row_of rows) places cells can count))
 
-  pub window-more : (done all : List PlainRow) (first next : CellsState) → done ++ map row_of rows ≡ all → HaveActed done done first cells
+  pub window-more : (done every : List PlainRow) (first next : CellsState) → done ++ map row_of rows ≡ every → HaveActed done done first cells
       → HaveActed (map row_of now) (map row_of now) cells next
-      → CanAllAct (map row_of later) later_places next × ((some : List PlainRow) × (some ++ map row_of later ≡ all) × HaveActed some some first next)
-  window-more done all first next whole so acted = (
+      → CanAllAct (map row_of later) later_places next × ((some : List PlainRow) × (some ++ map row_of later ≡ every) × HaveActed some some first next)
+  window-more done every first next whole so acted = (
     subst (λ (some : List PlainRow). CanAllAct some later_places next) (sym later-rows)
         (subst (λ (some : List RowPlaces). CanAllAct (drop count (map row_of rows)) some next) (sym later_places_are)
         (behind-can (map row_of rows) places cells can count next (subst (λ (some : List PlainRow). HaveActed some some cells next) now-rows acted))),
