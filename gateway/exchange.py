@@ -79,6 +79,8 @@ class Exchange:
             if setup is None:
                 raise CannotGoOn('there is no log yet: give a set-up (--setup FILE)')
             text = setup if setup.endswith(b'\n') else setup + b'\n'
+            if b'open' in (line.removesuffix(b'\r') for line in text.split(b'\n')):
+                raise CannotGoOn('the set-up has a line `open`: a script has none')
         else:
             setup = None
         try:

@@ -13,6 +13,7 @@ import os
 import select
 import subprocess
 import time
+from codecs import BOM_UTF8
 from collections import deque
 from collections.abc import Iterable
 from pathlib import Path
@@ -37,10 +38,11 @@ def program_here() -> str:
 
 
 def line_of(row: Text) -> bytes:
-    """A row as a line of its own, without its end. Raises ValueError where it is none, or has quotes: then it could be several."""
+    """A row as a line of its own, without its end. Raises ValueError where it is none, or has quotes: then it could be several; and where it
+    begins with a byte-order mark, which the desk drops: then it could be none."""
     line = bytes_of(row).removesuffix(b'\n').removesuffix(b'\r')
-    if not line or any(sign in line for sign in (b'\n', b'\r', b'"')):
-        raise ValueError(f'one row is wanted, on one line and without quotes, and not {line[:80]!r}')
+    if not line or line.startswith(BOM_UTF8) or any(sign in line for sign in (b'\n', b'\r', b'"')):
+        raise ValueError(f'one row is wanted, on one line, without quotes and without a byte-order mark, and not {line[:80]!r}')
     return line
 
 

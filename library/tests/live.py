@@ -95,7 +95,7 @@ def try_faults() -> None:
             same(f'the fault of {row}', (error.row, error.kind, error.name, error.code), (number, kind, name, code))
         error = raised(ScriptRefused, desk.book, 'none', 5)
         same('a book of no market', (error.row, error.name), (number, 'UnknownLabel'))
-        for row in ('', '\n', rows[0] + rows[1], 'do,0,"m"', 'clock,5', 'dump', 'book,m,5', 'do,0\rdo,1'):
+        for row in ('', '\n', rows[0] + rows[1], 'do,0,"m"', 'clock,5', 'dump', 'book,m,5', 'do,0\rdo,1', '\ufeff', '\ufeff' + rows[0]):
             raised(ValueError, desk.do, row)
         raised(ValueError, desk.book, 'm,5\ndump', 5)
         raised(ValueError, desk.book, '"m"', 5)
