@@ -39,7 +39,9 @@ class Log:
     """The log of a folder, which no other gateway may write at the same time."""
 
     def __init__(self, folder: str) -> None:
-        os.makedirs(folder, mode=0o700, exist_ok=True)
+        if not os.path.isdir(folder):
+            os.makedirs(folder, mode=0o700)
+            sync_folder(os.path.dirname(os.path.abspath(folder)))
         self.folder = folder
         self._lock = os.open(os.path.join(folder, 'lock'), os.O_RDWR | os.O_CREAT, 0o600)
         try:
@@ -56,7 +58,8 @@ class Log:
         return sorted((name for name in os.listdir(self.folder) if PART.fullmatch(name)), key=lambda name: (len(name), name))
 
     def last(self) -> bytes | None:
-        """The last part, to go on from; None where there is none yet. A line that was torn is taken off its end."""
+        """The last part, to go on from; None where there is none yet. A line that was torn is taken off its end. All of it is on the disk
+        then: a gateway that was killed may have left rows for which it had not waited yet."""
         names = self.parts()
         if not names:
             return None
@@ -67,7 +70,7 @@ class Log:
         if whole < len(text):
             self.dropped = text[whole:]
             os.ftruncate(self._place, whole)
-            os.fsync(self._place)
+        os.fsync(self._place)
         self.head = self.size = whole
         return text[:whole]
 
