@@ -9,8 +9,9 @@ import time
 
 def say(text: str) -> None:
     """Says something to who started it, where that can be written."""
-    with contextlib.suppress(OSError, ValueError, AttributeError):
-        print(f'serve: {text}', file=sys.stderr, flush=True)
+    if sys.stderr is not None:
+        with contextlib.suppress(OSError, ValueError):
+            print(f'serve: {text}', file=sys.stderr, flush=True)
 
 
 class Seldom:
