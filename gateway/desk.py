@@ -40,6 +40,7 @@ class Desk(asyncio.SubprocessProtocol):
         self._answer: list[bytes] = []
         self._rest: bytearray | None = None
         self._waits: asyncio.Future | None = None
+        self._ended = asyncio.Event()
 
     @classmethod
     async def start(cls, program: str, setup: bytes, on_loss: Callable[[], None]) -> Desk:
@@ -58,7 +59,7 @@ class Desk(asyncio.SubprocessProtocol):
         self._send(setup + b'open\n')
         said = (await self._waits).decode('ascii', 'replace')
         if not said.startswith('open '):
-            self._transport.close()
+            await self.kill()
             raise SetupRefused(said)
         self.number = int(said[5:])
 
@@ -84,10 +85,11 @@ class Desk(asyncio.SubprocessProtocol):
         self._transport.get_pipe_transport(0).close()
         return await self._waits
 
-    def kill(self) -> None:
+    async def kill(self) -> None:
         """Ends it at once."""
         self._waits = None
         self._transport.close()
+        await self._ended.wait()
 
     # Called by the loop.
 
@@ -133,3 +135,4 @@ class Desk(asyncio.SubprocessProtocol):
         else:
             self._fail(DeskGone(f'it was ended by signal {-status}' if status is not None and status < 0 else f'it ended with status {status}'))
             self._on_loss()
+        self._ended.set()

@@ -140,7 +140,7 @@ class Exchange:
         finally:
             for task in (acts, commits):
                 task.cancel()
-            self._desk.kill()
+            await self._desk.kill()
 
     # Through the desk.
 
