@@ -13,6 +13,7 @@ from __future__ import annotations
 
 import asyncio
 import socket
+from typing import cast
 
 from . import web
 from .asked import LONGEST, Refused, Row, row_of
@@ -61,8 +62,8 @@ class Connection(asyncio.Protocol):
         """Since when it has read nothing of answers that wait; None where few wait."""
         self._unread = 0
 
-    def connection_made(self, transport: asyncio.Transport) -> None:
-        self.transport, self._loop = transport, asyncio.get_running_loop()
+    def connection_made(self, transport: asyncio.BaseTransport) -> None:
+        self.transport, self._loop = cast(asyncio.Transport, transport), asyncio.get_running_loop()
         # So that a peer that is gone without a word is met some time.
         transport.get_extra_info('socket').setsockopt(socket.SOL_SOCKET, socket.SO_KEEPALIVE, 1)
         self.number = self.gate.enter(self)

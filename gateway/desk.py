@@ -4,6 +4,7 @@ from __future__ import annotations
 
 import asyncio
 from collections.abc import Callable
+from typing import Any, cast
 
 # What the answer of a row begins with, where it has no fault.
 FIRST = {b'do': b'entry ', b'ix': b'entry ', b'swap': b'entry ', b'clock': b'clock ', b'book': b'book', b'dump': b'dump'}
@@ -39,7 +40,7 @@ class Desk(asyncio.SubprocessProtocol):
         self._answers: list[list[bytes]] = []
         self._answer: list[bytes] = []
         self._rest: bytearray | None = None
-        self._waits: asyncio.Future | None = None
+        self._waits: asyncio.Future[Any] | None = None
         self._ended = asyncio.Event()
 
     @classmethod
@@ -47,10 +48,9 @@ class Desk(asyncio.SubprocessProtocol):
         """A desk over this set-up. `on_loss` is called when it is gone though nobody closed it; `gone` says why."""
         loop = asyncio.get_running_loop()
         try:
-            transport, desk = await loop.subprocess_exec(lambda: cls(on_loss), program, stderr=None)
+            _, desk = await loop.subprocess_exec(lambda: cls(on_loss), program, stderr=None)
         except OSError as error:
             raise DeskGone(f'{program}: {error.strerror}') from error
-        desk._transport = transport
         await desk._open(setup)
         return desk
 
@@ -64,7 +64,7 @@ class Desk(asyncio.SubprocessProtocol):
         self.number = int(said[5:])
 
     def _send(self, text: bytes) -> None:
-        self._transport.get_pipe_transport(0).write(text)
+        self._input.write(text)
 
     async def ask(self, rows: list[tuple[bytes, bytes]]) -> list[list[bytes]]:
         """What rows are answered, each given by its first field and its line: the lines of each answer."""
@@ -73,7 +73,7 @@ class Desk(asyncio.SubprocessProtocol):
         self._waits = asyncio.get_running_loop().create_future()
         self._words, self._answers = [word for word, _ in rows], []
         self._send(b''.join(line + b'\n' for _, line in rows))
-        answers = await self._waits
+        answers: list[list[bytes]] = await self._waits
         for word, answer in zip(self._words, answers):
             self.number += word not in LAST and not answer[0].startswith(b'script refused ')
         return answers
@@ -82,8 +82,9 @@ class Desk(asyncio.SubprocessProtocol):
         """Ends it: the last accounts, as a dump."""
         self._rest = bytearray()
         self._waits = asyncio.get_running_loop().create_future()
-        self._transport.get_pipe_transport(0).close()
-        return await self._waits
+        self._input.close()
+        rest: bytes = await self._waits
+        return rest
 
     async def kill(self) -> None:
         """Ends it at once."""
@@ -92,6 +93,10 @@ class Desk(asyncio.SubprocessProtocol):
         await self._ended.wait()
 
     # Called by the loop.
+
+    def connection_made(self, transport: asyncio.BaseTransport) -> None:
+        self._transport = cast(asyncio.SubprocessTransport, transport)
+        self._input = cast(asyncio.WriteTransport, self._transport.get_pipe_transport(0))
 
     def pipe_data_received(self, fd: int, data: bytes) -> None:
         if self._rest is not None:
