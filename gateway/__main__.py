@@ -9,19 +9,15 @@ import signal
 import sys
 from pathlib import Path
 
-from .clients import Connection, Gate
+from .clients import PATIENCE, Connection, Gate
 from .exchange import CannotGoOn, Exchange
 from .feed import Feed
 from .log import MOST_ROWS, BadLog, Log
+from .said import say
 from .tokens import BadTokens, Tokens
 
 ROOT = Path(__file__).resolve().parents[1]
 LOCAL = ('127.0.0.1', '::1', 'localhost')
-
-
-def say(text: str) -> None:
-    """Says something to who started it."""
-    print(f'serve: {text}', file=sys.stderr, flush=True)
 
 
 def words_of() -> argparse.Namespace:
@@ -34,7 +30,11 @@ def words_of() -> argparse.Namespace:
     parser.add_argument('--port', type=int, default=7070, help='the port (7070; 0: any that is free)')
     parser.add_argument('--desk', metavar='PROGRAM', help='the program desk, else that of DAISYHOOK_DESK or the one built here')
     parser.add_argument('--rows', type=int, default=MOST_ROWS, help=f'rows of a part of the log ({MOST_ROWS})')
+    parser.add_argument('--patience', type=float, default=PATIENCE, metavar='SECONDS',
+                        help=f'how long a client may leave its answers unread, or say nothing without a token ({PATIENCE:.0f})')
     words = parser.parse_args()
+    if words.patience <= 0:
+        parser.error('--patience: above 0')
     if not 1 <= words.rows <= MOST_ROWS:
         parser.error(f'--rows: 1 to {MOST_ROWS}')
     return words
@@ -64,7 +64,7 @@ async def serve(words: argparse.Namespace) -> None:
     await exchange.open(setup)
     if log.dropped:
         say(f'the last line of the log was torn, and is dropped: {len(log.dropped)} bytes, a row that was not answered')
-    gate = Gate(exchange, feed, tokens, (ROOT / 'desk.html').read_bytes())
+    gate = Gate(exchange, feed, tokens, (ROOT / 'desk.html').read_bytes(), words.patience)
     loop = asyncio.get_running_loop()
     server = await loop.create_server(lambda: Connection(gate), words.host, words.port)
     port = server.sockets[0].getsockname()[1]

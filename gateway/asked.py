@@ -16,8 +16,9 @@ from .tokens import Rights, address_of, word_of
 LONGEST = 4096
 DEEPEST = 100
 PLAIN = re.compile(rb'[ !#-~]+')
-# The place of the signer in a row.
+# The place of the signer in a row, and the places of its markets.
 SIGNER = {b'do': 3, b'ix': 3, b'swap': 2}
+MARKETS = {b'do': (2,), b'ix': (2,), b'swap': (3, 7)}
 SIDES = {0: b'bid', 1: b'ask'}
 
 
@@ -65,7 +66,7 @@ def check_signer(fields: list[bytes], place: int, rights: Rights) -> None:
 
 def check_depth(fields: list[bytes]) -> None:
     """Refuses to show more prices than a watcher needs."""
-    if len(fields) == 3 and fields[2].isdigit() and int(fields[2][:12]) > DEEPEST:
+    if len(fields) == 3 and fields[2].isdigit() and (len(fields[2]) > len(str(DEEPEST)) or int(fields[2]) > DEEPEST):
         raise Refused('TooDeep')
 
 
@@ -76,9 +77,8 @@ def market_word(word: bytes) -> bytes:
 
 
 def markets_of(row: Row) -> list[bytes]:
-    """The markets that an instruction row names, in the order of its answers."""
-    places = {b'do': (2,), b'ix': (2,), b'swap': (3, 7)}.get(row.word, ())
-    return [market_word(row.fields[place]) for place in places]
+    """The markets that an instruction row names, in the order of its answers. A row that is cut short names fewer."""
+    return [market_word(row.fields[place]) for place in MARKETS.get(row.word, ()) if place < len(row.fields)]
 
 
 def sides_of(row: Row) -> list[bytes]:

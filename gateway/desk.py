@@ -4,6 +4,7 @@ from __future__ import annotations
 
 import asyncio
 from collections.abc import Callable
+from typing import Any, cast
 
 # What the answer of a row begins with, where it has no fault.
 FIRST = {b'do': b'entry ', b'ix': b'entry ', b'swap': b'entry ', b'clock': b'clock ', b'book': b'book', b'dump': b'dump'}
@@ -39,17 +40,17 @@ class Desk(asyncio.SubprocessProtocol):
         self._answers: list[list[bytes]] = []
         self._answer: list[bytes] = []
         self._rest: bytearray | None = None
-        self._waits: asyncio.Future | None = None
+        self._waits: asyncio.Future[Any] | None = None
+        self._ended = asyncio.Event()
 
     @classmethod
     async def start(cls, program: str, setup: bytes, on_loss: Callable[[], None]) -> Desk:
         """A desk over this set-up. `on_loss` is called when it is gone though nobody closed it; `gone` says why."""
         loop = asyncio.get_running_loop()
         try:
-            transport, desk = await loop.subprocess_exec(lambda: cls(on_loss), program, stderr=None)
+            _, desk = await loop.subprocess_exec(lambda: cls(on_loss), program, stderr=None)
         except OSError as error:
             raise DeskGone(f'{program}: {error.strerror}') from error
-        desk._transport = transport
         await desk._open(setup)
         return desk
 
@@ -58,12 +59,12 @@ class Desk(asyncio.SubprocessProtocol):
         self._send(setup + b'open\n')
         said = (await self._waits).decode('ascii', 'replace')
         if not said.startswith('open '):
-            self._transport.close()
+            await self.kill()
             raise SetupRefused(said)
         self.number = int(said[5:])
 
     def _send(self, text: bytes) -> None:
-        self._transport.get_pipe_transport(0).write(text)
+        self._input.write(text)
 
     async def ask(self, rows: list[tuple[bytes, bytes]]) -> list[list[bytes]]:
         """What rows are answered, each given by its first field and its line: the lines of each answer."""
@@ -72,7 +73,7 @@ class Desk(asyncio.SubprocessProtocol):
         self._waits = asyncio.get_running_loop().create_future()
         self._words, self._answers = [word for word, _ in rows], []
         self._send(b''.join(line + b'\n' for _, line in rows))
-        answers = await self._waits
+        answers: list[list[bytes]] = await self._waits
         for word, answer in zip(self._words, answers):
             self.number += word not in LAST and not answer[0].startswith(b'script refused ')
         return answers
@@ -81,15 +82,21 @@ class Desk(asyncio.SubprocessProtocol):
         """Ends it: the last accounts, as a dump."""
         self._rest = bytearray()
         self._waits = asyncio.get_running_loop().create_future()
-        self._transport.get_pipe_transport(0).close()
-        return await self._waits
+        self._input.close()
+        rest: bytes = await self._waits
+        return rest
 
-    def kill(self) -> None:
+    async def kill(self) -> None:
         """Ends it at once."""
         self._waits = None
         self._transport.close()
+        await self._ended.wait()
 
     # Called by the loop.
+
+    def connection_made(self, transport: asyncio.BaseTransport) -> None:
+        self._transport = cast(asyncio.SubprocessTransport, transport)
+        self._input = cast(asyncio.WriteTransport, self._transport.get_pipe_transport(0))
 
     def pipe_data_received(self, fd: int, data: bytes) -> None:
         if self._rest is not None:
@@ -133,3 +140,4 @@ class Desk(asyncio.SubprocessProtocol):
         else:
             self._fail(DeskGone(f'it was ended by signal {-status}' if status is not None and status < 0 else f'it ended with status {status}'))
             self._on_loss()
+        self._ended.set()

@@ -7,6 +7,7 @@ anybody before the row is on the disk.
 from __future__ import annotations
 
 import asyncio
+import re
 from typing import NamedTuple, Protocol
 
 from .asked import Row, market_word, markets_of, sides_of, trade_of
@@ -47,17 +48,28 @@ class CannotGoOn(Exception):
     """The gateway stops; the text says why. What was answered is in the log."""
 
 
+# Rows of a set-up, of which fields may stand in quotes.
+MARKET = re.compile(rb'^"?market"?,"?([a-z0-9_]+)"?,', re.MULTILINE)
+KEPT = {word: re.compile(rb'^"?%s"?,"?([a-z0-9]+)"?$' % word, re.MULTILINE) for word in (b'program', b'clock')}
+
+
+def script_of(setup: bytes) -> bytes:
+    """A set-up with line ends of one kind, the last line too, and no byte-order mark."""
+    text = setup.removeprefix(b'\xef\xbb\xbf').replace(b'\r\n', b'\n').replace(b'\r', b'\n')
+    return text if text.endswith(b'\n') else text + b'\n'
+
+
 def markets_in(text: bytes) -> list[bytes]:
     """The markets of a part of the log."""
-    return list(dict.fromkeys(market_word(line.split(b',')[1]) for line in text.splitlines() if line.startswith(b'market,')))
+    return list(dict.fromkeys(market_word(word) for word in MARKET.findall(text)))
 
 
 def last_of(text: bytes, word: bytes) -> bytes:
-    """The last row with this first field, with its line end; or nothing."""
-    at = text.rfind(b'\n' + word + b',')
-    if at < 0:
-        return text[:text.find(b'\n') + 1] if text.startswith(word + b',') else b''
-    return text[at + 1:text.find(b'\n', at + 1) + 1]
+    """The last row `program` or `clock`, with its line end; or nothing."""
+    found = None
+    for found in KEPT[word].finditer(text):
+        pass
+    return b'%s,%s\n' % (word, found[1]) if found else b''
 
 
 class Exchange:
@@ -78,9 +90,9 @@ class Exchange:
         if text is None:
             if setup is None:
                 raise CannotGoOn('there is no log yet: give a set-up (--setup FILE)')
-            text = setup if setup.endswith(b'\n') else setup + b'\n'
-            if b'open' in (line.removesuffix(b'\r') for line in text.split(b'\n')):
-                raise CannotGoOn('the set-up has a line `open`: a script has none')
+            text = script_of(setup)
+            if b'\nopen\n' in b'\n' + text:
+                raise CannotGoOn('the set-up is no script: it has a line `open`')
         else:
             setup = None
         try:
@@ -92,7 +104,8 @@ class Exchange:
         if setup is not None:
             self._log.begin(text)
         self._program_row, self._clock_row = last_of(text, b'program'), last_of(text, b'clock')
-        self._dirty.update(markets_in(text))
+        self._markets = frozenset(markets_in(text))
+        self._dirty.update(self._markets)
 
     @property
     def number(self) -> int:
@@ -127,7 +140,7 @@ class Exchange:
         finally:
             for task in (acts, commits):
                 task.cancel()
-            self._desk.kill()
+            await self._desk.kill()
 
     # Through the desk.
 
@@ -157,7 +170,7 @@ class Exchange:
         """The markets whose best prices are asked behind this batch: those that may have changed, where the last time is long enough ago."""
         for item in items:
             if item.row is not None:
-                self._dirty.update(markets_of(item.row))
+                self._dirty.update(self._markets.intersection(markets_of(item.row)))
         left = self._next_tops - loop.time()
         if not self._dirty or left > 0:
             if self._dirty:

@@ -10,6 +10,7 @@ import fcntl
 import os
 import re
 
+DUMP = b'dump\n'
 PART = re.compile(r'[0-9]{6,}\.csv')
 # A part has fewer rows than 100,000, and fewer bytes than a script may have.
 MOST_ROWS, MOST_BYTES, LEAST_BYTES = 90_000, 60_000_000, 1_000_000
@@ -39,7 +40,9 @@ class Log:
     """The log of a folder, which no other gateway may write at the same time."""
 
     def __init__(self, folder: str) -> None:
-        os.makedirs(folder, mode=0o700, exist_ok=True)
+        if not os.path.isdir(folder):
+            os.makedirs(folder, mode=0o700)
+            sync_folder(os.path.dirname(os.path.abspath(folder)))
         self.folder = folder
         self._lock = os.open(os.path.join(folder, 'lock'), os.O_RDWR | os.O_CREAT, 0o600)
         try:
@@ -48,6 +51,8 @@ class Log:
             raise BadLog(f'{folder}: another gateway writes to it') from error
         self._place = -1
         self.head = self.size = 0
+        self.has_dump = False
+        """Whether the last part begins with a dump, and not with a set-up that may have as many rows as a script."""
         self.dropped = b''
         """The last line, where it was torn and is dropped."""
 
@@ -56,7 +61,8 @@ class Log:
         return sorted((name for name in os.listdir(self.folder) if PART.fullmatch(name)), key=lambda name: (len(name), name))
 
     def last(self) -> bytes | None:
-        """The last part, to go on from; None where there is none yet. A line that was torn is taken off its end."""
+        """The last part, to go on from; None where there is none yet. A line that was torn is taken off its end. All of it is on the disk
+        then: a gateway that was killed may have left rows for which it had not waited yet."""
         names = self.parts()
         if not names:
             return None
@@ -67,8 +73,9 @@ class Log:
         if whole < len(text):
             self.dropped = text[whole:]
             os.ftruncate(self._place, whole)
-            os.fsync(self._place)
+        os.fsync(self._place)
         self.head = self.size = whole
+        self.has_dump = text.startswith(DUMP)
         return text[:whole]
 
     def begin(self, text: bytes) -> None:
@@ -83,7 +90,7 @@ class Log:
         sync_folder(self.folder)
         if self._place >= 0:
             os.close(self._place)
-        self._place, self.head, self.size = place, len(text), len(text)
+        self._place, self.head, self.size, self.has_dump = place, len(text), len(text), text.startswith(DUMP)
 
     def append(self, rows: bytes) -> None:
         """Puts rows at the end; when the call returns they are on the disk."""
@@ -93,4 +100,5 @@ class Log:
 
     def is_full(self, rows: int, most: int) -> bool:
         """Whether a part of so many rows is to be followed by another."""
-        return self.size > self.head and rows >= most or self.size >= max(MOST_BYTES, self.head + LEAST_BYTES)
+        is_long = rows >= most and (self.size > self.head or not self.has_dump)
+        return is_long or self.size >= max(MOST_BYTES, self.head + LEAST_BYTES)

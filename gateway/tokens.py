@@ -53,12 +53,12 @@ def digest_of(token: bytes) -> bytes:
 def rights_of(words: list[bytes], where: str) -> Rights:
     """What the words behind a token say."""
     signers = {}
-    for word in words:
+    for number, word in enumerate(words, 2):
         if word in RIGHTS:
             continue
         address = address_of(word)
         if address is None:
-            raise BadTokens(f'{where}: {word.decode("ascii", "replace")} is no signer, and neither +clock nor +dump')
+            raise BadTokens(f'{where}: word {number} is no signer, and neither +clock nor +dump')
         signers[address] = word
     return Rights(frozenset(signers), frozenset(word for word in words if word in RIGHTS), tuple(words))
 
