@@ -154,13 +154,14 @@ class Connection(asyncio.Protocol):
         self._say(web.events_of(lines) if self._is_web else b''.join(lines))
 
     def _say(self, text: bytes) -> None:
-        """Sends a text. A client that does not read what it is sent is cut off."""
+        """Sends a text. A client that does not read what it was sent before is cut off."""
         if self.transport.is_closing():
             return
-        self.transport.write(text)
         if self.transport.get_write_buffer_size() > UNREAD:
             print(f'serve: connection {self.number} is cut off: it does not read', file=sys.stderr, flush=True)
             self.transport.abort()
+            return
+        self.transport.write(text)
 
     def _close_with(self, text: bytes) -> None:
         self._say(text)

@@ -7,6 +7,7 @@ anybody before the row is on the disk.
 from __future__ import annotations
 
 import asyncio
+from codecs import BOM_UTF8
 from typing import NamedTuple, Protocol
 
 from .asked import Row, market_word, markets_of, sides_of, trade_of
@@ -52,6 +53,16 @@ def markets_in(text: bytes) -> list[bytes]:
     return list(dict.fromkeys(market_word(line.split(b',')[1]) for line in text.splitlines() if line.startswith(b'market,')))
 
 
+def not_plain(text: bytes) -> str | None:
+    """What a set-up may not have: by it, rows would be others for the desk than for the gateway, which looks for them line by line."""
+    lines = text.replace(b'\r\n', b'\n')
+    if b'open' in lines.split(b'\n'):
+        return 'a line `open`: a script has none'
+    if text.startswith(BOM_UTF8):
+        return 'a byte-order mark'
+    return 'a quote, or a carriage return inside a line' if b'"' in lines or b'\r' in lines else None
+
+
 def last_of(text: bytes, word: bytes) -> bytes:
     """The last row with this first field, with its line end; or nothing."""
     at = text.rfind(b'\n' + word + b',')
@@ -79,8 +90,8 @@ class Exchange:
             if setup is None:
                 raise CannotGoOn('there is no log yet: give a set-up (--setup FILE)')
             text = setup if setup.endswith(b'\n') else setup + b'\n'
-            if b'open' in (line.removesuffix(b'\r') for line in text.split(b'\n')):
-                raise CannotGoOn('the set-up has a line `open`: a script has none')
+            if (why := not_plain(text)) is not None:
+                raise CannotGoOn(f'the set-up has {why}')
         else:
             setup = None
         try:
