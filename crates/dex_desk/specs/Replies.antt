@@ -29,8 +29,8 @@ answer_to journals row = line_told
 abbrev pub answers_to : List PlainMarketJournal → List PlainRow → List ℕ
 answers_to journals rows = flat_map (answer_to journals) rows
 
--- the rows of a block acted, one at least, as a replay of them, and were answered by their entries there; what is left is a block
--- without rows, of the accounts that they leave
+-- the rows of a block acted, one at least, as a replay of them, and were answered by their entries there; what is left
+-- is a block without rows, of the accounts that they leave
 pub record HaveActed (before after : PlainBlock) (said : List ℕ) : Type 0 where
   pub some : 1 ≤ length before.draft.script.rows
   pub outcome : PlainOutcome

@@ -19,8 +19,8 @@ pub trait Desk {
     /// How often saying has failed.
     ghost mute: { Self → ℕ };
 
-    /// Puts the next bytes at the front of the buffer, and answers how many: 0 only at the end of input. The buffer is not
-    /// empty, so that no bytes heard is the end.
+    /// Puts the next bytes at the front of the buffer, and answers how many: 0 only at the end of input. The buffer is
+    /// not empty, so that no bytes heard is the end.
     fn hear(&mut self, buf: &mut [u8]) -> Result<usize, Failed>
         requires room { 0 < length buf.old }
         ensures within { IfOk result (λ n. n ≤ length buf.old) }

@@ -188,3 +188,57 @@ row-joined labels one two three last markets at coin pc discount referrer =
     ∙ sym (joined-append one (links at.pc) (links at.discount ++ links at.referrer))
     ∙ ap (λ (some : List ℕ). all_joined some (links at.pc ++ (links at.discount ++ links at.referrer))) coin
     ∙ sym (joined-append labels (links at.coin) (links at.pc ++ (links at.discount ++ links at.referrer)))
+
+-- ---- numbers that agree with all links agree with the labels
+
+module _ (tell : ℕ → ℕ) where
+  -- both places of a link have one number
+  abbrev pub Agrees : Link → Type 0
+  Agrees link = tell link.0 ≡ tell link.1
+
+  -- each place has the number of its label
+  abbrev pub Keeps : List ℕ → Type 0
+  Keeps labels = (place : ℕ) → place < length labels → tell (get_or labels place 0) ≡ tell place
+
+  joined-keeps : (labels : List ℕ) (link : Link) → IsWithin (length labels) link → Agrees link → Keeps labels → Keeps (joined labels link)
+  joined-keeps labels link within agrees keeps = λ place inside.
+      let join : IsJoined labels (joined labels link) link = is-joined labels link in
+      let own : place < length labels = omega (arith, inside, joined-long labels link) in
+      let label : ℕ = get_or labels place 0 in
+      let same : tell join.to ≡ tell join.from =
+      ⊎_elim
+      (λ (ends : (get_or labels link.0 0 ≡ join.to) × (get_or labels link.1 0 ≡ join.from)).
+      ap tell (sym ends.0) ∙ keeps link.0 within.0 ∙ agrees ∙ sym (keeps link.1 within.1) ∙ ap tell ends.1)
+      (λ (ends : (get_or labels link.0 0 ≡ join.from) × (get_or labels link.1 0 ≡ join.to)).
+      ap tell (sym ends.1) ∙ keeps link.1 within.1 ∙ sym agrees ∙ sym (keeps link.0 within.0) ∙ ap tell ends.0)
+      join.ends in
+      ap tell (label-at labels (joined labels link) join.from join.to place join.relabels.is own)
+      ∙ cond_both (eqb label join.from) join.to label (λ (n : ℕ). tell n ≡ tell place)
+      (λ taken. same ∙ ap tell (sym (eqb-true label join.from taken)) ∙ keeps place own) (λ left. keeps place own)
+
+  pub all-keep : (labels : List ℕ) (links : List Link) → All (IsWithin (length labels)) links → All Agrees links → Keeps labels → Keeps (all_joined labels links)
+  all-keep labels [] within agree keeps = keeps
+  all-keep labels (link ∷ links) within agree keeps =
+      let here : IsWithin (length labels) link = All-head (IsWithin (length labels)) link links within in
+      all-keep (joined labels link) links
+      (subst (λ (count : ℕ). All (IsWithin count) links) (sym (joined-long labels link)) (All-tail (IsWithin (length labels)) link links within))
+      (All-tail Agrees link links agree)
+      (joined-keeps labels link here (All-head Agrees link links agree) keeps)
+
+-- ---- labels never rise
+
+abbrev pub AreLow : List ℕ → Type 0
+AreLow labels = (place : ℕ) → place < length labels → get_or labels place 0 ≤ place
+
+joined-low : (labels : List ℕ) (link : Link) → AreLow labels → AreLow (joined labels link)
+joined-low labels link low = λ place inside.
+    let join : IsJoined labels (joined labels link) link = is-joined labels link in
+    let own : place < length labels = omega (arith, inside, joined-long labels link) in
+    let label : ℕ = get_or labels place 0 in
+    subst (λ (n : ℕ). n ≤ place) (sym (label-at labels (joined labels link) join.from join.to place join.relabels.is own))
+    (cond_both (eqb label join.from) join.to label (λ (n : ℕ). n ≤ place)
+    (λ taken. omega (arith, join.relabels.lower, eqb-true label join.from taken, low place own)) (λ left. low place own))
+
+pub all-low : (labels : List ℕ) (links : List Link) → AreLow labels → AreLow (all_joined labels links)
+all-low labels [] low = low
+all-low labels (link ∷ links) low = all-low (joined labels link) links (joined-low labels link low)

@@ -9,6 +9,7 @@ pub mod ShardLaws
 pub mod ShardWorths
 pub mod ShardSums
 pub mod JoinLaws
+pub mod LinkLaws
 pub mod ShardedLaws
 pub mod CutLaws
 pub mod AuditLaws

@@ -1,6 +1,6 @@
 -- What a shard leaves by itself is what the whole leaves of it.
-use Rattle.std.proofs.Common.{◌≡◌, ◌==◌, ◌≤◌, ℕ, suc, Bool, true, false, cond, List, [], ◌∷◌, get_or, arith, map, Option, refl, sym, ap, ◌∙◌, subst}
-use Rattle.std.specs.List.{All, AllZip, filter}
+use Rattle.std.proofs.Common.{◌≡◌, ◌==◌, ℕ, suc, Bool, true, false, cond, List, [], ◌∷◌, get_or, arith, map, Option, refl, sym, ap, ◌∙◌, subst}
+use Rattle.std.specs.List.{All, AllPairs, AllZip, filter}
 use Rattle.std.proofs.lemmas.List.Elements.{All-cons, filter_agree}
 use Rattle.dex_types.specs.declared.addresses.Address.{Address}
 use Rattle.dex_types.specs.declared.rows.WalletSeen.{WalletSeen}
@@ -15,9 +15,9 @@ use Rattle.dex_fold.specs.World.{MarketState, WalletState, World}
 use Rattle.dex_fold.proofs.GroupLaws.{EachTwo}
 use Rattle.dex_fold.proofs.MappedLists.{filter-of, head-same, tail-same}
 use Rattle.dex_state.specs.Outcomes.{PlainMarketJournal, PlainOutcome, PlainWalletJournal}
-use Rattle.dex_script_facts.specs.Facts.{AreRows}
 use Rattle.dex_script_facts.specs.PlainScript.{PlainScript}
-use Rattle.dex_replay.specs.Replays.{IsReplayOf, market_state, start_world, wallet_state, with_amounts, world_after}
+use Rattle.dex_replay.specs.Acting.{NeverFalls}
+use Rattle.dex_replay.specs.Replays.{IsLeftIn, IsReplayOf, market_state, start_world, wallet_state, with_amounts, world_after}
 use Rattle.dex_replay.proofs.Groups.{each-two, each-two-weaker, grouped-each, grouped-filter, grouped-number, grouped-two}
 use Rattle.dex_replay.proofs.LastAccounts.{listing-in}
 use Rattle.dex_parts.specs.Shards.{AreOfOneShard, FallsInto, IsItemOfOneShard, IsLeftInShard, IsOfOneShard, IsShardOf, Sharding, has_market, has_wallet, items_in, market_journals_in, markets_in, rows_in, wallet_journals_in, wallets_in, world_in}
@@ -67,7 +67,7 @@ module _ (sharding : Sharding) (shard : ℕ) where
 
   -- ---- the script's items fall into the shards as its rows do
 
-  module _ (script : PlainScript) (rows : AreRows script) (falls : FallsInto sharding script) where
+  module _ (script : PlainScript) (rising : AllPairs NeverFalls script.rows) (falls : FallsInto sharding script) where
     abbrev number_of : PlainRow → ℕ
     number_of row = row.number
 
@@ -78,7 +78,7 @@ module _ (sharding : Sharding) (shard : ℕ) where
     own-items =
         let own : PlainRow → Bool = λ (row : PlainRow). has_market sharding shard row.market in
         grouped-filter number_of own script.rows
-        (each-two (λ one other. one.number ≤ other.number) script.rows rows.rising)
+        (each-two NeverFalls script.rows rising)
         (each-two-weaker (AreOfOneShard sharding) (λ one other. one.number ≡ other.number → own one ≡ own other)
         (λ one other legs same. ap (λ (n : ℕ). n == shard) (legs same)) script.rows legs-two)
 
@@ -171,6 +171,11 @@ module _ (sharding : Sharding) (shard : ℕ) where
               (λ accounts state stands. ap (has_market sharding shard) stands.address) all.accounts.markets whole.markets replay.stand);
         }
 
-pub shard-left : (sharding : Sharding) (script : PlainScript) → AreRows script → FallsInto sharding script → (shard : ℕ) (part : PlainScript) (all left : PlainOutcome)
-    → IsShardOf sharding shard script part → IsReplayOf script all → IsReplayOf part left → IsLeftInShard sharding shard all left
-shard-left sharding script rows falls shard part all left is replay replay_own = left-in sharding shard script rows falls part is all left replay replay_own
+pub shard-leaves : (sharding : Sharding) (script : PlainScript) → AllPairs NeverFalls script.rows → FallsInto sharding script → (shard : ℕ) (part : PlainScript)
+    (left : PlainOutcome) → IsShardOf sharding shard script part → IsReplayOf part left → IsLeftIn part (world_in sharding shard (world_after script (items_of script.rows))) left
+shard-leaves sharding script rising falls shard part left is replay =
+    subst (λ (world : World). IsLeftIn part world left) (world-own sharding shard script rising falls part is) replay
+
+pub shard-left : (sharding : Sharding) (script : PlainScript) → AllPairs NeverFalls script.rows → FallsInto sharding script → (shard : ℕ) (part : PlainScript)
+    (all left : PlainOutcome) → IsShardOf sharding shard script part → IsReplayOf script all → IsReplayOf part left → IsLeftInShard sharding shard all left
+shard-left sharding script rising falls shard part all left is replay replay_own = left-in sharding shard script rising falls part is all left replay replay_own

@@ -1,6 +1,6 @@
 -- The worths of a shard's accounts are those of the whole.
 use Rattle.std.proofs.Common.{◌≡◌, ◌==◌, ℕ, ℤ, pos, ◌+ℤ◌, ◌-ℤ◌, Bool, true, false, cond, List, [], ◌∷◌, ◌++◌, get_or, map, Option, Some, None, refl, sym, ap, ◌∙◌}
-use Rattle.std.specs.List.{All, AllZip, filter}
+use Rattle.std.specs.List.{All, AllPairs, AllZip, filter}
 use Rattle.std.specs.Option.{unwrap_or}
 use Rattle.std.proofs.lemmas.Bool.{and_parts, both_ways, cond-false, cond_both}
 use Rattle.std.proofs.lemmas.List.Elements.{All-head, All-map, All-tail, filter-append}
@@ -26,10 +26,10 @@ use Rattle.dex_fold.proofs.MappedLists.{head-same, tail-same}
 use Rattle.dex_fold.proofs.NameLaws.{coin-named, discount-named, pc-named, referrer-named}
 use Rattle.dex_fold.specs.Fold.{names}
 use Rattle.dex_state.specs.Outcomes.{PlainMarketJournal, PlainOutcome}
-use Rattle.dex_script_facts.specs.Facts.{AreRows}
 use Rattle.dex_script_facts.specs.Firsts.{first_of}
 use Rattle.dex_script_facts.specs.PlainScript.{PlainScript}
 use Rattle.dex_replay.proofs.Groups.{filter-all, filter-none}
+use Rattle.dex_replay.specs.Acting.{NeverFalls}
 use Rattle.dex_replay.specs.Alike.{StandForOne}
 use Rattle.dex_replay.specs.EntryCalls.{call_by, call_told, calls_told, is_row_on, role_told, seen_told, wallet_told, with_call}
 use Rattle.dex_replay.specs.Replays.{IsReplayOf}
@@ -177,11 +177,11 @@ tables-alike script (x ∷ xs) (y ∷ ys) (journal ∷ journals) alike =
     ap (λ (rows : List PlainWorthRow). rows ++ tables_told script xs journals) (rows-alike script x y journal alike.0)
     ∙ ap (λ (rows : List PlainWorthRow). rows_told script y journal ++ rows) (tables-alike script xs ys journals alike.1)
 
-pub shard-worth : (sharding : Sharding) (script : PlainScript) → AreRows script → FallsInto sharding script → (shard : ℕ) (part : PlainScript) (all left : PlainOutcome)
+pub shard-worth : (sharding : Sharding) (script : PlainScript) → AllPairs NeverFalls script.rows → FallsInto sharding script → (shard : ℕ) (part : PlainScript) (all left : PlainOutcome)
     → IsShardOf sharding shard script part → IsReplayOf script all → IsReplayOf part left
     → table_told part left ≡ filter (λ (row : PlainWorthRow). has_market sharding shard row.market) (table_told script all)
-shard-worth sharding script rows falls shard part all left is replay replay_own =
-    let own : IsLeftInShard sharding shard all left = shard-left sharding script rows falls shard part all left is replay replay_own in
+shard-worth sharding script rising falls shard part all left is replay replay_own =
+    let own : IsLeftInShard sharding shard all left = shard-left sharding script rising falls shard part all left is replay replay_own in
     tables-alike part left.accounts.markets (markets_in sharding shard all.accounts.markets) left.markets own.markets
     ∙ ap (tables_told part (markets_in sharding shard all.accounts.markets)) own.market_journals
     ∙ tables-in sharding shard script part falls is all.accounts.markets all.markets

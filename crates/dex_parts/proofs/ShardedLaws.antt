@@ -1,47 +1,30 @@
 -- Scripts fall into the shards that joined labels tell.
-use Rattle.std.proofs.Common.{◌≡◌, ◌<◌, ◌≤◌, ◌+◌, ◌||◌, ℕ, zero, suc, true, false, eqb, ltb, List, [], ◌∷◌, ◌++◌, Option, Some, None, drop, get_or, length, map, take, refl, sym, ap, ◌∙◌, subst, arith, ⊎_elim}
+use Rattle.std.proofs.Common.{◌≡◌, ◌<◌, ◌≤◌, ◌+◌, ◌||◌, ℕ, zero, suc, true, false, ◌-◌, cond, eqb, ltb, List, [], ◌∷◌, ◌++◌, Option, Some, None, drop, get_or, length, map, take, refl, sym, ap, ◌∙◌, subst, arith, ⊎_elim}
 use Rattle.std.specs.List.{All, AllPairs}
-use Rattle.std.proofs.lemmas.Bool.{cond-true, cond_both, eq-eqb, false≢true, lt-ltb, or_cases}
-use Rattle.std.proofs.lemmas.List.{get_or-drop, get_or-map, get_or-take, length-append, length-drop, length-map, length-take-le}
-use Rattle.std.proofs.lemmas.List.Elements.{All-append, All-cons, All-head, All-nil}
+use Rattle.std.proofs.lemmas.Bool.{both_ways, cases_eq, cond-false, cond-true, eq-eqb, false≢true, le-ltb, lt-ltb, ne_eqb, or_cases}
+use Rattle.std.proofs.lemmas.List.{get_or-drop, get_or-map, get_or-take, length-drop, length-map, length-take-le}
+use Rattle.std.proofs.lemmas.List.Elements.{All-cons, All-head, All-nil}
 use Rattle.dex_types.specs.declared.addresses.Address.{Address}
 use Rattle.dex_types.specs.declared.rows.RowPlaces.{RowPlaces}
-use Rattle.dex_types.specs.Accounts.{PlainAccounts}
+use Rattle.dex_types.specs.Accounts.{PlainAccount, PlainAccounts, PlainMarketAccounts}
 use Rattle.dex_types.specs.Rows.{PlainRow}
 use Rattle.dex_laws.proofs.TraderLaws.{is_same-true}
-use Rattle.dex_fold.specs.Fold.{is_role}
+use Rattle.dex_fold.specs.Fold.{is_role, names}
 use Rattle.dex_fold.proofs.GroupLaws.{EachTwo}
 use Rattle.dex_fold.proofs.MappedLists.{All-front, zip-map}
 use Rattle.dex_fold.proofs.NameLaws.{in_roles, names-roles}
-use Rattle.dex_script_facts.specs.Places.{AreBeside, ArePlaced, IsBeside, IsMarked, IsPlaced, IsRolePlaced, market_place, wallet_place}
-use Rattle.dex_script_facts.proofs.PlacedLaws.{market-within, wallet-within}
+use Rattle.dex_script_facts.specs.Places.{AreBeside, ArePlaced, IsBeside, IsPlaced, IsRolePlaced, market_place, wallet_place}
+use Rattle.dex_script_facts.proofs.PlacedLaws.{market-here, market-within, wallet-here, wallet-within}
 use Rattle.dex_parts.specs.Joins.{IsWithin, Link, leg_links, links_of, role_links, row_links}
 use Rattle.dex_parts.specs.Numbers.{in_market, labels_of, market_shards, numbers_to, row_shards, wallet_shards}
 use Rattle.dex_parts.specs.Sharded.{AreShardsOf, number_at, sharding_by}
 use Rattle.dex_parts.specs.Shards.{AreOfOneShard, FallsInto, IsOfOneShard, Sharding}
-use Rattle.dex_parts.proofs.JoinLaws.{HasOne, all-one, joined-all-long}
+use Rattle.dex_parts.proofs.JoinLaws.{Agrees, HasOne, Keeps, all-keep, all-low, all-one}
+use Rattle.dex_parts.proofs.LinkLaws.{LegsAgree, RowAgrees, labels-long, links-agree, links-within, markets-on, numbers-at, numbers-long}
 use Rattle.dex_parts.proofs.ListLaws.{All-behind}
-use Rattle.dex_replay.proofs.Groups.{each-two}
+use Rattle.dex_replay.proofs.Groups.{each-two, each-two-weaker}
 use Rattle.dex_script_facts.specs.Facts.{AreRows}
 use Rattle.dex_script_facts.specs.PlainScript.{PlainScript}
-
--- ---- how many numbers there are
-
-pub numbers-long : (count : ℕ) → length (numbers_to count) ≡ count
-numbers-long zero = refl
-numbers-long (suc count) = omega (arith, length-append (numbers_to count) (count ∷ []), numbers-long count)
-
-pub numbers-more : (count : ℕ) → numbers_to (count + 1) ≡ numbers_to count ++ count ∷ []
-numbers-more count = let next : count + 1 ≡ suc count = omega arith in ap numbers_to next
-
--- what is within is within the first numbers
-pub within-numbers : (markets wallets : ℕ) (labels : List ℕ) (links : List Link) → labels ≡ numbers_to (markets + wallets) → All (IsWithin (markets + wallets)) links
-    → All (IsWithin (length labels)) links
-within-numbers markets wallets labels links is within =
-    subst (λ (count : ℕ). All (IsWithin count) links) (sym (ap (λ (all : List ℕ). length all) is ∙ numbers-long (markets + wallets))) within
-
-pub labels-long : (markets wallets : ℕ) (places : List RowPlaces) → length (labels_of markets wallets places) ≡ markets + wallets
-labels-long markets wallets places = joined-all-long (numbers_to (markets + wallets)) (links_of markets places) ∙ numbers-long (markets + wallets)
 
 -- each two, from places
 two-each : {A : Type 0} (R : A → A → Type 0) (xs : List A) → EachTwo R xs → AllPairs R xs
@@ -57,55 +40,6 @@ module _ (start : PlainAccounts) where
 
   abbrev wallets : ℕ
   wallets = length start.wallets
-
-  -- ---- what rows join is within
-
-  role-links-within : (role : Option Address) (market place : ℕ) → IsRolePlaced start.wallets role place → IsMarked role place → market < markets
-      → All (IsWithin (markets + wallets)) (role_links markets market place)
-  role-links-within None market place placed marked within =
-      subst (λ (n : ℕ). All (IsWithin (markets + wallets)) (role_links markets market n)) (sym marked) (All-nil (IsWithin (markets + wallets)))
-  role-links-within (Some address) market place placed marked within =
-      let below : place < wallets = wallet-within address start.wallets place placed in
-      cond_both (ltb place 65535) ((market, markets + place) ∷ []) [] (All (IsWithin (markets + wallets)))
-      (λ named. All-cons (IsWithin (markets + wallets)) (market, markets + place) [] (omega (arith, within), omega (arith, below)) (All-nil (IsWithin (markets + wallets))))
-      (λ none. All-nil (IsWithin (markets + wallets)))
-
-  row-links-within : (row : PlainRow) (at : RowPlaces) → IsPlaced start row at → IsBeside row at → All (IsWithin (markets + wallets)) (row_links markets at)
-  row-links-within row at placed beside =
-      let Within : Link → Type 0 = IsWithin (markets + wallets) in
-      let on : at.market < markets = market-within row.market start.markets at.market placed.market in
-      let links : ℕ → List Link = role_links markets at.market in
-      All-append Within (links at.coin) (links at.pc ++ (links at.discount ++ links at.referrer)) (role-links-within row.coin at.market at.coin placed.coin beside.coin on)
-      (All-append Within (links at.pc) (links at.discount ++ links at.referrer) (role-links-within row.pc at.market at.pc placed.pc beside.pc on)
-      (All-append Within (links at.discount) (links at.referrer) (role-links-within row.discount at.market at.discount placed.discount beside.discount on)
-      (role-links-within row.referrer at.market at.referrer placed.referrer beside.referrer on)))
-
-  leg-links-within : (at : RowPlaces) (others : List RowPlaces) (rows : List PlainRow) → at.market < markets → ArePlaced start rows others
-      → All (IsWithin (markets + wallets)) (leg_links at others)
-  leg-links-within at [] rows on placed = All-nil (IsWithin (markets + wallets))
-  leg-links-within at (next ∷ others) [] on placed = absurd placed
-  leg-links-within at (next ∷ others) (row ∷ rows) on placed =
-      let behind : next.market < markets = market-within row.market start.markets next.market placed.0.market in
-      cond_both (eqb at.number next.number) ((at.market, next.market) ∷ []) [] (All (IsWithin (markets + wallets)))
-      (λ same. All-cons (IsWithin (markets + wallets)) (at.market, next.market) [] (omega (arith, on), omega (arith, behind)) (All-nil (IsWithin (markets + wallets))))
-      (λ apart. All-nil (IsWithin (markets + wallets)))
-
-  pub links-within : (rows : List PlainRow) (places : List RowPlaces) → ArePlaced start rows places → AreBeside rows places → All (IsWithin (markets + wallets)) (links_of markets places)
-  links-within [] [] placed beside = All-nil (IsWithin (markets + wallets))
-  links-within [] (at ∷ places) placed beside = absurd placed
-  links-within (row ∷ rows) [] placed beside = absurd placed
-  links-within (row ∷ rows) (at ∷ places) placed beside =
-      let Within : Link → Type 0 = IsWithin (markets + wallets) in
-      let on : at.market < markets = market-within row.market start.markets at.market placed.0.market in
-      All-append Within (row_links markets at) (leg_links at places ++ links_of markets places) (row-links-within row at placed.0 beside.0)
-      (All-append Within (leg_links at places) (links_of markets places) (leg-links-within at places rows on placed.1) (links-within rows places placed.1 beside.1))
-
-  pub markets-on : (rows : List PlainRow) (places : List RowPlaces) → ArePlaced start rows places → All (λ (at : RowPlaces). at.market < markets) places
-  markets-on [] [] placed = All-nil (λ (at : RowPlaces). at.market < markets)
-  markets-on [] (at ∷ places) placed = absurd placed
-  markets-on (row ∷ rows) [] placed = absurd placed
-  markets-on (row ∷ rows) (at ∷ places) placed =
-      All-cons (λ (one : RowPlaces). one.market < markets) at places (market-within row.market start.markets at.market placed.0.market) (markets-on rows places placed.1)
 
   -- ---- shards
 
@@ -228,35 +162,186 @@ module _ (start : PlainAccounts) where
 
 -- ---- a script
 
-pub are-shards : (script : PlainScript) (places : List RowPlaces) (markets wallets rows : List ℕ) → AreRows script → length script.start.wallets ≤ 256
-    → ArePlaced script.start script.rows places → AreBeside script.rows places
-    → markets ≡ market_shards (length script.start.markets) (length script.start.wallets) places
-    → wallets ≡ wallet_shards (length script.start.markets) (length script.start.wallets) places → rows ≡ row_shards markets places
-    → AreShardsOf script markets wallets rows
-are-shards script places markets wallets rows facts few placed beside of_markets of_wallets of_rows =
-    let start : PlainAccounts = script.start in
-    let many : ℕ = length start.markets in
-    let count : ℕ = many + length start.wallets in
-    let labels : List ℕ = labels_of many (length start.wallets) places in
-    let numbers : length (numbers_to count) ≡ count = numbers-long count in
-    let long : length labels ≡ count = joined-all-long (numbers_to count) (links_of many places) ∙ numbers in
-    let one : All (HasOne labels) (links_of many places) =
-    all-one (numbers_to count) (links_of many places)
-    (subst (λ (n : ℕ). All (IsWithin n) (links_of many places)) (sym numbers) (links-within start script.rows places placed beside)) in
-    let falls : FallsInto (sharding_by start (market_shards many (length start.wallets) places) (wallet_shards many (length start.wallets) places)) script = record {
-      rows = rows-fall start labels long few script.rows places placed one;
-      legs = two-each (AreOfOneShard (sharding_by start (market_shards many (length start.wallets) places) (wallet_shards many (length start.wallets) places))) script.rows
-          (all-legs-fall start labels long few script.rows places placed beside (each-two (λ (a b : PlainRow). a.number ≤ b.number) script.rows facts.rising) one);
-    } in
-    record {
-      falls = subst (λ (some : List ℕ). FallsInto (sharding_by start some wallets) script) (sym of_markets)
-          (subst (λ (some : List ℕ). FallsInto (sharding_by start (market_shards many (length start.wallets) places) some) script) (sym of_wallets) falls);
-      rows = of_rows
-          ∙ zip-map (IsPlaced start) (λ (row : PlainRow). number_at (market_place row.market start.markets) markets) (λ (at : RowPlaces). get_or markets at.market 0)
-          (λ row at is. ap (λ (found : Option ℕ). number_at found markets) (sym is.market)) script.rows places placed;
-      markets = ap (λ (some : List ℕ). length some) of_markets ∙ length-map (take many labels) (in_market many) ∙ length-take-le many labels (omega (arith, long));
-      wallets = ap (λ (some : List ℕ). length some) of_wallets ∙ length-map (drop many labels) (in_market many) ∙ omega (arith, length-drop many labels, long);
-    }
+module _ (script : PlainScript) (places : List RowPlaces) (facts : AreRows script) (few : length script.start.wallets ≤ 256)
+    (placed : ArePlaced script.start script.rows places) (beside : AreBeside script.rows places) where
+  abbrev start : PlainAccounts
+  start = script.start
+
+  abbrev market_count : ℕ
+  market_count = length start.markets
+
+  abbrev count : ℕ
+  count = market_count + length start.wallets
+
+  abbrev links : List Link
+  links = links_of market_count places
+
+  abbrev labels : List ℕ
+  labels = labels_of market_count (length start.wallets) places
+
+  abbrev own_markets : List ℕ
+  own_markets = market_shards market_count (length start.wallets) places
+
+  abbrev own_wallets : List ℕ
+  own_wallets = wallet_shards market_count (length start.wallets) places
+
+  long : length labels ≡ count
+  long = labels-long market_count (length start.wallets) places
+
+  within : All (IsWithin (length (numbers_to count))) links
+  within = subst (λ (n : ℕ). All (IsWithin n) links) (sym (numbers-long count)) (links-within start script.rows places placed beside)
+
+  one : All (HasOne labels) links
+  one = all-one (numbers_to count) links within
+
+  -- a place has its own label, where it is told apart by what agrees with all rows
+  keeps : (tell : ℕ → ℕ) → All (Agrees tell) links → Keeps tell labels
+  keeps tell agree =
+      all-keep tell (numbers_to count) links within agree
+      (λ place inside. ap tell (numbers-at count place (omega (arith, inside, numbers-long count))))
+
+  label-low : (place : ℕ) → place < count → get_or labels place 0 ≤ place
+  label-low place inside =
+      all-low (numbers_to count) links (λ at within_at. omega (arith, numbers-at count at (omega (arith, within_at, numbers-long count)))) place (omega (arith, inside, long))
+
+  -- the label of a label
+  label-first : (place : ℕ) → place < count → get_or labels (get_or labels place 0) 0 ≡ get_or labels place 0
+  label-first place inside = keeps (λ (n : ℕ). get_or labels n 0) one place (omega (arith, inside, long))
+
+  -- the number of a market is its label
+  market-label : (place : ℕ) → place < market_count → get_or own_markets place 0 ≡ get_or labels place 0
+  market-label place inside =
+      market-shard start labels long few place inside
+      ∙ cond-true (ltb (get_or labels place 0) market_count) (get_or labels place 0) 0
+      (lt-ltb (get_or labels place 0) market_count (omega (arith, inside, label-low place (omega (arith, inside)))))
+
+  shard-low : (place : ℕ) → place < market_count → get_or own_markets place 0 ≤ place
+  shard-low place inside = omega (arith, market-label place inside, label-low place (omega (arith, inside)))
+
+  shard-first : (place : ℕ) → place < market_count → get_or own_markets (get_or own_markets place 0) 0 ≡ get_or own_markets place 0
+  shard-first place inside =
+      let label : ℕ = get_or labels place 0 in
+      let low : label ≤ place = label-low place (omega (arith, inside)) in
+      ap (λ (n : ℕ). get_or own_markets n 0) (market-label place inside)
+      ∙ market-label label (omega (arith, low, inside))
+      ∙ label-first place (omega (arith, inside))
+      ∙ sym (market-label place inside)
+
+  rising_two : EachTwo (λ (a b : PlainRow). a.number ≤ b.number) script.rows
+  rising_two = each-two (λ (a b : PlainRow). a.number ≤ b.number) script.rows facts.rising
+
+  -- ---- wallets that no row names
+
+  module _ (wallet : Address) (unnamed : All (λ (row : PlainRow). names row wallet ≡ false) script.rows) where
+    lone-at : (found : Option ℕ) → wallet_place wallet start.wallets ≡ found → number_at found own_wallets ≡ 0
+    lone-at None is = refl
+    lone-at (Some place) is =
+        let inside : place < length start.wallets = wallet-within wallet start.wallets place is in
+        let own : ℕ = market_count + place in
+        let tell : ℕ → ℕ = λ (n : ℕ). cond (eqb n own) 1 0 in
+        let of_market : (n : ℕ) → n < market_count → tell n ≡ 0 = λ n below. cond-false (eqb n own) 1 0 (ne_eqb n own (λ same. omega (arith, below, same))) in
+        let rows_agree : All (RowAgrees start tell) script.rows =
+        λ k d at market other_place other on named found.
+        of_market market (market-within (get_or script.rows k d).market start.markets market on)
+        ∙ sym (cond-false (eqb (market_count + other_place) own) 1 0
+        (ne_eqb (market_count + other_place) own (λ same.
+        let one_place : other_place ≡ place = omega (arith, same) in
+        let here : PlainAccount = record { address = wallet; bytes = [] } in
+        let one_wallet : other ≡ wallet =
+        sym (wallet-here other start.wallets place here (found ∙ ap (λ (n : ℕ). Some n) one_place)) ∙ wallet-here wallet start.wallets place here is in
+        both_ways (names (get_or script.rows k d) wallet) (unnamed k d at) (ap (names (get_or script.rows k d)) (sym one_wallet) ∙ named)))) in
+        let legs_agree : EachTwo (LegsAgree start tell) script.rows =
+        each-two-weaker (λ (a b : PlainRow). a.number ≤ b.number) (LegsAgree start tell)
+        (λ a b rises same market other_market on other_on.
+        of_market market (market-within a.market start.markets market on) ∙ sym (of_market other_market (market-within b.market start.markets other_market other_on))) script.rows rising_two in
+        let kept : tell (get_or labels own 0) ≡ tell own =
+        keeps tell (links-agree start tell script.rows places rows_agree legs_agree placed beside) own (omega (arith, inside, long)) in
+        let marked : ◌≡◌ {A = ℕ} (tell own) 1 = cond-true (eqb own own) 1 0 (eq-eqb own own refl) in
+        let label_own : get_or labels own 0 ≡ own = own-label (get_or labels own 0) own (kept ∙ marked) in
+        wallet-shard start labels long few place inside
+        ∙ ap (in_market market_count) label_own
+        ∙ cond-false (ltb own market_count) own 0 (le-ltb own market_count (omega arith))
+      where
+        own-label : (n own : ℕ) → ◌≡◌ {A = ℕ} (cond (eqb n own) 1 0) 1 → n ≡ own
+        own-label n own told =
+            ⊎_elim (λ (same : n ≡ own). same)
+            (λ (apart : n ≡ own → ⊥). absurd (omega (arith, told, cond-false {A = ℕ} (eqb n own) 1 0 (ne_eqb n own apart)))) (cases_eq n own)
+
+    shard-lone : (sharding_by start own_markets own_wallets).wallet wallet ≡ 0
+    shard-lone = lone-at (wallet_place wallet start.wallets) refl
+
+  -- ---- other shards
+
+  module _ (other : Sharding) (falls : FallsInto other script) (default : PlainMarketAccounts) where
+    abbrev blank : PlainAccount
+    blank = record { address = default.address; bytes = [] }
+
+    -- the other shard of a place
+    abbrev from_market : ℕ → ℕ
+    from_market n = other.market (get_or start.markets n default).address
+
+    abbrev from_wallet : ℕ → ℕ
+    from_wallet n = other.wallet (get_or start.wallets n blank).address
+
+    abbrev other_shard : ℕ → ℕ
+    other_shard n = cond (ltb n market_count) (from_market n) (from_wallet (n - market_count))
+
+    of-market : (address : Address) (place : ℕ) → market_place address start.markets ≡ Some place → other_shard place ≡ other.market address
+    of-market address place is =
+        cond-true (ltb place market_count) (from_market place) (from_wallet (place - market_count))
+        (lt-ltb place market_count (market-within address start.markets place is))
+        ∙ ap other.market (market-here address start.markets place default is)
+
+    of-wallet : (address : Address) (place : ℕ) → wallet_place address start.wallets ≡ Some place → other_shard (market_count + place) ≡ other.wallet address
+    of-wallet address place is =
+        let at : ◌≡◌ {A = ℕ} (market_count + place - market_count) place = omega arith in
+        cond-false (ltb (market_count + place) market_count) (from_market (market_count + place)) (from_wallet (market_count + place - market_count))
+        (le-ltb (market_count + place) market_count (omega arith))
+        ∙ ap from_wallet at
+        ∙ ap other.wallet (wallet-here address start.wallets place blank is)
+
+    others-agree : All (Agrees other_shard) links
+    others-agree =
+        links-agree start other_shard script.rows places
+        (λ k d inside market place wallet on named found.
+        of-market (get_or script.rows k d).market market on ∙ sym (falls.rows k d inside wallet named) ∙ sym (of-wallet wallet place found))
+        (each-two-weaker (AreOfOneShard other) (LegsAgree start other_shard)
+        (λ a b legs same market other_market on other_on. of-market a.market market on ∙ legs same ∙ sym (of-market b.market other_market other_on))
+        script.rows (each-two (AreOfOneShard other) script.rows falls.legs))
+        placed beside
+
+    shard-fine : (first second : ℕ) → first < market_count → second < market_count → get_or own_markets first 0 ≡ get_or own_markets second 0
+        → other.market (get_or start.markets first default).address ≡ other.market (get_or start.markets second default).address
+    shard-fine first second inside inside_second same =
+        let kept : Keeps other_shard labels = keeps other_shard others-agree in
+        sym (cond-true (ltb first market_count) (from_market first) (from_wallet (first - market_count)) (lt-ltb first market_count inside))
+        ∙ sym (kept first (omega (arith, inside, long)))
+        ∙ ap other_shard (sym (market-label first inside) ∙ same ∙ market-label second inside_second)
+        ∙ kept second (omega (arith, inside_second, long))
+        ∙ cond-true (ltb second market_count) (from_market second) (from_wallet (second - market_count)) (lt-ltb second market_count inside_second)
+
+  -- ---- all together
+
+  pub are-shards : AreShardsOf script own_markets own_wallets (row_shards own_markets places)
+  are-shards =
+      let markets_long : length own_markets ≡ market_count =
+      length-map (take market_count labels) (in_market market_count) ∙ length-take-le market_count labels (omega (arith, long)) in
+      record {
+        falls = record {
+          rows = rows-fall start labels long few script.rows places placed one;
+          legs = two-each (AreOfOneShard (sharding_by start own_markets own_wallets)) script.rows
+              (all-legs-fall start labels long few script.rows places placed beside rising_two one);
+        };
+        rows = zip-map (IsPlaced start) (λ (row : PlainRow). number_at (market_place row.market start.markets) own_markets) (λ (at : RowPlaces). get_or own_markets at.market 0)
+            (λ row at is. ap (λ (found : Option ℕ). number_at found own_markets) (sym is.market)) script.rows places placed;
+        markets = markets_long;
+        wallets = length-map (drop market_count labels) (in_market market_count) ∙ omega (arith, length-drop market_count labels, long);
+        low = λ place inside. shard-low place (omega (arith, inside, markets_long));
+        first = λ place inside. shard-first place (omega (arith, inside, markets_long));
+        lone = shard-lone;
+        fine = λ other falls first second default inside inside_second same.
+            shard-fine other falls default first second (omega (arith, inside, markets_long)) (omega (arith, inside_second, markets_long)) same;
+      }
 
 -- ---- the same, of counts and places that are the script's
 
@@ -278,9 +363,15 @@ pub own-shards : (script : PlainScript) (places own : List RowPlaces) (markets w
     → (of_markets of_wallets of_rows : List ℕ) → of_markets ≡ market_shards markets wallets own → of_wallets ≡ wallet_shards markets wallets own → of_rows ≡ row_shards of_markets own
     → AreShardsOf script of_markets of_wallets of_rows
 own-shards script places own markets wallets many more same placed beside facts few of_markets of_wallets of_rows is_markets is_wallets is_rows =
-    are-shards script places of_markets of_wallets of_rows facts few placed beside
-    (is_markets ∙ ap (market_shards markets wallets) same ∙ ap (λ (n : ℕ). market_shards n wallets places) (sym many)
-    ∙ ap (λ (n : ℕ). market_shards (length script.start.markets) n places) (sym more))
-    (is_wallets ∙ ap (wallet_shards markets wallets) same ∙ ap (λ (n : ℕ). wallet_shards n wallets places) (sym many)
-    ∙ ap (λ (n : ℕ). wallet_shards (length script.start.markets) n places) (sym more))
-    (is_rows ∙ ap (row_shards of_markets) same)
+    let first : of_markets ≡ market_shards (length script.start.markets) (length script.start.wallets) places =
+    is_markets ∙ ap (market_shards markets wallets) same ∙ ap (λ (n : ℕ). market_shards n wallets places) (sym many)
+    ∙ ap (λ (n : ℕ). market_shards (length script.start.markets) n places) (sym more) in
+    let second : of_wallets ≡ wallet_shards (length script.start.markets) (length script.start.wallets) places =
+    is_wallets ∙ ap (wallet_shards markets wallets) same ∙ ap (λ (n : ℕ). wallet_shards n wallets places) (sym many)
+    ∙ ap (λ (n : ℕ). wallet_shards (length script.start.markets) n places) (sym more) in
+    subst (λ (numbers : List ℕ). AreShardsOf script numbers of_wallets of_rows) (sym first)
+    (subst (λ (numbers : List ℕ). AreShardsOf script (market_shards (length script.start.markets) (length script.start.wallets) places) numbers of_rows) (sym second)
+    (subst (λ (numbers : List ℕ). AreShardsOf script (market_shards (length script.start.markets) (length script.start.wallets) places)
+    (wallet_shards (length script.start.markets) (length script.start.wallets) places) numbers)
+    (sym (is_rows ∙ ap (λ (numbers : List ℕ). row_shards numbers own) first ∙ ap (row_shards (market_shards (length script.start.markets) (length script.start.wallets) places)) same))
+    (are-shards script places facts few placed beside)))

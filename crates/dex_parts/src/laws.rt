@@ -1,7 +1,7 @@
 //! Laws of scripts in parts. Each is a function without a body, and its clauses are the law.
 
 ghost use Rattle.std.specs.Prelude.{◌≡◌, ◌++◌, ◌∷◌, ◌<◌, ◌↔◌, ℕ, List, All, map};
-ghost use Rattle.std.specs.List.{Contains, filter};
+ghost use Rattle.std.specs.List.{AllPairs, Contains, filter};
 ghost use Rattle.dex_types.specs.declared.addresses.Address.{Address};
 ghost use Rattle.dex_types.specs.Accounts.{PlainAccount, PlainAccounts, PlainMarketAccounts};
 ghost use Rattle.dex_audit.specs.Findings.{told};
@@ -9,14 +9,14 @@ ghost use Rattle.dex_audit.specs.Supplies.{supply_off};
 ghost use Rattle.dex_audit_rules.specs.Funds.{differs};
 ghost use Rattle.dex_audit_rules.specs.declared.finding.Finding.{Finding};
 ghost use Rattle.dex_audit_rules.specs.declared.market.Rule.{Rule};
-ghost use Rattle.dex_fold.specs.Items.{Item, fold_items};
+ghost use Rattle.dex_fold.specs.Items.{Item, fold_items, items_of};
 ghost use Rattle.dex_fold.specs.World.{World};
 ghost use Rattle.dex_state.specs.Conserved.{held_of};
 ghost use Rattle.dex_state.specs.Outcomes.{PlainOutcome};
-ghost use Rattle.dex_script_facts.specs.Facts.{AreRows};
 ghost use Rattle.dex_script_facts.specs.PlainScript.{PlainScript};
+ghost use Rattle.dex_replay.specs.Acting.{NeverFalls};
 ghost use Rattle.dex_replay.specs.Alike.{AreAlike};
-ghost use Rattle.dex_replay.specs.Replays.{IsReplayOf};
+ghost use Rattle.dex_replay.specs.Replays.{IsLeftIn, IsReplayOf, world_after};
 ghost use Rattle.dex_replay.specs.WorthTold.{PlainWorthRow, table_told};
 ghost use Rattle.dex_token.specs.MintAccount.{mint_words};
 ghost use Rattle.dex_parts.specs.Audits.{IsFoundIn};
@@ -61,19 +61,24 @@ pub fn rows_counted_anew_leave_the_same()
         → IsReplayOf script outcome → IsReplayOf (script_with number script) (outcome_with number outcome) }
 {}
 
-/// A script that falls into shards is these shards: what a shard leaves by itself is what the whole leaves of the shard's markets and
-/// wallets. So no row of another shard is missed, and shards may be replayed apart.
+/// A script that falls into shards is these shards: a replay of a shard leaves what the whole leaves of the shard's markets and wallets,
+/// also where the whole has more rows, markets or wallets than a script may have. So shards may be replayed apart.
 pub fn shards_are_the_whole()
     ensures world { (sharding : Sharding) (shard : ℕ) (items : List Item) (world : World)
         → All (IsItemOfOneShard sharding) items
         → fold_items (items_in sharding shard items) (world_in sharding shard world)
         ≡ world_in sharding shard (fold_items items world) }
-    ensures outcome { (sharding : Sharding) (script : PlainScript) → AreRows script → FallsInto sharding script
-        → (shard : ℕ) (part : PlainScript) (all left : PlainOutcome) → IsShardOf sharding shard script part
-        → IsReplayOf script all → IsReplayOf part left → IsLeftInShard sharding shard all left }
-    ensures worth { (sharding : Sharding) (script : PlainScript) → AreRows script → FallsInto sharding script
-        → (shard : ℕ) (part : PlainScript) (all left : PlainOutcome) → IsShardOf sharding shard script part
-        → IsReplayOf script all → IsReplayOf part left
+    ensures leaves { (sharding : Sharding) (script : PlainScript) → AllPairs NeverFalls script.rows
+        → FallsInto sharding script → (shard : ℕ) (part : PlainScript) (left : PlainOutcome)
+        → IsShardOf sharding shard script part → IsReplayOf part left
+        → IsLeftIn part (world_in sharding shard (world_after script (items_of script.rows))) left }
+    ensures outcome { (sharding : Sharding) (script : PlainScript) → AllPairs NeverFalls script.rows
+        → FallsInto sharding script → (shard : ℕ) (part : PlainScript) (all left : PlainOutcome)
+        → IsShardOf sharding shard script part → IsReplayOf script all → IsReplayOf part left
+        → IsLeftInShard sharding shard all left }
+    ensures worth { (sharding : Sharding) (script : PlainScript) → AllPairs NeverFalls script.rows
+        → FallsInto sharding script → (shard : ℕ) (part : PlainScript) (all left : PlainOutcome)
+        → IsShardOf sharding shard script part → IsReplayOf script all → IsReplayOf part left
         → table_told part left
         ≡ filter (λ (row : PlainWorthRow). has_market sharding shard row.market) (table_told script all) }
 {}

@@ -118,7 +118,7 @@ fn shards_among(
     })
 }
 
-/// The shards into which a script falls. Asks memory.
+/// The shards into which a script falls, as many as there can be. Asks memory.
 pub fn shards_of(alloc: Global, script: &Script) -> Result<Shards, NoMemory>
     ensures { IfOk result (λ shards. AreShardsOf script.now shards.markets.items shards.wallets.items
         shards.rows.items) }

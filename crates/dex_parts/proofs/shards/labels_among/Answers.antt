@@ -1,6 +1,6 @@
 use Rattle.std.proofs.Common.{◌∙◌}
 use Rattle.dex_parts.specs.Joins.{links_of}
-use Rattle.dex_parts.proofs.ShardedLaws.{within-numbers}
+use Rattle.dex_parts.proofs.LinkLaws.{within-numbers}
 use Rattle.dex_parts.proofs.shards.labels_among.Goals as goal
 
 pub join_rows-requires : goal.join_rows-requires

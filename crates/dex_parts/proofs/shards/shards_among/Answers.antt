@@ -1,5 +1,5 @@
 use Rattle.std.proofs.Common.{List, ap, arith, length, ℕ, ◌∙◌}
-use Rattle.dex_parts.proofs.ShardedLaws.{labels-long}
+use Rattle.dex_parts.proofs.LinkLaws.{labels-long}
 use Rattle.dex_parts.proofs.shards.shards_among.Goals as goal
 
 pub split_at-requires : goal.split_at-requires

@@ -1,0 +1,163 @@
+-- What rows join, as links: all within, and what agrees with the rows agrees with them.
+use Rattle.std.proofs.Common.{◌≡◌, ◌<◌, ◌+◌, ℕ, zero, suc, true, eqb, ltb, List, [], ◌∷◌, ◌++◌, Option, Some, None, get_or, length, refl, sym, ap, ◌∙◌, subst, arith, ⊎_elim}
+use Rattle.std.specs.List.{All}
+use Rattle.std.proofs.lemmas.Bool.{cases_eq, cond_both, eqb-true}
+use Rattle.std.proofs.lemmas.List.{get_or-append-add, get_or_append_left, length-append}
+use Rattle.std.proofs.lemmas.List.Elements.{All-append, All-cons, All-head, All-nil, All-tail}
+use Rattle.dex_types.specs.declared.addresses.Address.{Address}
+use Rattle.dex_types.specs.declared.rows.RowPlaces.{RowPlaces}
+use Rattle.dex_types.specs.Accounts.{PlainAccounts}
+use Rattle.dex_types.specs.Rows.{PlainRow}
+use Rattle.dex_fold.specs.Fold.{names}
+use Rattle.dex_fold.proofs.GroupLaws.{EachTwo}
+use Rattle.dex_fold.proofs.NameLaws.{coin-named, discount-named, pc-named, referrer-named}
+use Rattle.dex_script_facts.specs.Places.{AreBeside, ArePlaced, IsBeside, IsMarked, IsPlaced, IsRolePlaced, market_place, wallet_place}
+use Rattle.dex_script_facts.proofs.PlacedLaws.{market-within, wallet-within}
+use Rattle.dex_parts.specs.Joins.{IsWithin, Link, leg_links, links_of, role_links, row_links}
+use Rattle.dex_parts.specs.Numbers.{labels_of, numbers_to}
+use Rattle.dex_parts.proofs.JoinLaws.{Agrees, joined-all-long}
+
+-- ---- how many numbers there are
+
+pub numbers-long : (count : ℕ) → length (numbers_to count) ≡ count
+numbers-long zero = refl
+numbers-long (suc count) = omega (arith, length-append (numbers_to count) (count ∷ []), numbers-long count)
+
+-- what is within is within the first numbers
+pub within-numbers : (markets wallets : ℕ) (labels : List ℕ) (links : List Link) → labels ≡ numbers_to (markets + wallets) → All (IsWithin (markets + wallets)) links
+    → All (IsWithin (length labels)) links
+within-numbers markets wallets labels links is within =
+    subst (λ (count : ℕ). All (IsWithin count) links) (sym (ap (λ (all : List ℕ). length all) is ∙ numbers-long (markets + wallets))) within
+
+pub labels-long : (markets wallets : ℕ) (places : List RowPlaces) → length (labels_of markets wallets places) ≡ markets + wallets
+labels-long markets wallets places = joined-all-long (numbers_to (markets + wallets)) (links_of markets places) ∙ numbers-long (markets + wallets)
+
+module _ (start : PlainAccounts) where
+  abbrev markets : ℕ
+  markets = length start.markets
+
+  abbrev wallets : ℕ
+  wallets = length start.wallets
+
+  -- ---- what rows join is within
+
+  role-links-within : (role : Option Address) (market place : ℕ) → IsRolePlaced start.wallets role place → IsMarked role place → market < markets
+      → All (IsWithin (markets + wallets)) (role_links markets market place)
+  role-links-within None market place placed marked within =
+      subst (λ (n : ℕ). All (IsWithin (markets + wallets)) (role_links markets market n)) (sym marked) (All-nil (IsWithin (markets + wallets)))
+  role-links-within (Some address) market place placed marked within =
+      let below : place < wallets = wallet-within address start.wallets place placed in
+      cond_both (ltb place 65535) ((market, markets + place) ∷ []) [] (All (IsWithin (markets + wallets)))
+      (λ named. All-cons (IsWithin (markets + wallets)) (market, markets + place) [] (omega (arith, within), omega (arith, below)) (All-nil (IsWithin (markets + wallets))))
+      (λ none. All-nil (IsWithin (markets + wallets)))
+
+  row-links-within : (row : PlainRow) (at : RowPlaces) → IsPlaced start row at → IsBeside row at → All (IsWithin (markets + wallets)) (row_links markets at)
+  row-links-within row at placed beside =
+      let Within : Link → Type 0 = IsWithin (markets + wallets) in
+      let on : at.market < markets = market-within row.market start.markets at.market placed.market in
+      let links : ℕ → List Link = role_links markets at.market in
+      All-append Within (links at.coin) (links at.pc ++ (links at.discount ++ links at.referrer)) (role-links-within row.coin at.market at.coin placed.coin beside.coin on)
+      (All-append Within (links at.pc) (links at.discount ++ links at.referrer) (role-links-within row.pc at.market at.pc placed.pc beside.pc on)
+      (All-append Within (links at.discount) (links at.referrer) (role-links-within row.discount at.market at.discount placed.discount beside.discount on)
+      (role-links-within row.referrer at.market at.referrer placed.referrer beside.referrer on)))
+
+  leg-links-within : (at : RowPlaces) (others : List RowPlaces) (rows : List PlainRow) → at.market < markets → ArePlaced start rows others
+      → All (IsWithin (markets + wallets)) (leg_links at others)
+  leg-links-within at [] rows on placed = All-nil (IsWithin (markets + wallets))
+  leg-links-within at (next ∷ others) [] on placed = absurd placed
+  leg-links-within at (next ∷ others) (row ∷ rows) on placed =
+      let behind : next.market < markets = market-within row.market start.markets next.market placed.0.market in
+      cond_both (eqb at.number next.number) ((at.market, next.market) ∷ []) [] (All (IsWithin (markets + wallets)))
+      (λ same. All-cons (IsWithin (markets + wallets)) (at.market, next.market) [] (omega (arith, on), omega (arith, behind)) (All-nil (IsWithin (markets + wallets))))
+      (λ apart. All-nil (IsWithin (markets + wallets)))
+
+  pub links-within : (rows : List PlainRow) (places : List RowPlaces) → ArePlaced start rows places → AreBeside rows places → All (IsWithin (markets + wallets)) (links_of markets places)
+  links-within [] [] placed beside = All-nil (IsWithin (markets + wallets))
+  links-within [] (at ∷ places) placed beside = absurd placed
+  links-within (row ∷ rows) [] placed beside = absurd placed
+  links-within (row ∷ rows) (at ∷ places) placed beside =
+      let Within : Link → Type 0 = IsWithin (markets + wallets) in
+      let on : at.market < markets = market-within row.market start.markets at.market placed.0.market in
+      All-append Within (row_links markets at) (leg_links at places ++ links_of markets places) (row-links-within row at placed.0 beside.0)
+      (All-append Within (leg_links at places) (links_of markets places) (leg-links-within at places rows on placed.1) (links-within rows places placed.1 beside.1))
+
+  pub markets-on : (rows : List PlainRow) (places : List RowPlaces) → ArePlaced start rows places → All (λ (at : RowPlaces). at.market < markets) places
+  markets-on [] [] placed = All-nil (λ (at : RowPlaces). at.market < markets)
+  markets-on [] (at ∷ places) placed = absurd placed
+  markets-on (row ∷ rows) [] placed = absurd placed
+  markets-on (row ∷ rows) (at ∷ places) placed =
+      All-cons (λ (one : RowPlaces). one.market < markets) at places (market-within row.market start.markets at.market placed.0.market) (markets-on rows places placed.1)
+
+-- ---- numbers of markets and wallets that agree with rows
+
+pub numbers-at : (count place : ℕ) → place < count → get_or (numbers_to count) place 0 ≡ place
+numbers-at zero place within = absurd (omega (arith, within))
+numbers-at (suc count) place within =
+    let long : length (numbers_to count) ≡ count = numbers-long count in
+    ⊎_elim
+    (λ (here : place ≡ count).
+    let end : place ≡ length (numbers_to count) + 0 = omega (arith, here, long) in
+    ap (λ (n : ℕ). get_or (numbers_to count ++ count ∷ []) n 0) end
+    ∙ get_or-append-add (numbers_to count) (count ∷ []) 0 0 ∙ sym here)
+    (λ (before : place ≡ count → ⊥).
+    get_or_append_left (numbers_to count) (count ∷ []) 0 place (omega (arith, within, before, long)) ∙ numbers-at count place (omega (arith, within, before)))
+    (cases_eq place count)
+
+module _ (start : PlainAccounts) (tell : ℕ → ℕ) where
+  abbrev many : ℕ
+  many = length start.markets
+
+  -- a row's market and each of its wallets have one number
+  abbrev pub RowAgrees : PlainRow → Type 0
+  RowAgrees row = (market place : ℕ) (wallet : Address) → market_place row.market start.markets ≡ Some market → names row wallet ≡ true
+      → wallet_place wallet start.wallets ≡ Some place → tell market ≡ tell (many + place)
+
+  -- rows of one number have markets of one
+  abbrev pub LegsAgree : PlainRow → PlainRow → Type 0
+  LegsAgree one other = one.number ≡ other.number → (market other_market : ℕ) → market_place one.market start.markets ≡ Some market
+      → market_place other.market start.markets ≡ Some other_market → tell market ≡ tell other_market
+
+  role-agrees : (row : PlainRow) (role : Option Address) (market place : ℕ) → RowAgrees row → market_place row.market start.markets ≡ Some market
+      → ((wallet : Address) → role ≡ Some wallet → names row wallet ≡ true) → IsRolePlaced start.wallets role place → IsMarked role place
+      → All (Agrees tell) (role_links many market place)
+  role-agrees row None market place agrees on named placed marked =
+      subst (λ (n : ℕ). All (Agrees tell) (role_links many market n)) (sym marked) (All-nil (Agrees tell))
+  role-agrees row (Some wallet) market place agrees on named placed marked =
+      cond_both (ltb place 65535) ((market, many + place) ∷ []) [] (All (Agrees tell))
+      (λ is. All-cons (Agrees tell) (market, many + place) [] (agrees market place wallet on (named wallet refl) placed) (All-nil (Agrees tell)))
+      (λ none. All-nil (Agrees tell))
+
+  row-agrees : (row : PlainRow) (at : RowPlaces) → RowAgrees row → IsPlaced start row at → IsBeside row at → All (Agrees tell) (row_links many at)
+  row-agrees row at agrees placed beside =
+      let links : ℕ → List Link = role_links many at.market in
+      All-append (Agrees tell) (links at.coin) (links at.pc ++ (links at.discount ++ links at.referrer))
+      (role-agrees row row.coin at.market at.coin agrees placed.market (coin-named row) placed.coin beside.coin)
+      (All-append (Agrees tell) (links at.pc) (links at.discount ++ links at.referrer)
+      (role-agrees row row.pc at.market at.pc agrees placed.market (pc-named row) placed.pc beside.pc)
+      (All-append (Agrees tell) (links at.discount) (links at.referrer)
+      (role-agrees row row.discount at.market at.discount agrees placed.market (discount-named row) placed.discount beside.discount)
+      (role-agrees row row.referrer at.market at.referrer agrees placed.market (referrer-named row) placed.referrer beside.referrer)))
+
+  leg-agrees : (row : PlainRow) (at : RowPlaces) (rows : List PlainRow) (places : List RowPlaces) → All (LegsAgree row) rows → IsPlaced start row at → IsBeside row at
+      → ArePlaced start rows places → AreBeside rows places → All (Agrees tell) (leg_links at places)
+  leg-agrees row at rows [] legs placed beside places_are besides = All-nil (Agrees tell)
+  leg-agrees row at [] (next ∷ places) legs placed beside places_are besides = absurd places_are
+  leg-agrees row at (other ∷ rows) (next ∷ places) legs placed beside places_are besides =
+      cond_both (eqb at.number next.number) ((at.market, next.market) ∷ []) [] (All (Agrees tell))
+      (λ same.
+      let numbers : row.number ≡ other.number = sym beside.number ∙ eqb-true at.number next.number same ∙ besides.0.number in
+      All-cons (Agrees tell) (at.market, next.market) []
+      (All-head (LegsAgree row) other rows legs numbers at.market next.market placed.market places_are.0.market) (All-nil (Agrees tell)))
+      (λ apart. All-nil (Agrees tell))
+
+  pub links-agree : (rows : List PlainRow) (places : List RowPlaces) → All RowAgrees rows → EachTwo LegsAgree rows → ArePlaced start rows places → AreBeside rows places
+      → All (Agrees tell) (links_of many places)
+  links-agree [] [] agree legs placed beside = All-nil (Agrees tell)
+  links-agree [] (at ∷ places) agree legs placed beside = absurd placed
+  links-agree (row ∷ rows) [] agree legs placed beside = absurd placed
+  links-agree (row ∷ rows) (at ∷ places) agree legs placed beside =
+      All-append (Agrees tell) (row_links many at) (leg_links at places ++ links_of many places)
+      (row-agrees row at (All-head RowAgrees row rows agree) placed.0 beside.0)
+      (All-append (Agrees tell) (leg_links at places) (links_of many places)
+      (leg-agrees row at rows places legs.0 placed.0 beside.0 placed.1 beside.1)
+      (links-agree rows places (All-tail RowAgrees row rows agree) legs.1 placed.1 beside.1))
