@@ -17,8 +17,8 @@ use Rattle.dex_laws.proofs.TraderLaws.{is_same-true, is_same-sym}
 use Rattle.dex_history.specs.Journal.{front, places}
 use Rattle.dex_history.proofs.AddressOrder.{times}
 use Rattle.dex_history.proofs.WalletLaws.{places-movements, wallet-movement_by}
-use Rattle.dex_fold.specs.Fold.{names, wallet_acted, wallet_moved}
-use Rattle.dex_fold.proofs.OnceLaws.{none-any, roles-once}
+use Rattle.dex_world.specs.Fold.{names, wallet_acted, wallet_moved}
+use Rattle.dex_world.proofs.OnceLaws.{none-any, roles-once}
 use Rattle.dex_movements.specs.Amounts.{is_probe}
 use Rattle.dex_wallet.specs.CellState.{CellState, HasSpare, IsWalletCell, balance_of}
 use Rattle.dex_wallet.proofs.CellLaws.{IsWalletCell-with_entry}

@@ -20,8 +20,8 @@ use Rattle.dex_history.proofs.MintLaws.{AreOfMints, IsOfMint}
 use Rattle.dex_wallet.specs.CellState.{CellState, HasSpare, IsWalletCell, balance_of, seen_of}
 use Rattle.dex_wallet.proofs.CellLaws.{words-with_entry}
 use Rattle.dex_types.specs.declared.movements.WalletEntry.{WalletEntry}
-use Rattle.dex_fold.specs.Fold.{wallet_moved}
-use Rattle.dex_fold.specs.World.{WalletState}
+use Rattle.dex_world.specs.Fold.{wallet_moved}
+use Rattle.dex_world.specs.World.{WalletState}
 use Rattle.dex_act.specs.Wallets.{CanGet, CanTake, IsOf, IsRight, any_hit, cell_credited, cell_debited, cell_moved, cell_paid, got_at, hits, moved_some, paid_at, roles_of, wallet_state_of}
 use Rattle.dex_act.proofs.CellLists.{moved_some-address}
 use Rattle.dex_act.proofs.Seeing.{balance-hit, no-hit}

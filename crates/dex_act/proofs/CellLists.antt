@@ -11,7 +11,7 @@ use Rattle.dex_types.specs.Addresses.{is_same}
 use Rattle.dex_types.specs.Rows.{PlainRow}
 use Rattle.dex_types.specs.Wallets.{address_seen, amount_at}
 use Rattle.dex_laws.proofs.TraderLaws.{is_same-true, is_same-refl, is_same-sym}
-use Rattle.dex_fold.proofs.MappedLists.{map-agree}
+use Rattle.dex_world.proofs.MappedLists.{map-agree}
 use Rattle.dex_wallet.specs.CellState.{CellState}
 use Rattle.dex_act.specs.declared.places.WalletPlaces.{WalletPlaces}
 use Rattle.dex_act.specs.Wallets.{AreApart, AreSeenAt, IsAt, IsRoleAt, cell_moved, is_among, moved_some, role_moved}

@@ -10,7 +10,7 @@ use Rattle.dex_types.specs.Transfers.{Transfers}
 use Rattle.dex_types.specs.Wallets.{amount_at, movements}
 use Rattle.dex_history.specs.Journal.{front, places}
 use Rattle.dex_wallet.specs.CellState.{CellState}
-use Rattle.dex_fold.proofs.MappedLists.{map-map}
+use Rattle.dex_world.proofs.MappedLists.{map-map}
 use Rattle.dex_act.specs.Wallets.{AreApart, cell_acted, cell_debited, cell_moved, cell_paid, got_at, made_of, move_probed, moved_some, moves_probed, paid_at, probes}
 use Rattle.dex_act.proofs.CellLists.{AreApart-map, KeepsAddress, map-same}
 

@@ -17,8 +17,8 @@ use Rattle.dex_history.proofs.WalletLaws.{places-movements, wallet-movement_by}
 use Rattle.dex_history.proofs.MintLaws.{IsOfMint}
 use Rattle.dex_history.proofs.StepMoves.{row-can, row-moves}
 use Rattle.dex_cell.specs.Paying.{paid_out, parcel_of}
-use Rattle.dex_fold.specs.Fold.{wallet_acted}
-use Rattle.dex_fold.proofs.MappedLists.{map-agree, map-map}
+use Rattle.dex_world.specs.Fold.{wallet_acted}
+use Rattle.dex_world.proofs.MappedLists.{map-agree, map-map}
 use Rattle.dex_wallet.specs.CellState.{CellState, IsWalletCell}
 use Rattle.dex_act.specs.declared.places.WalletPlaces.{WalletPlaces}
 use Rattle.dex_act.specs.Wallets.{AreSeenAt, CanBePaid, CanGet, CanPay, CanProbe, HasRoomFor, IsOf, NamesFor, SeesCells, amount_in, any_hit, cell_acted, cell_credited, cell_debited, cell_paid, got_at, moved_some, paid_at, roles_of, wallet_state_of}

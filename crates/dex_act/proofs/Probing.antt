@@ -10,7 +10,7 @@ use Rattle.dex_types.specs.Addresses.{is_same}
 use Rattle.dex_types.specs.Rows.{PlainRow}
 use Rattle.dex_history.specs.Journal.{front}
 use Rattle.dex_movements.specs.Amounts.{is_probe}
-use Rattle.dex_fold.proofs.MappedLists.{map-map}
+use Rattle.dex_world.proofs.MappedLists.{map-map}
 use Rattle.dex_wallet.specs.CellState.{CellState}
 use Rattle.dex_act.specs.declared.places.WalletPlaces.{WalletPlaces}
 use Rattle.dex_act.specs.Wallets.{CanProbe, HasRoomFor, IsAt, any_hit, cell_moved, move_probed, moves_probed, probes, roles_of}

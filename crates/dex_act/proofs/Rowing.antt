@@ -12,7 +12,7 @@ use Rattle.dex_types.specs.Transfers.{Transfers, no_transfers}
 use Rattle.dex_types.specs.declared.movements.Movement.{Movement}
 use Rattle.dex_types.specs.Wallets.{movements}
 use Rattle.dex_history.specs.Journal.{front, places, request_of}
-use Rattle.dex_fold.proofs.MappedLists.{map-map}
+use Rattle.dex_world.proofs.MappedLists.{map-map}
 use Rattle.dex_plan.specs.declared.plan.Plan.{Plan}
 use Rattle.dex_movements.specs.declared.amounts.Amounts.{Amounts}
 use Rattle.dex_movements.specs.Amounts.{transfers_of}

@@ -10,9 +10,9 @@ use Rattle.dex_types.specs.Addresses.{is_same}
 use Rattle.dex_types.specs.Wallets.{address_seen, amount_at, balance_in, seen_wallets, with_role}
 use Rattle.dex_laws.proofs.TraderLaws.{is_same-refl, is_same-true, is_same-sym}
 use Rattle.dex_wallet.specs.CellState.{CellState, balance_of, seen_of}
-use Rattle.dex_fold.specs.World.{role_at, wallet_at}
-use Rattle.dex_fold.proofs.NameLaws.{any-with_address}
-use Rattle.dex_fold.proofs.OnceLaws.{with_address-all}
+use Rattle.dex_world.specs.World.{role_at, wallet_at}
+use Rattle.dex_world.proofs.NameLaws.{any-with_address}
+use Rattle.dex_world.proofs.OnceLaws.{with_address-all}
 use Rattle.dex_act.specs.Wallets.{AreApart, Fits, IsHome, IsRight, any_hit, hits, is_among, roles_of, wallet_state_of}
 
 -- ---- one role

@@ -12,8 +12,8 @@ use Rattle.dex_types.specs.Wallets.{address_seen, is_lower, row_wallets, with_ad
 use Rattle.dex_laws.proofs.TraderLaws.{is_same-true}
 use Rattle.dex_history.specs.Journal.{Agree, Sees, asked_of}
 use Rattle.dex_movements.proofs.PlaceLaws.{seen-wallets}
-use Rattle.dex_fold.specs.Fold.{names}
-use Rattle.dex_fold.specs.World.{WalletState, World, role_at, seen_by, wallet_at}
+use Rattle.dex_world.specs.Fold.{names}
+use Rattle.dex_world.specs.World.{WalletState, World, role_at, seen_by, wallet_at}
 use Rattle.dex_wallet.specs.CellState.{CellState, HasSpare, IsWalletCell, seen_of}
 use Rattle.dex_act.specs.Wallets.{AreApart, Fits, IsHome, IsNamed, IsRight, SeesCells, any_hit, is_among, roles_of, wallet_state_of}
 use Rattle.dex_act.proofs.Seeing.{any-seen, seen-home, role_at-home, role_at-right, wallet_at-address}

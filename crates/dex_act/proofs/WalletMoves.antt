@@ -17,7 +17,7 @@ use Rattle.dex_laws.proofs.TraderLaws.{is_same-true, is_same-sym}
 use Rattle.dex_wallet.specs.CellState.{CellState, HasSpare, balance_of}
 use Rattle.dex_wallet.specs.TokenAmount.{TokenAmount}
 use Rattle.dex_cell.specs.Paying.{parcel_of}
-use Rattle.dex_fold.proofs.MappedLists.{map-agree, map-map}
+use Rattle.dex_world.proofs.MappedLists.{map-agree, map-map}
 use Rattle.dex_act.specs.declared.places.WalletPlaces.{WalletPlaces}
 use Rattle.dex_act.specs.Wallets.{AreApart, CanCredit, CanGet, CanPay, CanPut, CanTake, IsAt, IsOf, IsRoleAt, NamesFor, amount_in, cell_credited, cell_debited, cell_moved, got_at, is_one, moved_some, pc_credited, role_moved}
 use Rattle.dex_act.proofs.CellLists.{amount_at-nothing, at-any, map-same, moved-here, role_moved-address, role_moved-nothing}

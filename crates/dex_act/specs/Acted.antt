@@ -4,7 +4,7 @@ use Rattle.std.specs.List.{All}
 use Rattle.dex_types.specs.declared.rows.Seen.{Seen}
 use Rattle.dex_types.specs.Rows.{PlainRow}
 use Rattle.dex_types.specs.Transfers.{Transfers}
-use Rattle.dex_fold.specs.Fold.{wallet_acted}
+use Rattle.dex_world.specs.Fold.{wallet_acted}
 use Rattle.dex_wallet.specs.CellState.{CellState, IsWalletCell}
 use Rattle.dex_act.specs.Wallets.{AreApart, made_of, wallet_state_of}
 

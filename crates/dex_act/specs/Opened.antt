@@ -4,8 +4,8 @@ use Rattle.dex_types.specs.Accounts.{PlainAccount, PlainMarketAccounts}
 use Rattle.dex_types.specs.Rows.{PlainRow}
 use Rattle.dex_cell.specs.CellState as market
 use Rattle.dex_cell.specs.CellState.{MarketCellState, entries_of}
-use Rattle.dex_fold.specs.RowsOf.{rows_naming, rows_on}
-use Rattle.dex_fold.specs.World.{MarketState}
+use Rattle.dex_world.specs.RowsOf.{rows_naming, rows_on}
+use Rattle.dex_world.specs.World.{MarketState}
 use Rattle.dex_wallet.specs.CellState as wallet
 use Rattle.dex_wallet.specs.CellState.{CellState}
 

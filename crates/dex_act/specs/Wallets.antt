@@ -22,8 +22,8 @@ use Rattle.dex_wallet.specs.TokenAmount.{TokenAmount}
 use Rattle.dex_cell.specs.CellState as market_cell
 use Rattle.dex_cell.specs.CellState.{IsFor, IsMarketCell, MarketCellState, step_on}
 use Rattle.dex_cell.specs.Paying.{parcel_of}
-use Rattle.dex_fold.specs.Fold.{wallet_acted}
-use Rattle.dex_fold.specs.World.{WalletState}
+use Rattle.dex_world.specs.Fold.{wallet_acted}
+use Rattle.dex_world.specs.World.{WalletState}
 use Rattle.dex_act.specs.declared.places.WalletPlaces.{WalletPlaces}
 
 -- the wallet of a cell, with its journal

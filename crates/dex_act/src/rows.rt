@@ -8,7 +8,7 @@ ghost use Rattle.dex_types.specs.Transfers.{no_transfers};
 ghost use Rattle.dex_history.specs.Journal.{is_refusal};
 ghost use Rattle.dex_cell.specs.CellState.{CanHold, HasActed, HasSpare, HasTaken, IsFor, IsMarketCell};
 ghost use Rattle.dex_cell.specs.CellState.{answer_on, held_on, refused_on, step_on};
-ghost use Rattle.dex_fold.specs.Fold.{wallet_acted};
+ghost use Rattle.dex_world.specs.Fold.{wallet_acted};
 ghost use Rattle.dex_wallet.specs.CellState.{IsWalletCell};
 ghost use Rattle.dex_act.specs.Wallets.{AreApart, ArePlacesAmong, CanActAt, SeesCells, cells_acted, cells_paid};
 ghost use Rattle.dex_act.specs.Wallets.{made_of, states_acted, wallet_state_of};

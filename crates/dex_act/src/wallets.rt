@@ -9,7 +9,7 @@ ghost use Rattle.dex_types.specs.Wallets.{address_seen, amount_at};
 ghost use Rattle.dex_token.specs.TokenAccount.{wallet_words};
 ghost use Rattle.dex_wallet.specs.CellState.{HasSpare, balance_of};
 ghost use Rattle.dex_cell.specs.Paying.{parcel_of};
-ghost use Rattle.dex_fold.specs.World as world;
+ghost use Rattle.dex_world.specs.World as world;
 ghost use Rattle.dex_act.specs.Wallets as wallets;
 ghost use Rattle.dex_act.specs.Wallets.{AreApart, AreOf, AreOfOneMint, AtPlace, CanBePaid, CanCredit};
 ghost use Rattle.dex_act.specs.Wallets.{CanGetPc, CanPay, CanTake, Fits, IsRoleAt, NamesFor, amount_in};

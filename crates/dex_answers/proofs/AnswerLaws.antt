@@ -14,7 +14,7 @@ use Rattle.dex_dump.specs.Answers.{AnswersDump, AnswersText, PlainAnswer, next_n
 use Rattle.dex_dump.proofs.OneAnswer.{dump-once, text-once}
 use Rattle.dex_audit.specs.Findings.{findings}
 use Rattle.dex_audit_rules.specs.declared.finding.Finding.{Finding}
-use Rattle.dex_script_facts.specs.PlainScript.{PlainScript}
+use Rattle.dex_script_types.specs.PlainScript.{PlainScript}
 use Rattle.dex_script.specs.Drafts.{PlainDraft, behind_dump, no_rows}
 use Rattle.dex_script.specs.Rows.{with_row}
 use Rattle.dex_script.specs.Scripts.{AnswersBy, IsRefused, Reads, Refusal, begins_with_dump, behind, draft_after, fault_in, script_from, unless_found}

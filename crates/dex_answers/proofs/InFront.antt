@@ -8,7 +8,7 @@ use Rattle.dex_accounts.specs.Decoded.{market_in}
 use Rattle.dex_state.specs.Outcomes.{PlainMarketJournal, PlainOutcome}
 use Rattle.dex_report.specs.Telling.{AreInFront, FitOutcome, IsToldOutcome, stand_from_front}
 use Rattle.dex_report.proofs.Fronts.{fit-told, legal-in_front}
-use Rattle.dex_script_facts.specs.PlainScript.{PlainScript}
+use Rattle.dex_script_types.specs.PlainScript.{PlainScript}
 use Rattle.dex_replay.specs.Lawful.{AllThree, IsLawful, IsLawfulMarket}
 use Rattle.dex_replay.specs.Runs.{IsRunOf}
 

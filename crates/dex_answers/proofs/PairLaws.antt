@@ -1,6 +1,6 @@
 -- In a lawful outcome both legs of a swap took, or neither.
 use Rattle.std.proofs.Common.{◌≡◌, ◌⊎◌, ℕ, ◌&&◌, ◌||◌, not, inl, inr, Bool, true, false, eqb, List, [], ◌∷◌, get_or, map, Option, Some, None, Result, Ok, Err, refl, sym, ap, ◌∙◌, subst, arith, ⊎_elim}
-use Rattle.dex_fold.proofs.Common.{All-cons, All-filter, All-head, All-map, All-nil, Asked, BadData, Call, EachTwo, Entry, IsLegal, Ix, Market, PlainMarketAccounts, PlainRow, Refusal, Reply, Seen, Stands, asked_of, cases_Bool, cond-false, cond-true, decoded, eq-eqb, false≢true, filter, get_or-map, is_done, is_held, is_refusal, is_same, is_take, length-map, list_any, list_any_at, members, rows_of_lane, step_of}
+use Rattle.dex_world.proofs.Common.{All-cons, All-filter, All-head, All-map, All-nil, Asked, BadData, Call, EachTwo, Entry, IsLegal, Ix, Market, PlainMarketAccounts, PlainRow, Refusal, Reply, Seen, Stands, asked_of, cases_Bool, cond-false, cond-true, decoded, eq-eqb, false≢true, filter, get_or-map, is_done, is_held, is_refusal, is_same, is_take, length-map, list_any, list_any_at, members, rows_of_lane, step_of}
 use Rattle.dex_replay.proofs.Common.{AllThree, AreLegs, IsLawful, IsLawfulMarket, IsScript, PlainMarketJournal, PlainOutcome, PlainScript, has_market, is_answered, rows_of_market, was_held}
 use Rattle.std.specs.List.{All, Any}
 use Rattle.std.proofs.lemmas.List.Folds.{Any-from_list_any}
@@ -9,12 +9,12 @@ use Rattle.dex_types.specs.Requests.{Request}
 use Rattle.dex_types.specs.Steps.{Step, act_decoded, unless_refused}
 use Rattle.dex_types.specs.Why.{why_decoded}
 use Rattle.dex_history.specs.Journal.{asked_step, idle, is_take_or_bad, is_took}
-use Rattle.dex_fold.specs.Items.{Item, items_of}
+use Rattle.dex_world.specs.Items.{Item, items_of}
 use Rattle.dex_replay.specs.Lawful.{entries_at}
 use Rattle.dex_replay.proofs.Groups.{grouped-each, unfilter}
 use Rattle.dex_replay.proofs.MappedLists.{All-unmap, head-same, tail-same}
 use Rattle.dex_replay.proofs.Orders.{each-item, items-in, own-order}
-use Rattle.dex_script_facts.specs.Facts.{HasNoSwap}
+use Rattle.dex_script_types.specs.Facts.{HasNoSwap}
 use Rattle.dex_replay.specs.Replays.{IsLeftByRows, IsReplayOf}
 use Rattle.dex_replay.specs.Runs.{IsRunOf}
 use Rattle.dex_answers.specs.Answers.{IsPlayed}

@@ -13,8 +13,8 @@ use Rattle.dex_audit.specs.Findings.{findings}
 use Rattle.dex_migrate.specs.declared.faults.MigrateFault.{MigrateFault}
 use Rattle.dex_migrate.specs.Migrated.{AreMigrated}
 use Rattle.dex_migrate.specs.TooSmall.{first_fault}
-use Rattle.dex_script_facts.specs.PlainScript.{PlainScript}
-use Rattle.dex_script_facts.specs.Facts.{HasNoSwap}
+use Rattle.dex_script_types.specs.PlainScript.{PlainScript}
+use Rattle.dex_script_types.specs.Facts.{HasNoSwap}
 use Rattle.dex_script.specs.Scripts.{IsRefused, Reads}
 use Rattle.dex_script.specs.Scripts.Refusal.{AtRow, InAudit, InDump}
 use Rattle.dex_report.specs.Bulk.{bulk_text}
@@ -22,7 +22,7 @@ use Rattle.dex_report.specs.Made.{made_text}
 use Rattle.dex_state.specs.Outcomes.{PlainOutcome}
 use Rattle.dex_report.specs.Report.{report_text}
 use Rattle.dex_report.specs.Telling.{IsToldOutcome}
-use Rattle.dex_fold.specs.Items.{items_of}
+use Rattle.dex_world.specs.Items.{items_of}
 use Rattle.dex_replay.specs.Replays.{IsLeftByRows, IsReplayOf}
 use Rattle.dex_replay.specs.Runs.{IsRunOf}
 use Rattle.dex_replay.specs.WorthTold.{table_told}

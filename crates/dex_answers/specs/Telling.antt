@@ -2,7 +2,7 @@
 use Rattle.std.specs.Prelude.{ℕ, ◌≡◌, false, List}
 use Rattle.dex_types.specs.Accounts.{accounts_of}
 use Rattle.dex_state.specs.Accepted.{AreAccepted}
-use Rattle.dex_script_facts.specs.PlainScript.{PlainScript}
+use Rattle.dex_script_types.specs.PlainScript.{PlainScript}
 use Rattle.dex_script.specs.Scripts.{Reads}
 use Rattle.dex_state.specs.Outcomes.{outcome_of}
 use Rattle.dex_answers.specs.declared.clean.Checked.{Checked}

@@ -10,7 +10,7 @@ use Rattle.dex_types.specs.Trader.{Holding}
 use Rattle.dex_laws.proofs.TotalLaws.{total-between}
 use Rattle.dex_sound.proofs.PlaceLaws.{is_same_side-true, is_same_side-refl}
 use Rattle.dex_types.specs.declared.terms.Side.{Side}
-use Rattle.dex_tallies.specs.Held.{is_held}
+use Rattle.dex_totals.specs.Held.{is_held}
 use Rattle.dex_audit_rules.specs.Slots.{astray, astray_in, is_placed}
 use Rattle.dex_audit_rules.specs.Lists.{numbered}
 use Rattle.dex_audit_rules.proofs.ListLaws.{append-none, unless-none}

@@ -15,7 +15,7 @@ use Rattle.dex_types.specs.Totals.{total}
 use Rattle.dex_types.specs.Trader.{balance}
 use Rattle.dex_market.specs.MarketAccount.{MarketWords}
 use Rattle.dex_audit_rules.specs.Funds.{beyond, beyond_in, deposited, deposits_off, deposits_word, differs, exceeds, rebates_in, too_large, total_off, total_sum, totals_in, vault_at, vault_off, vaults_in}
-use Rattle.dex_tallies.specs.Sums.{capped}
+use Rattle.dex_totals.specs.Sums.{capped}
 use Rattle.dex_audit_rules.specs.Lists.{numbered}
 use Rattle.dex_audit.proofs.AllLaws.{none-append, numbered-nothing, open-nothing, unless-holds}
 use Rattle.dex_audit.proofs.FundLaws.{IsSmall, all-kept}

@@ -20,8 +20,8 @@ use Rattle.dex_laws.proofs.TraderLaws.{is_same-true}
 use Rattle.dex_sound.proofs.PlaceLaws.{is_same_side-refl}
 use Rattle.dex_audit_rules.specs.declared.taken.Taken.{Taken}
 use Rattle.dex_audit_rules.specs.Lists.{numbered}
-use Rattle.dex_tallies.specs.Held.{is_held}
-use Rattle.dex_tallies.specs.Reading.{is_opened}
+use Rattle.dex_totals.specs.Held.{is_held}
+use Rattle.dex_totals.specs.Reading.{is_opened}
 use Rattle.dex_audit_rules.specs.Slots.{astray, astray_in, holding, homeless, homeless_in, is_number_of, is_placed, misheld, misheld_in, number_of, of_open, or_else, repeated, repeated_in, taken_here, taken_in, ungiven, ungiven_in, unheld, unheld_finding, unpaired, unpaired_in}
 use Rattle.dex_audit.proofs.AllLaws.{flat_map-nothing, none-append, numbered-all, numbered-nothing, open-nothing, taken_here-all, taken-all, unless-holds}
 use Rattle.dex_audit.proofs.EventLaws.{is_one_order-false, take-front}

@@ -17,9 +17,9 @@ use Rattle.dex_types.specs.Totals.{total, weighed_where}
 use Rattle.dex_types.specs.Trader.{Account, Holding, Open, balance, trader_at}
 use Rattle.dex_laws.proofs.TotalLaws.{total-agree}
 use Rattle.dex_sound.proofs.PlaceLaws.{is_same_side-refl}
-use Rattle.dex_tallies.specs.Held.{is_held, is_own_held}
+use Rattle.dex_totals.specs.Held.{is_held, is_own_held}
 use Rattle.dex_audit_rules.specs.Funds.{beyond, beyond_in, deposited, differs, exceeds, held_kept, rebates_in, too_large, total_off, total_sum, totals_in, vault_at, vault_off, vaults_in}
-use Rattle.dex_tallies.specs.Sums.{capped}
+use Rattle.dex_totals.specs.Sums.{capped}
 use Rattle.dex_audit_rules.specs.Lists.{numbered}
 use Rattle.dex_audit_rules.proofs.ListLaws.{append-none, numbered-each, unless-none}
 use Rattle.dex_audit.proofs.SlotLaws.{open-none}

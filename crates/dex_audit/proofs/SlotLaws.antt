@@ -14,8 +14,8 @@ use Rattle.dex_laws.specs.Places.{is_order_at}
 use Rattle.dex_laws.proofs.TraderLaws.{is_same-true, is_same-refl, traders-induction, trader_at-here, trader_at-there}
 use Rattle.dex_sound.proofs.PlaceLaws.{is_same_side-true}
 use Rattle.dex_audit_rules.specs.declared.taken.Taken.{Taken}
-use Rattle.dex_tallies.specs.Held.{is_held}
-use Rattle.dex_tallies.specs.Reading.{is_opened}
+use Rattle.dex_totals.specs.Held.{is_held}
+use Rattle.dex_totals.specs.Reading.{is_opened}
 use Rattle.dex_audit_rules.specs.Slots.{is_number_of, misheld, misheld_in, number_of, of_open, or_else, repeated, repeated_in, taken_here, taken_in, ungiven, ungiven_in, unheld, unheld_finding, unpaired, unpaired_in}
 use Rattle.dex_audit_rules.specs.Lists.{numbered}
 use Rattle.dex_audit_rules.proofs.ListLaws.{Among, Among-head, Among-left, Among-right, append-none, flat_map-none, numbered-none, unless-none}

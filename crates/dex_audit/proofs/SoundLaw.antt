@@ -21,7 +21,7 @@ use Rattle.dex_accounts.specs.StandsFor.{StandsFor}
 use Rattle.dex_state.specs.Held.{IsHeldMarket}
 use Rattle.dex_audit_rules.specs.Funds.{beyond_in, deposited, deposits_in, deposits_off, deposits_word, rebates_in, too_large, too_large_in, totals_in, vaults_in}
 use Rattle.dex_audit_rules.specs.Lists.{numbered}
-use Rattle.dex_tallies.specs.Reading.{is_opened}
+use Rattle.dex_totals.specs.Reading.{is_opened}
 use Rattle.dex_audit_rules.specs.Slots.{astray_in, homeless, homeless_in, misheld, misheld_in, or_else, repeated_in, ungiven_in, unheld, unpaired_in}
 use Rattle.dex_audit.proofs.EventLaws.{events-held}
 use Rattle.dex_audit.proofs.FundLaws.{differs-none, funds-agree, locks-fit, vault-is}

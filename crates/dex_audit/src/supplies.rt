@@ -9,7 +9,7 @@ ghost use Rattle.dex_accounts.specs.Accepted.{IsAccepted};
 ghost use Rattle.dex_state.specs.Accepted.{AreAccepted};
 ghost use Rattle.dex_state.specs.Conserved as spec;
 ghost use Rattle.dex_audit.specs.Supplies.{supply_off};
-ghost use Rattle.dex_tallies.specs.Sums.{capped};
+ghost use Rattle.dex_totals.specs.Sums.{capped};
 
 use dex_audit_rules::{Finding, tell_differs};
 use dex_token::{MintRef, WalletRef};

@@ -11,7 +11,7 @@ use Rattle.dex_ring.specs.Ring.{IsEventQueue, ring_of}
 use Rattle.dex_ring.proofs.RingLaw.{capacity_of-le, length-events_of}
 use Rattle.dex_slab.specs.Slab.{IsSlab, resting}
 use Rattle.dex_slab.specs.SlabSide.{slab_side}
-use Rattle.dex_tallies.specs.Reading.{AreOrders}
+use Rattle.dex_totals.specs.Reading.{AreOrders}
 
 pub orders-accepted : (accounts : List OrdersAccount) → All (λ (account : PlainAccount). IsOrders account.bytes) (map orders_account_of accounts) → AreOrders accounts
 orders-accepted accounts all k d lt =

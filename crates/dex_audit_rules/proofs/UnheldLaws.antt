@@ -7,7 +7,7 @@ use Rattle.dex_types.specs.declared.terms.Side.{Side}
 use Rattle.dex_types.specs.Soundness.{order_holding}
 use Rattle.dex_types.specs.Trader.{Holding}
 use Rattle.dex_laws.specs.Places.{is_order_at}
-use Rattle.dex_tallies.specs.Held.{is_held}
+use Rattle.dex_totals.specs.Held.{is_held}
 use Rattle.dex_audit_rules.specs.Slots.{or_else, unheld}
 
 pub or_else-none : (first : Option ℕ) → or_else first None ≡ first

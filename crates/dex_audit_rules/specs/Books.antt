@@ -11,7 +11,7 @@ use Rattle.dex_ring.specs.Ring.{ring_of}
 use Rattle.dex_slab.specs.Slab.{resting}
 use Rattle.dex_audit_rules.specs.declared.book.Book.{Book}
 use Rattle.dex_audit_rules.specs.declared.gathered.Gathered.{Gathered}
-use Rattle.dex_tallies.specs.Reading.{AreOrders, traders}
+use Rattle.dex_totals.specs.Reading.{AreOrders, traders}
 
 -- the accounts of the book are accepted, and its numbers of orders and events are below 2^32
 pub record IsBook (book : Book) : Type 0 where

@@ -15,8 +15,8 @@ use Rattle.dex_types.specs.Totals.{total, weighed_where}
 use Rattle.dex_types.specs.Trader.{Account, Trader, balance}
 use Rattle.dex_market.specs.MarketAccount.{MarketWords, market_words}
 use Rattle.dex_accounts.specs.Decoded.{market_in}
-use Rattle.dex_tallies.specs.Held.{is_own_held}
-use Rattle.dex_tallies.specs.Sums.{capped}
+use Rattle.dex_totals.specs.Held.{is_own_held}
+use Rattle.dex_totals.specs.Sums.{capped}
 use Rattle.dex_audit_rules.specs.declared.finding.Finding.{Finding}
 use Rattle.dex_audit_rules.specs.Lists.{numbered, unless}
 use Rattle.dex_audit_rules.specs.Slots.{of_open}

@@ -12,8 +12,8 @@ use Rattle.dex_types.specs.Soundness.{counts_order, event_holding, finals_of, he
 use Rattle.dex_types.specs.Totals.{total}
 use Rattle.dex_types.specs.Trader.{Account, Holding, Trader, Open, Traders, trader_at}
 use Rattle.dex_laws.specs.Places.{is_order_at}
-use Rattle.dex_tallies.specs.Held.{id_held, is_held}
-use Rattle.dex_tallies.specs.Reading.{is_opened}
+use Rattle.dex_totals.specs.Held.{id_held, is_held}
+use Rattle.dex_totals.specs.Reading.{is_opened}
 use Rattle.dex_audit_rules.specs.declared.finding.Finding.{Finding}
 use Rattle.dex_audit_rules.specs.declared.taken.Taken.{Taken}
 use Rattle.dex_audit_rules.specs.Lists.{numbered, unless}

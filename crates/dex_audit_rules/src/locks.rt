@@ -1,12 +1,12 @@
 //! The rule of locks, and amounts that 64 bits do not hold.
 
 ghost use Rattle.std.specs.Prelude.{◌≡◌, ℕ, ◌++◌, ◌<◌, ◌^◌, length, OnOk};
-ghost use Rattle.dex_tallies.specs.Sums.{capped};
+ghost use Rattle.dex_totals.specs.Sums.{capped};
 ghost use Rattle.dex_audit_rules.specs.Funds as rules;
 ghost use Rattle.dex_audit_rules.specs.Lists.{numbered};
 
 use crate::finding::{Finding, tell_unless};
-use dex_tallies::lock_of;
+use dex_totals::lock_of;
 use dex_types::{Address, Lots, NoMemory, Order, Side};
 
 /// One more than the greatest amount that 64 bits hold.

@@ -23,8 +23,8 @@ use crate::totals::{coin_deposits, pc_deposits, rebates, tell_differs, tell_tota
 use dex_fields::get_u64;
 use dex_fields::request_queue::NEXT_SEQ_NUM;
 use dex_market::MarketRef;
-use dex_tallies::{Weight, all_finals, all_resting};
 use dex_token::WalletRef;
+use dex_totals::{Weight, all_finals, all_resting};
 use dex_types::{Lots, MarketAccounts, NoMemory, Side};
 use std::alloc::Global;
 

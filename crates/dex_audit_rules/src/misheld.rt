@@ -5,13 +5,13 @@ ghost use Rattle.dex_types.specs.Soundness.{order_holding};
 ghost use Rattle.dex_laws.specs.Places.{is_order_at};
 ghost use Rattle.dex_orders.specs.OrdersAccount.{IsOpen, account_of};
 ghost use Rattle.dex_audit_rules.specs.Lists.{numbered};
-ghost use Rattle.dex_tallies.specs.Held.{is_held};
-ghost use Rattle.dex_tallies.specs.Reading.{AreOrders, held_in, traders};
+ghost use Rattle.dex_totals.specs.Held.{is_held};
+ghost use Rattle.dex_totals.specs.Reading.{AreOrders, held_in, traders};
 ghost use Rattle.dex_audit_rules.specs.Slots as rules;
 
 use crate::finding::Finding;
 use dex_orders::OrdersRef;
-use dex_tallies::{id_held, is_held, opened};
+use dex_totals::{id_held, is_held, opened};
 use dex_types::{Address, NoMemory, Order, OrdersAccount, Side, add, is_same};
 
 /// Whether the order rests for the place, and what the place holds is another.

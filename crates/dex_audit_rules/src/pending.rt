@@ -3,12 +3,12 @@
 ghost use Rattle.std.specs.Prelude.{◌≡◌, ◌==◌, ◌&&◌, ◌<◌, ◌^◌, [], ◌++◌, List, length, map, OnOk};
 ghost use Rattle.dex_types.specs.QueuedEvent.{QueuedEvent, decoded_event};
 ghost use Rattle.dex_audit_rules.specs.Lists.{numbered};
-ghost use Rattle.dex_tallies.specs.Reading.{AreOrders, traders};
+ghost use Rattle.dex_totals.specs.Reading.{AreOrders, traders};
 ghost use Rattle.dex_audit_rules.specs.Slots as rules;
-ghost use Rattle.dex_tallies.specs.Tallies.{AreFinals};
+ghost use Rattle.dex_totals.specs.Tallies.{AreFinals};
 
 use crate::finding::{Finding, tell_unless};
-use dex_tallies::{Counts, held_at, id_held, is_held, side_of};
+use dex_totals::{Counts, held_at, id_held, is_held, side_of};
 use dex_types::{Address, Event, NoMemory, OrdersAccount};
 use std::alloc::Global;
 

@@ -2,11 +2,11 @@
 
 ghost use Rattle.std.specs.Prelude.{◌≡◌, ◌<◌, ◌++◌, ◌^◌, length, OnOk};
 ghost use Rattle.dex_audit_rules.specs.Lists.{numbered};
-ghost use Rattle.dex_tallies.specs.Reading.{AreOrders, traders};
+ghost use Rattle.dex_totals.specs.Reading.{AreOrders, traders};
 ghost use Rattle.dex_audit_rules.specs.Slots as rules;
 
 use crate::finding::{Finding, tell_unless};
-use dex_tallies::is_open;
+use dex_totals::is_open;
 use dex_types::{Address, NoMemory, Order, OrdersAccount};
 
 /// Tells each order of a side whose owner is no open account.

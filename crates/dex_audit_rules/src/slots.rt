@@ -10,12 +10,12 @@ ghost use Rattle.dex_types.specs.Totals.{total};
 ghost use Rattle.dex_audit_rules.specs.Lists.{numbered};
 ghost use Rattle.dex_audit_rules.specs.Slots as rules;
 ghost use Rattle.dex_audit_rules.specs.Slots.{holding};
-ghost use Rattle.dex_tallies.specs.Tallies as tallies;
-ghost use Rattle.dex_tallies.specs.Tallies.{AreFinals, AreResting};
+ghost use Rattle.dex_totals.specs.Tallies as tallies;
+ghost use Rattle.dex_totals.specs.Tallies.{AreFinals, AreResting};
 
 use crate::finding::{Finding, tell_unless};
 use crate::taken::{Taken, number_of};
-use dex_tallies::{Counts, mark, times};
+use dex_totals::{Counts, mark, times};
 use dex_types::NoMemory;
 use std::alloc::Global;
 use std::collections::BTreeMap;

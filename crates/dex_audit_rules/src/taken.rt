@@ -8,12 +8,12 @@ ghost use Rattle.dex_types.specs.Totals.{total};
 ghost use Rattle.dex_orders.specs.OrdersAccount.{IsOpen, account_of};
 ghost use Rattle.dex_ring.specs.Ring.{IsEventQueue, ring_of};
 ghost use Rattle.dex_audit_rules.specs.Lists.{numbered};
-ghost use Rattle.dex_tallies.specs.Reading.{AreOrders, held_in, traders};
+ghost use Rattle.dex_totals.specs.Reading.{AreOrders, held_in, traders};
 ghost use Rattle.dex_audit_rules.specs.Slots as rules;
 ghost use Rattle.dex_audit_rules.specs.Slots.{holding, number_of};
 
 use dex_orders::OrdersRef;
-use dex_tallies::opened;
+use dex_totals::opened;
 use dex_types::{Address, NoMemory, OrdersAccount, Side, add};
 use std::alloc::Global;
 

@@ -9,12 +9,12 @@ ghost use Rattle.dex_types.specs.Totals.{total};
 ghost use Rattle.dex_orders.specs.OrdersAccount.{IsOpen, account_of};
 ghost use Rattle.dex_audit_rules.specs.Books.{IsBook, IsOf};
 ghost use Rattle.dex_audit_rules.specs.Funds as rules;
-ghost use Rattle.dex_tallies.specs.Sums.{capped, weight_of};
+ghost use Rattle.dex_totals.specs.Sums.{capped, weight_of};
 
 use crate::book::Book;
 use crate::finding::{Finding, tell_unless};
 use dex_orders::OrdersRef;
-use dex_tallies::{
+use dex_totals::{
     Amount, Weight, opened, sum_amounts, sum_locked, sum_own, sum_own_locked, sum_pending,
 };
 use dex_types::{Address, NoMemory, Side};

@@ -10,6 +10,6 @@ pub use Rattle.dex_bank.specs.Stepping.{HaveActed, IsFirstAt}
 pub use Rattle.dex_cell.specs.CellState.{CanHold, IsMarketCell, MarketCellState, call_on, entries_of, step_on}
 pub use Rattle.dex_state.specs.Addresses.{address_of, all_of_market}
 pub use Rattle.dex_state.specs.Accepted.{AreAccepted}
-pub use Rattle.dex_script_facts.specs.Facts.{IsStart}
+pub use Rattle.dex_script_types.specs.Facts.{IsStart}
 pub use Rattle.dex_token.specs.TokenAccount.{IsWallet}
 pub use Rattle.dex_wallet.specs.CellState.{CellState, IsWalletCell}

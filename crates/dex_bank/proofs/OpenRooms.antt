@@ -1,7 +1,7 @@
 -- How many rows name the market or the wallet at each place of a list.
 use Rattle.std.proofs.Common.{◌≡◌, ◌≢◌, ℕ, suc, ◌+◌, ◌<◌, ◌≤◌, ◌^◌, Bool, true, false, ◌||◌, List, [], ◌∷◌, ◌++◌, Option, None, Some, count_by, eqb, get_or, length, map, take, refl, sym, ap, subst, ◌∙◌, arith, ⊎_elim}
 use Rattle.std.proofs.Math.Bool.{or-false}
-use Rattle.dex_fold.proofs.Common.{Address, PlainAccount, PlainAccounts, PlainMarketAccounts, PlainRow, Row, is_role, is_same, is_same-sym, is_same-true, length-map, names, names-roles, row_of, sum_by-append, sum_by-cons, take_all, take_more}
+use Rattle.dex_world.proofs.Common.{Address, PlainAccount, PlainAccounts, PlainMarketAccounts, PlainRow, Row, is_role, is_same, is_same-sym, is_same-true, length-map, names, names-roles, row_of, sum_by-append, sum_by-cons, take_all, take_more}
 use Rattle.std.specs.List.{position}
 use Rattle.std.proofs.lemmas.Bool.{cases_lt}
 use Rattle.std.proofs.lemmas.Bool.Decides.{eqb_tells}
@@ -9,10 +9,10 @@ use Rattle.std.proofs.lemmas.List.{get_or-map}
 use Rattle.std.proofs.lemmas.List.Quantifiers.{position-Some}
 use Rattle.std.proofs.lemmas.List.Sums.{count_by-le-length}
 use Rattle.dex_types.specs.declared.rows.RowPlaces.{RowPlaces}
-use Rattle.dex_script_facts.specs.Facts.{IsStart}
-use Rattle.dex_script_facts.specs.Places.{IsBeside, IsMarked, IsPlaced, IsRolePlaced}
-use Rattle.dex_script_facts.proofs.Apart.{AreDistinct, markets-distinct, wallets-distinct}
-use Rattle.dex_script_facts.proofs.PlacedLaws.{position-map}
+use Rattle.dex_script_types.specs.Facts.{IsStart}
+use Rattle.dex_script_types.specs.Places.{IsBeside, IsMarked, IsPlaced, IsRolePlaced}
+use Rattle.dex_script_types.proofs.Apart.{AreDistinct, markets-distinct, wallets-distinct}
+use Rattle.dex_script_types.proofs.PlacedLaws.{position-map}
 use Rattle.dex_bank.proofs.Stands.{some-of}
 use Rattle.dex_bank.specs.Counts.{AreCounted, HaveSpare, is_told, one, wallets_told}
 

@@ -2,7 +2,7 @@
 use Rattle.std.proofs.Common.{◌≡◌, ℕ, zero, suc, ◌<◌, Bool, true, false, ◌||◌, List, [], ◌∷◌, Option, None, Some, get_or, length, map, sym, ap, ◌∙◌, arith, ⊎_elim}
 use Rattle.std.proofs.Math.Bool.{or-true}
 use Rattle.std.proofs.lemmas.Option.{none-some}
-use Rattle.dex_fold.proofs.Common.{Address, PlainAccount, PlainAccounts, PlainMarketAccounts, PlainRow, cases_Bool, cond-false, cond-true, false≢true, is_same, is_same-true, length-map, wallet_at}
+use Rattle.dex_world.proofs.Common.{Address, PlainAccount, PlainAccounts, PlainMarketAccounts, PlainRow, cases_Bool, cond-false, cond-true, false≢true, is_same, is_same-true, length-map, wallet_at}
 use Rattle.dex_bank.proofs.Common.{AreCells, CellState, CellsState, IsFirstAt, MarketCellState, is_among, made_of, market_opened, opened_of, wallet_opened, wallet_state_of}
 use Rattle.std.specs.List.{All}
 use Rattle.std.proofs.lemmas.List.{get_or-map}
@@ -10,10 +10,10 @@ use Rattle.std.proofs.lemmas.List.Quantifiers.{position-Some}
 use Rattle.dex_types.specs.declared.rows.RowPlaces.{RowPlaces}
 use Rattle.dex_types.specs.declared.terms.Program.{Program}
 use Rattle.dex_wallet.specs.CellState.{seen_of}
-use Rattle.dex_script_facts.specs.Places.{ArePlaced, IsPlaced, IsRolePlaced, market_place}
+use Rattle.dex_script_types.specs.Places.{ArePlaced, IsPlaced, IsRolePlaced, market_place}
 use Rattle.dex_act.specs.declared.places.WalletPlaces.{WalletPlaces}
 use Rattle.dex_act.specs.Wallets.{AreApart, IsAt, IsRoleAt, wallet_places}
-use Rattle.dex_fold.proofs.MappedLists.{map-agree, map-map}
+use Rattle.dex_world.proofs.MappedLists.{map-agree, map-map}
 use Rattle.dex_bank.specs.Opened.{opened_with}
 use Rattle.dex_bank.specs.Places.{ArePlacedIn, ArePlacesIn, StandsAt}
 use Rattle.dex_bank.proofs.StepWorld.{opened_market}

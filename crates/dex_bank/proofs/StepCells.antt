@@ -1,12 +1,12 @@
 -- All cells before and after a row.
 use Rattle.std.proofs.Common.{◌≡◌, ℕ, Bool, true, List, map, get_or, set, Option, Some, refl, sym, ap, ◌∙◌, subst}
-use Rattle.dex_fold.proofs.Common.{Market, MarketState, PlainMarketAccounts, PlainRow, Reply, Row, Seen, Sees, WalletState, World, act, acted, asked_of, is_same, is_same-true, markets_acted, request_of, row_of, row_step, seen_by, wallet_acted, why, why_in, why_on}
+use Rattle.dex_world.proofs.Common.{Market, MarketState, PlainMarketAccounts, PlainRow, Reply, Row, Seen, Sees, WalletState, World, act, acted, asked_of, is_same, is_same-true, markets_acted, request_of, row_of, row_step, seen_by, wallet_acted, why, why_in, why_on}
 use Rattle.dex_bank.proofs.Common.{AreCells, CanAct, CanHold, CanWait, CellState, CellsState, Fits, IsFirstAt, IsMarketCell, IsReply, MarketCellState, SeesCells, made_of, opened_of, roles_of, wallet_state_of, world_of}
 use Rattle.std.specs.List.{All}
 use Rattle.std.proofs.lemmas.List.Elements.{All-get_or, All-set}
 use Rattle.std.proofs.Math.Seq.{map-set_same}
 use Rattle.dex_cell.specs.CellState as market
-use Rattle.dex_fold.specs.World.{market_at}
+use Rattle.dex_world.specs.World.{market_at}
 use Rattle.dex_act.proofs.Sights.{row-sees, sees-cells}
 use Rattle.dex_bank.specs.Stepped.{HasActedOrWaited}
 use Rattle.dex_bank.specs.Stepping.{CanActOn, HasDone, doing}

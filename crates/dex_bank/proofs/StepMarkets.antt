@@ -1,12 +1,12 @@
 -- Cells of markets, the first of whose at an address acts.
 use Rattle.std.proofs.Common.{◌≡◌, ℕ, zero, suc, true, false, List, [], ◌∷◌, ◌++◌, map, set, get_or, Some, refl, sym, ap, ◌∙◌, arith}
-use Rattle.dex_fold.proofs.Common.{Address, Call, Entry, Market, MarketState, PlainMarketAccounts, PlainRow, Row, Seen, Step, cond-false, cond-true, entry_by, false≢true, idle-step, idle_row, is_same, market_acted, markets_acted, row_of}
+use Rattle.dex_world.proofs.Common.{Address, Call, Entry, Market, MarketState, PlainMarketAccounts, PlainRow, Row, Seen, Step, cond-false, cond-true, entry_by, false≢true, idle-step, idle_row, is_same, market_acted, markets_acted, row_of}
 use Rattle.dex_bank.proofs.Common.{IsFirstAt, MarketCellState, OthersStay, call_on, entries_of, market_state_of, step_on}
 use Rattle.dex_accounts.specs.Decoded.{market_in}
 use Rattle.std.proofs.lemmas.List.{map-append}
 use Rattle.dex_cell.specs.CellState as cells
 use Rattle.dex_cell.specs.CellState.{HasActed, held_made, held_on}
-use Rattle.dex_fold.specs.World.{market_at}
+use Rattle.dex_world.specs.World.{market_at}
 
 -- the address of the market that accounts tell is theirs
 listing-address : (accounts : PlainMarketAccounts) → (market_in accounts).listing.address ≡ accounts.address

@@ -1,14 +1,14 @@
 -- Two rows that share nothing, one after the other.
 use Rattle.std.proofs.Common.{◌≡◌, ℕ, ◌<◌, ◌||◌, ◌&&◌, not, Bool, true, false, cond, List, [], ◌∷◌, length, map, is_some, Option, Some, None, refl, sym, ap, ◌∙◌, subst, ⊎_elim}
 use Rattle.std.proofs.lemmas.List.{map-id}
-use Rattle.dex_fold.proofs.Common.{Address, All-cons, All-head, All-nil, All-tail, AllZip, Market, PlainRow, Refusal, Reply, Seen, ShareNothing, Transfers, WalletEntry, WalletState, World, act, acted, cases_Bool, chosen, decoded, false≢true, fold, idle_row, is_refusal, is_same, is_same-refl, is_same-true, is_take, movement_of, names, request_of, row_step, row_wallets, seen_by, step-refused, wallet_acted, wallet_moved, why-far, why_in, why_on}
+use Rattle.dex_world.proofs.Common.{Address, All-cons, All-head, All-nil, All-tail, AllZip, Market, PlainRow, Refusal, Reply, Seen, ShareNothing, Transfers, WalletEntry, WalletState, World, act, acted, cases_Bool, chosen, decoded, false≢true, fold, idle_row, is_refusal, is_same, is_same-refl, is_same-true, is_take, movement_of, names, request_of, row_step, row_wallets, seen_by, step-refused, wallet_acted, wallet_moved, why-far, why_in, why_on}
 use Rattle.dex_bank.proofs.Common.{AreCells, CanAct, CanWait, CellState, CellsState, IsMarketCell, IsReply, MarketCellState, OthersStay, made_of, wallet_state_of, world_of}
 use Rattle.std.specs.List.{All}
 use Rattle.dex_cell.specs.CellState as market
 use Rattle.dex_wallet.specs.CellState as wallet
-use Rattle.dex_fold.specs.World.{market_at}
-use Rattle.dex_fold.proofs.FarLaws.{market-far, seen-far}
-pub use Rattle.dex_fold.proofs.ItemLaws.{not-refused}
+use Rattle.dex_world.specs.World.{market_at}
+use Rattle.dex_world.proofs.FarLaws.{market-far, seen-far}
+pub use Rattle.dex_world.proofs.ItemLaws.{not-refused}
 use Rattle.dex_bank.specs.Cells.{IsTakeOrRefused, OthersThanTwoStay}
 use Rattle.dex_bank.specs.Stepped.{HasActedOrWaited, HaveBothStepped}
 use Rattle.dex_bank.specs.Stepping.{doing}

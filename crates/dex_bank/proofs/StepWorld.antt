@@ -1,6 +1,6 @@
 -- What no row changes of cells.
 use Rattle.std.proofs.Common.{◌≡◌, Bool, ◌||◌, List, [], ◌∷◌, map, refl, sym, ap, ◌∙◌}
-use Rattle.dex_fold.proofs.Common.{Address, All-head, All-tail, is_same}
+use Rattle.dex_world.proofs.Common.{Address, All-head, All-tail, is_same}
 use Rattle.dex_bank.proofs.Common.{CellState, CellsState, IsMarketCell, MarketCellState, is_among, is_market, made_of, opened_of}
 use Rattle.std.specs.List.{All}
 use Rattle.dex_cell.specs.CellState.{new_cell}

@@ -15,10 +15,10 @@ use Rattle.dex_cell.specs.CellState as market_cell
 use Rattle.dex_cell.specs.CellState.{IsMarketCell, MarketCellState}
 use Rattle.dex_wallet.specs.CellState as wallet_cell
 use Rattle.dex_wallet.specs.CellState.{CellState, IsWalletCell}
-use Rattle.dex_fold.specs.Fold.{names}
-use Rattle.dex_fold.specs.Groups.{members}
-use Rattle.dex_fold.specs.Items.{Item, ShareNothing, chosen, why_in}
-use Rattle.dex_fold.specs.World.{World, market_at, seen_by}
+use Rattle.dex_world.specs.Fold.{names}
+use Rattle.dex_world.specs.Groups.{members}
+use Rattle.dex_world.specs.Items.{Item, ShareNothing, chosen, why_in}
+use Rattle.dex_world.specs.World.{World, market_at, seen_by}
 pub use Rattle.dex_act.specs.Opened.{market_state_of}
 use Rattle.dex_act.specs.Wallets.{AreApart, is_among, wallet_state_of}
 

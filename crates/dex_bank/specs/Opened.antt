@@ -4,8 +4,8 @@ use Rattle.dex_types.specs.declared.terms.Program.{Program}
 use Rattle.dex_types.specs.Accounts.{PlainAccount, PlainAccounts, PlainMarketAccounts}
 use Rattle.dex_types.specs.Rows.{PlainRow}
 pub use Rattle.dex_act.specs.Opened.{market_opened, wallet_opened}
-pub use Rattle.dex_fold.specs.RowsOf.{rows_naming, rows_on}
-use Rattle.dex_script_facts.specs.PlainScript.{PlainScript}
+pub use Rattle.dex_world.specs.RowsOf.{rows_naming, rows_on}
+use Rattle.dex_script_types.specs.PlainScript.{PlainScript}
 use Rattle.dex_bank.specs.Cells.{CellsState}
 
 -- how many rows are on each of these markets

@@ -3,8 +3,8 @@ use Rattle.std.specs.Prelude.{◌≡◌, ◌||◌, Bool, true, false, is_some}
 use Rattle.dex_types.specs.declared.replies.Reply.{Reply}
 use Rattle.dex_types.specs.Rows.{PlainRow}
 use Rattle.dex_history.specs.Journal.{is_refusal}
-use Rattle.dex_fold.specs.Fold.{act}
-use Rattle.dex_fold.specs.Items.{act_item, doing, pair_of, why_in}
+use Rattle.dex_world.specs.Fold.{act}
+use Rattle.dex_world.specs.Items.{act_item, doing, pair_of, why_in}
 use Rattle.dex_bank.specs.Cells.{AreCells, AreReplies, CellsState, IsReply, OthersStay, OthersThanTwoStay, accounts_in, opened_of, world_of}
 
 -- a row acted on cells, or waited: then it did nothing, and looked at the wallets that it names. This was its reply

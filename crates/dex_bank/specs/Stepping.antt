@@ -9,8 +9,8 @@ use Rattle.dex_types.specs.Rows.{PlainRow}
 use Rattle.dex_history.specs.Journal.{is_refusal, row_step}
 use Rattle.dex_cell.specs.CellState.{HasSpare, IsFor, IsMarketCell, MarketCellState, market_at}
 use Rattle.dex_wallet.specs.CellState.{CellState}
-use Rattle.dex_fold.specs.Fold.{market_acted}
-pub use Rattle.dex_fold.specs.Items.{doing}
+use Rattle.dex_world.specs.Fold.{market_acted}
+pub use Rattle.dex_world.specs.Items.{doing}
 pub use Rattle.dex_act.specs.Acted.{HaveActed}
 use Rattle.dex_act.specs.Wallets.{SeesCells}
 use Rattle.dex_bank.specs.Cells.{CellsState, market_state_of}

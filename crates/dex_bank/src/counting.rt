@@ -3,13 +3,13 @@
 ghost use Rattle.std.specs.Prelude.{◌≡◌, ◌==◌, ◌&&◌, not, ℕ, IfOk, map};
 ghost use Rattle.dex_types.specs.Accounts.{accounts_of};
 ghost use Rattle.dex_types.specs.Rows.{row_of};
-ghost use Rattle.dex_script_facts.specs.Facts.{IsStart};
-ghost use Rattle.dex_script_facts.specs.Places.{AreBeside, ArePlaced};
+ghost use Rattle.dex_script_types.specs.Facts.{IsStart};
+ghost use Rattle.dex_script_types.specs.Places.{AreBeside, ArePlaced};
 ghost use Rattle.dex_bank.specs.Counts as spec;
 ghost use Rattle.dex_bank.specs.Counts.{AreCounted, HaveSpare};
 ghost use Rattle.dex_bank.specs.Opened as first;
 
-use dex_script_facts::RowList;
+use dex_script_types::RowList;
 use dex_types::{Accounts, NoMemory, RowPlaces};
 use std::alloc::Global;
 

@@ -4,8 +4,8 @@ ghost use Rattle.std.specs.Prelude.{◌≡◌, ◌&&◌, None, not, true, is_som
 ghost use Rattle.std.specs.List.{All};
 ghost use Rattle.dex_types.specs.Rows.{row_of};
 ghost use Rattle.dex_cell.specs.CellState.{CanHold};
-ghost use Rattle.dex_fold.specs.Items.{why_in};
-ghost use Rattle.dex_fold.specs.World as world;
+ghost use Rattle.dex_world.specs.Items.{why_in};
+ghost use Rattle.dex_world.specs.World as world;
 ghost use Rattle.dex_act.specs.Wallets.{AreApart, ArePlacesAmong, Fits, IsRoleAt, roles_of, wallet_state_of};
 ghost use Rattle.dex_bank.specs.Cells.{AreCells, CanAct, CanActBoth, CanWait, world_of};
 ghost use Rattle.dex_bank.specs.Places.{StandsAt};

@@ -8,11 +8,11 @@ use Rattle.dex_types.specs.Accounts.{PlainAccount, PlainMarketAccounts}
 use Rattle.dex_types.specs.Addresses.{is_same}
 use Rattle.dex_types.specs.Rows.{PlainRow}
 use Rattle.dex_cell.specs.CellState.{MarketCellState}
-use Rattle.dex_fold.specs.Fold.{fold}
-use Rattle.dex_fold.specs.Items.{items_of}
-use Rattle.dex_fold.specs.RowsOf.{rows_on}
-use Rattle.dex_fold.specs.World.{WalletState, World}
-use Rattle.dex_fold.proofs.MappedLists.{list_any-map, map-map}
+use Rattle.dex_world.specs.Fold.{fold}
+use Rattle.dex_world.specs.Items.{items_of}
+use Rattle.dex_world.specs.RowsOf.{rows_on}
+use Rattle.dex_world.specs.World.{WalletState, World}
+use Rattle.dex_world.proofs.MappedLists.{list_any-map, map-map}
 use Rattle.dex_act.specs.Opened.{market_opened, market_state_of, wallet_opened}
 use Rattle.dex_act.specs.Wallets.{is_among, wallet_state_of}
 use Rattle.dex_act.proofs.CellLists.{is_among-any}
@@ -25,12 +25,12 @@ use Rattle.dex_replay.specs.Replays.{IsReplayOf}
 use Rattle.dex_replay.proofs.Ends.{is-left}
 use Rattle.dex_replay.proofs.Singles.{script-acts}
 use Rattle.dex_replay.proofs.Starts.{AreOfScript, are-of-script, market-addresses, opened-address, opened-opened, opened-world, wallet-addresses}
-use Rattle.dex_script_facts.specs.PlainScript.{PlainScript}
-use Rattle.dex_script_facts.specs.Facts.{HasNoSwap, IsRowOf, IsScript}
-use Rattle.dex_script_facts.specs.Known.{has_account}
-use Rattle.dex_script_facts.specs.Starts.{market_state, wallet_state}
-use Rattle.dex_script_facts.proofs.Apart.{markets-distinct, wallets-distinct}
-use Rattle.dex_script_facts.proofs.Roles.{roles-all}
+use Rattle.dex_script_types.specs.PlainScript.{PlainScript}
+use Rattle.dex_script_types.specs.Facts.{HasNoSwap, IsRowOf, IsScript}
+use Rattle.dex_script_types.specs.Known.{has_account}
+use Rattle.dex_script_types.specs.Starts.{market_state, wallet_state}
+use Rattle.dex_script_types.proofs.Apart.{markets-distinct, wallets-distinct}
+use Rattle.dex_script_types.proofs.Roles.{roles-all}
 use Rattle.dex_team.specs.Acting.{AreDistinct, AreDistinctCells, CanAllAct, HaveActed, IsHere, market_addresses, wallet_addresses}
 use Rattle.dex_team.specs.Rooms.{MarketRoom, WalletRoom}
 use Rattle.dex_team.proofs.RoomLaws.{listing-address, market_room, wallet_room}

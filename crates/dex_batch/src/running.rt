@@ -5,12 +5,12 @@ ghost use Rattle.dex_types.specs.Rows.{row_of};
 ghost use Rattle.dex_state.specs.Outcomes.{outcome_of};
 ghost use Rattle.dex_replay.specs.Replays.{IsReplayOf};
 ghost use Rattle.dex_replay.specs.Runs.{IsRunOf};
-ghost use Rattle.dex_script_facts.specs.Facts.{HasNoSwap};
+ghost use Rattle.dex_script_types.specs.Facts.{HasNoSwap};
 
 use dex_bank::Cells;
 use dex_io::Pace;
 use dex_replay::laws::{a_replay_is_in_one_order, what_one_order_leaves_is_a_run};
-use dex_script_facts::{RowList, Script};
+use dex_script_types::{RowList, Script};
 use dex_stage::Terms;
 use dex_state::Outcome;
 use dex_team::{Sizes, work_all};

@@ -3,7 +3,7 @@ use Rattle.std.specs.Prelude.{◌≡◌, ◌⊎◌, ℕ, false, List, ◌∷◌,
 use Rattle.std.specs.Fmt.{decimal}
 use Rattle.std.specs.List.{flat_map}
 use Rattle.dex_types.specs.Text.{spaced}
-use Rattle.dex_script_facts.specs.PlainScript.{PlainScript}
+use Rattle.dex_script_types.specs.PlainScript.{PlainScript}
 use Rattle.dex_script.specs.Scripts.{Reads}
 use Rattle.dex_parts.specs.Cuts.{AreCutBy, numbers_of}
 use Rattle.dex_parts.specs.Sharded.{AreShardsOf}

@@ -6,7 +6,7 @@ ghost use Rattle.dex_types.specs.Owed.{order_lock};
 ghost use Rattle.dex_accounts.specs.Keeps.{KeepsSide};
 ghost use Rattle.dex_cancel.specs.TakenOff.{CanLeaveSide, HaveLeftSide, side_handed};
 
-use dex_meet::ring_events::push_releasing_out;
+use dex_fills::ring_events::push_releasing_out;
 use dex_ring::RingView;
 use dex_types::{Lots, Order, Side, SideBook};
 

@@ -10,7 +10,7 @@ ghost use Rattle.dex_cancel_slots.specs.Slots.{DoSlotsNameOn};
 
 use crate::owned::Owner;
 use crate::taken::{id_at, next_set, side_bits};
-use dex_meet::prices::precedes;
+use dex_fills::prices::precedes;
 use dex_types::{Order, Side, SideRead};
 
 /// The id comes after the last one, where there is one.

@@ -9,7 +9,7 @@ use crate::call_record::CallRecord;
 use crate::journal::write_down;
 use crate::payouts::{Payouts, Vaults, pay};
 use dex_decide::Plan;
-use dex_meet::{PendingFills, pending_fills};
+use dex_fills::{PendingFills, pending_fills};
 use dex_movements::Amounts;
 use dex_ring::RingRef;
 use dex_stamps::{Kept, Log};

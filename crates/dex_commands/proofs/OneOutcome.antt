@@ -4,7 +4,7 @@ use Rattle.dex_state.specs.Outcomes.{PlainOutcome}
 use Rattle.dex_report.specs.Report.{report_text}
 use Rattle.dex_report.specs.Telling.{IsToldOutcome}
 use Rattle.dex_report.proofs.Journals.{report_text-injective}
-use Rattle.dex_script_facts.specs.PlainScript.{PlainScript}
+use Rattle.dex_script_types.specs.PlainScript.{PlainScript}
 use Rattle.dex_script.specs.Scripts.{Reads}
 use Rattle.dex_script.proofs.OrderLaws.{read-rows}
 use Rattle.dex_answers.specs.Answers.{Reported, rows_told}

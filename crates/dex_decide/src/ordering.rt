@@ -16,9 +16,9 @@ ghost use Rattle.dex_plan.specs.Plans.{order_answer, order_by, order_planned};
 
 use crate::named::{Acting, open_named};
 use crate::taking::is_disabled;
+use dex_fills::PendingFills;
 use dex_market::{MarketRef, RequestRef};
 use dex_match::{Decided, Taker, decide_order_with_pending, gathered};
-use dex_meet::PendingFills;
 use dex_orders::OrdersRef;
 use dex_plan::Plan;
 use dex_reasons::{is_mint, missing, not_owner, not_signed, other_discount_mint, other_mint};

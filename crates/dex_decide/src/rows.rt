@@ -19,9 +19,9 @@ use crate::deciding::{
 use crate::ordering::{decide_order_row, tier_seen};
 use crate::taking::decide_take_row;
 use dex_cancel::CancelWhat;
+use dex_fills::PendingFills;
 use dex_instruction::decode;
 use dex_match::Taker;
-use dex_meet::PendingFills;
 use dex_plan::Plan;
 use dex_take::LeastFill;
 use dex_types::{Ix, MarketAccounts, OrderType, Refusal, Row, Seen, SelfTrade};

@@ -13,9 +13,9 @@ ghost use Rattle.dex_plan.specs.Given.{asked_by, market_of, take_given_on};
 ghost use Rattle.dex_plan.specs.Plans.{take_answer};
 
 use crate::ordering::{payer_seen, side_of};
+use dex_fills::PendingFills;
 use dex_market::MarketRef;
 use dex_match::Taker;
-use dex_meet::PendingFills;
 use dex_plan::Plan;
 use dex_reasons::{disabled, missing, not_signed, other_discount_mint, other_mint};
 use dex_ring::RingRef;

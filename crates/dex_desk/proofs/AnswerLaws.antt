@@ -6,7 +6,7 @@ use Rattle.dex_types.specs.Addresses.{is_same}
 use Rattle.dex_types.specs.Rows.{PlainRow}
 use Rattle.dex_state.specs.declared.outcome.MarketJournal.{MarketJournal}
 use Rattle.dex_state.specs.Outcomes.{PlainMarketJournal, market_journal_of}
-use Rattle.dex_script_facts.specs.Firsts.{first_of}
+use Rattle.dex_script_types.specs.Firsts.{first_of}
 use Rattle.dex_script.proofs.FirstLaws.{first-at, first-none, is-first, none-passes}
 use Rattle.dex_desk.specs.Replies.{answer_to, entry_of, line_told}
 

@@ -13,7 +13,7 @@ use Rattle.dex_statement.specs.Faults.{◌>>=◌}
 use Rattle.dex_statement.specs.Statements.{statement_of}
 use Rattle.dex_statement.specs.Words.{Fields}
 use Rattle.dex_dump.specs.Answers.{next_number}
-use Rattle.dex_script_facts.specs.Facts.{IsScript, IsStart}
+use Rattle.dex_script_types.specs.Facts.{IsScript, IsStart}
 use Rattle.dex_script.specs.Drafts.{PlainDraft}
 use Rattle.dex_script.specs.Pieces.{number_after}
 use Rattle.dex_script.specs.Rows.{exceeds_row, instruction_row, is_bad_swap, is_full, with_clock, with_instruction, with_item, with_known, with_legs, with_row, with_statement, with_two}
@@ -34,7 +34,7 @@ use Rattle.dex_desk.specs.Blocks.{IsBlock, PlainBlock, no_rows_of, with_both, wi
 use Rattle.dex_script.specs.Names.{AreNames, places_in, places_of, role_place}
 use Rattle.std.specs.HashMap as hash
 use Rattle.dex_types.specs.Addresses.{is_same}
-use Rattle.dex_script_facts.specs.Places.{wallet_place}
+use Rattle.dex_script_types.specs.Places.{wallet_place}
 use Rattle.std.proofs.lemmas.Bool.{eqb-false}
 use Rattle.dex_script.proofs.FaultLaws.{or-none}
 use Rattle.dex_script.proofs.NameLaws.{known, unknown}

@@ -9,7 +9,7 @@ use Rattle.dex_cell.specs.CellState.{AreOfOneMarket}
 use Rattle.dex_state.specs.Addresses.{address_of}
 use Rattle.dex_state.specs.Outcomes.{PlainOutcome}
 use Rattle.dex_replay.specs.Replays.{IsOfStart}
-use Rattle.dex_script_facts.specs.PlainScript.{PlainScript}
+use Rattle.dex_script_types.specs.PlainScript.{PlainScript}
 use Rattle.dex_script.proofs.NameLaws.{position-map}
 use Rattle.dex_script.specs.declared.names.Names.{Names}
 use Rattle.dex_script.specs.Names.{AreNames}

@@ -27,7 +27,7 @@ use Rattle.dex_script.specs.Scripts.{AnswersBy, Reads, Refusal, begins_with_dump
 use Rattle.dex_script.proofs.FaultLaws.{bind-ok, ok-same, or-none}
 use Rattle.dex_script.proofs.ItemRows.{first_leg, instruction-row, second_leg, swap-row}
 use Rattle.dex_script.proofs.OrderLaws.{by-row, first-row, last_script}
-use Rattle.dex_script_facts.specs.PlainScript.{PlainScript}
+use Rattle.dex_script_types.specs.PlainScript.{PlainScript}
 use Rattle.dex_state.specs.Outcomes.{PlainOutcome}
 use Rattle.dex_desk.specs.declared.ends.Over.{Over}
 use Rattle.dex_desk.specs.declared.ends.Over.TheVariants as over

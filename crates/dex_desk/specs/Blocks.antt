@@ -9,7 +9,7 @@ use Rattle.dex_statement.specs.declared.faults.RowError.TheVariants as row_error
 use Rattle.dex_statement.specs.Faults.{◌>>=◌}
 use Rattle.dex_statement.specs.Stated.{PlainInstruction, PlainSwap}
 use Rattle.dex_statement.specs.Words.{Fields}
-use Rattle.dex_script_facts.specs.Facts.{IsStart}
+use Rattle.dex_script_types.specs.Facts.{IsStart}
 use Rattle.dex_script.specs.Drafts.{PlainDraft}
 use Rattle.dex_dump.specs.Answers.{next_number}
 use Rattle.dex_script.specs.Pieces.{number_after}

@@ -10,7 +10,7 @@ use Rattle.dex_types.specs.Addresses.{is_same}
 use Rattle.dex_types.specs.Side.{price_of}
 use Rattle.dex_types.specs.Text.{spaced}
 use Rattle.dex_refusal_lines.specs.Lines.{line}
-use Rattle.dex_script_facts.specs.Firsts.{first_of}
+use Rattle.dex_script_types.specs.Firsts.{first_of}
 use Rattle.dex_slab.specs.Slab.{resting}
 
 -- the lots of the orders at the front that have this price

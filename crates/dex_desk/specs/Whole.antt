@@ -12,7 +12,7 @@ use Rattle.dex_replay.specs.Replays.{IsReplayOf}
 use Rattle.dex_rows.specs.Records.{rows_of}
 use Rattle.dex_script.specs.Rows.{instruction_row}
 use Rattle.dex_script.specs.Scripts.{Reads}
-use Rattle.dex_script_facts.specs.PlainScript.{PlainScript}
+use Rattle.dex_script_types.specs.PlainScript.{PlainScript}
 use Rattle.dex_state.specs.Outcomes.{PlainOutcome}
 use Rattle.dex_statement.specs.declared.faults.FaultKind.{FaultKind}
 use Rattle.dex_statement.specs.Stated.{leg_words}

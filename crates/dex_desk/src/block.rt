@@ -8,7 +8,7 @@ ghost use Rattle.dex_types.specs.Addresses.{is_same};
 ghost use Rattle.dex_statement.specs.declared.statement.Statement.TheVariants as statement;
 ghost use Rattle.dex_statement.specs.Statements.{statement_of};
 ghost use Rattle.dex_statement.specs.Words.{Fields as FieldsOf};
-ghost use Rattle.dex_script_facts.specs.Facts.{IsScript, IsStart};
+ghost use Rattle.dex_script_types.specs.Facts.{IsScript, IsStart};
 ghost use Rattle.dex_desk.specs.Blocks as spec;
 ghost use Rattle.dex_accounts.specs.Accepted.{IsAccepted};
 ghost use Rattle.dex_desk.specs.Books.{found_market};
@@ -17,7 +17,7 @@ ghost use Rattle.dex_script.specs.Names.{AreNames};
 ghost use Rattle.dex_script.specs.Rows as rules;
 
 use dex_script::{Names, exceeds_row, is_bad_swap, make_room, push_placed};
-use dex_script_facts::{RowList, Script};
+use dex_script_types::{RowList, Script};
 use dex_statement::{FaultKind, InstructionWords, RowError, SwapWords};
 use dex_types::{Accounts, Address, MarketAccounts, NoMemory, Program, Row, RowPlaces, is_same};
 use std::alloc::Global;

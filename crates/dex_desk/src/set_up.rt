@@ -14,7 +14,7 @@ use dex_answers::{StatusText, no_script};
 use dex_replay::replay;
 use dex_rows::records::{Fields, Rows, field_at};
 use dex_script::{Names, read_script};
-use dex_script_facts::{addresses_of_markets, addresses_of_wallets};
+use dex_script_types::{addresses_of_markets, addresses_of_wallets};
 use dex_statement::{RowError, Statement, statement_of};
 use dex_types::{Accounts, NoMemory};
 use std::alloc::Global;

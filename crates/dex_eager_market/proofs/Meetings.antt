@@ -10,7 +10,7 @@ use Rattle.dex_types.specs.Meeting.{TakerTerms, Demand, Meeting, demand_after, f
 use Rattle.dex_types.specs.Side.{opposite, price_of}
 use Rattle.dex_laws.proofs.DemandLaws.{demand_after-matches, met_lots-demand, met_pc-budget}
 use Rattle.dex_laws.proofs.Taken.{Takes, Takes-taken}
-use Rattle.dex_meet.proofs.MeetingSteps.{meet-ended, meet-part, meet-whole}
+use Rattle.dex_fills.proofs.MeetingSteps.{meet-ended, meet-part, meet-whole}
 use Rattle.dex_eager_market.specs.declared.foreseeing.Sums.{Sums}
 use Rattle.dex_eager_market.specs.Foreseen.{CanFill, IsModest}
 

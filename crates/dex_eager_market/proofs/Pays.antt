@@ -5,8 +5,8 @@ use Rattle.dex_types.specs.declared.terms.Side.{Side}
 use Rattle.dex_types.specs.declared.terms.Side.TheVariants.{Bid, Ask}
 use Rattle.dex_types.specs.Meeting.{TakerTerms, Demand, Meeting, is_own, maker_fill, met_events, met_first, met_none, plain_out}
 use Rattle.dex_types.specs.QueuedEvent.{QueuedEvent}
-use Rattle.dex_meet.specs.declared.wants.Terms.{Terms}
-use Rattle.dex_meet.specs.Taker.{fill_met, taking}
+use Rattle.dex_fills.specs.declared.wants.Terms.{Terms}
+use Rattle.dex_fills.specs.Taker.{fill_met, taking}
 use Rattle.dex_eager.specs.Eager.{Worths, with_change, with_fills}
 use Rattle.dex_eager.specs.Slots.{maker_fills}
 use Rattle.dex_eager.proofs.FillSums.{maker_fills-append}

@@ -17,7 +17,7 @@ use Rattle.dex_eager.specs.Eager.{Eager, Worths}
 use Rattle.dex_eager.specs.Histories.{eager_start}
 use Rattle.dex_eager.specs.Slots.{without_slot, without_slots}
 use Rattle.dex_eager.specs.Worth.{held_for, no_moves, worth_of}
-use Rattle.dex_tallies.specs.Sums.{capped}
+use Rattle.dex_totals.specs.Sums.{capped}
 use Rattle.dex_worth.specs.declared.amounts.Amounts.{Amounts}
 use Rattle.dex_worth.specs.Amounts.{AreSums, capped_amounts}
 use Rattle.dex_worth.specs.Holdings.{held_amounts}

@@ -27,9 +27,9 @@ use Rattle.dex_laws.proofs.PostLaws.{All-posted, post-full, post-none, post-room
 use Rattle.dex_laws.proofs.SpendLaws.{rested-paid}
 use Rattle.dex_match.specs.declared.order_terms.Taker.{Taker}
 use Rattle.dex_match.specs.OrderTerms.{meeting_with as order_meets, order_of}
-use Rattle.dex_meet.specs.declared.wants.Terms.{Terms}
-use Rattle.dex_meet.specs.declared.wants.Want.{Want}
-use Rattle.dex_meet.specs.Taker.{demand, taking}
+use Rattle.dex_fills.specs.declared.wants.Terms.{Terms}
+use Rattle.dex_fills.specs.declared.wants.Want.{Want}
+use Rattle.dex_fills.specs.Taker.{demand, taking}
 use Rattle.dex_sound.specs.Exchange.{taker_gets, taker_pays}
 use Rattle.dex_take.specs.TakeTerms.{meeting_with as take_meets, take_of}
 use Rattle.dex_eager.specs.Eager.{Eager, EagerStep, Worths, after_meeting, after_new_order, is_too_large, order_by, take_by, with_change, with_fills}

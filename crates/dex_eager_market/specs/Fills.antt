@@ -2,7 +2,7 @@
 use Rattle.std.specs.Prelude.{◌+◌, ◌-◌}
 use Rattle.dex_types.specs.declared.terms.Side.{Side}
 use Rattle.dex_types.specs.declared.terms.Side.TheVariants.{Bid, Ask}
-use Rattle.dex_meet.specs.declared.fills.Fill.{Fill}
+use Rattle.dex_fills.specs.declared.fills.Fill.{Fill}
 use Rattle.dex_eager_market.specs.declared.accounts.Change.{Change}
 
 -- what a fill of the taker's side changes for the maker: an ask pays base and gets quote and the rebate, a bid gets

@@ -7,7 +7,7 @@ use Rattle.dex_types.specs.declared.terms.Side.TheVariants.{Bid, Ask}
 use Rattle.dex_types.specs.Meeting.{Demand, Meeting, less}
 use Rattle.dex_types.specs.Owed.{order_lock}
 use Rattle.dex_types.specs.Posting.{still_crosses}
-use Rattle.dex_meet.specs.Taker.{demand}
+use Rattle.dex_fills.specs.Taker.{demand}
 use Rattle.dex_eager_market.specs.declared.foreseeing.Foreseen.{Foreseen}
 
 -- the fills of a resting order fit 64 bits, and it has the number of a tier

@@ -7,7 +7,7 @@ ghost use Rattle.dex_types.specs.Cancel as cancel;
 ghost use Rattle.dex_types.specs.Posting as posting;
 ghost use Rattle.dex_eager_market.specs.Foreseen.{left_by, less_first};
 
-use dex_meet::prices::precedes;
+use dex_fills::prices::precedes;
 use dex_types::{Order, Side};
 
 /// How many of the orders stand before one with this id.

@@ -2,16 +2,16 @@
 
 ghost use Rattle.std.specs.Prelude.{◌≡◌, ◌+◌, ◌*◌, ◌^◌, ◌<◌, ◌≤◌, ◌∷◌, List, false, is_some};
 ghost use Rattle.std.specs.List.{All};
-ghost use Rattle.dex_meet.specs.Taker.{demand, met_by, taking};
+ghost use Rattle.dex_fills.specs.Taker.{demand, met_by, taking};
 ghost use Rattle.dex_types.specs.declared.orders.Order.{Order as OrderOf};
 ghost use Rattle.dex_types.specs.Meeting as meeting;
 ghost use Rattle.dex_types.specs.Side as book;
 ghost use Rattle.dex_eager_market.specs.Foreseen.{CanFill, IsForeseen, IsModest};
 
-use dex_meet::fills::{Fill, fill_met, want_after};
-use dex_meet::prices::{crosses, price_of};
-use dex_meet::taking::{is_own, reaches, taken};
-use dex_meet::{Terms, Want};
+use dex_fills::fills::{Fill, fill_met, want_after};
+use dex_fills::prices::{crosses, price_of};
+use dex_fills::taking::{is_own, reaches, taken};
+use dex_fills::{Terms, Want};
 use dex_types::{Order, SelfTrade, Side};
 
 /// The sums of a taker's fills, in native units: base, quote, and the makers' rebates.

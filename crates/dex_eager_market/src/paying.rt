@@ -4,7 +4,7 @@ ghost use Rattle.std.specs.Prelude.{◌≡◌, ℕ, ◌+◌, ◌*◌, ◌^◌, �
 ghost use Rattle.std.specs.List.{All};
 ghost use Rattle.dex_eager.specs.Eager.{with_fills};
 ghost use Rattle.dex_eager.specs.Slots.{maker_fills};
-ghost use Rattle.dex_meet.specs.Taker.{demand, met_by, taking};
+ghost use Rattle.dex_fills.specs.Taker.{demand, met_by, taking};
 ghost use Rattle.dex_types.specs.Meeting as meeting;
 ghost use Rattle.dex_types.specs.Side as book;
 ghost use Rattle.dex_eager_market.specs.Accounts.{Grows, IsSmall, IsWithin, entry_of};
@@ -12,9 +12,9 @@ ghost use Rattle.dex_eager_market.specs.Fills.{maker_change};
 ghost use Rattle.dex_eager_market.specs.Foreseen.{CanFill, IsModest};
 
 use crate::accounts::{Account, Change, add};
-use dex_meet::fills::{Fill, fill_met, want_after};
-use dex_meet::taking::{is_own, taken};
-use dex_meet::{Terms, Want};
+use dex_fills::fills::{Fill, fill_met, want_after};
+use dex_fills::taking::{is_own, taken};
+use dex_fills::{Terms, Want};
 use dex_types::{Order, Side};
 use dex_worth::amounts::Amounts;
 

@@ -4,14 +4,14 @@ use Rattle.std.specs.List.{All}
 use Rattle.dex_types.specs.Rows.{PlainRow}
 use Rattle.dex_bank.specs.Cells.{CanAct, CellsState, world_of}
 use Rattle.dex_bank.specs.Opened.{opened}
-use Rattle.dex_fold.proofs.Common.{All-head, All-map}
-use Rattle.dex_fold.specs.World.{World}
+use Rattle.dex_world.proofs.Common.{All-head, All-map}
+use Rattle.dex_world.specs.World.{World}
 use Rattle.dex_replay.proofs.Counting.{HasFew, HasFewMoves, IsCounted}
 use Rattle.dex_replay.proofs.Room.{can-act}
 use Rattle.dex_replay.proofs.Starts.{are-of-script, opened-address, opened-opened, opened-world}
-use Rattle.dex_script_facts.specs.Facts.{IsRowOf, IsScript}
-use Rattle.dex_script_facts.specs.PlainScript.{PlainScript}
-use Rattle.dex_script_facts.specs.Starts.{market_state, start_world, wallet_state}
+use Rattle.dex_script_types.specs.Facts.{IsRowOf, IsScript}
+use Rattle.dex_script_types.specs.PlainScript.{PlainScript}
+use Rattle.dex_script_types.specs.Starts.{market_state, start_world, wallet_state}
 
 -- at the start no journal has an entry
 starts-counted : (script : PlainScript) → IsCounted [] (start_world script)

@@ -1,8 +1,8 @@
 //! A row by itself, without the places of its market and wallets, acts on the cells of a script.
 
 ghost use Rattle.dex_bank.specs.Opened.{opened};
-ghost use Rattle.dex_script_facts.specs.Facts.{IsScript};
-ghost use Rattle.dex_script_facts.specs.PlainScript.{PlainScript};
+ghost use Rattle.dex_script_types.specs.Facts.{IsScript};
+ghost use Rattle.dex_script_types.specs.PlainScript.{PlainScript};
 ghost use Rattle.dex_types.specs.Rows.{row_of};
 ghost use Rattle.std.specs.Prelude.{◌≡◌, map};
 

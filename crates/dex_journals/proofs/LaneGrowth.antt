@@ -1,15 +1,15 @@
 -- A lane, and an item more of it.
 use Rattle.std.proofs.Common.{◌≡◌, ℕ, suc, ◌<◌, ◌+◌, false, eqb, List, [], ◌∷◌, ◌++◌, length, map, take, get_or, refl, sym, ap, ◌∙◌, subst, arith}
-use Rattle.dex_fold.proofs.Common.{All-append, All-cons, All-head, All-nil, All-tail, All-weaker, AllPairs, Asked, Call, Group, PlainRow, asked_of, eq-eqb, false≢true, grouped, length-map, rows_of_lane}
-use Rattle.dex_script_facts.specs.PlainScript.{PlainScript}
-use Rattle.dex_script_facts.specs.Sight.{IsSight}
+use Rattle.dex_world.proofs.Common.{All-append, All-cons, All-head, All-nil, All-tail, All-weaker, AllPairs, Asked, Call, Group, PlainRow, asked_of, eq-eqb, false≢true, grouped, length-map, rows_of_lane}
+use Rattle.dex_script_types.specs.PlainScript.{PlainScript}
+use Rattle.dex_script_types.specs.Sight.{IsSight}
 use Rattle.dex_stamps.specs.Stamped.{Stamped}
 use Rattle.dex_journals.specs.Lanes.{AreAllOrNone, IsBefore, IsLane, MovesEach, number_in}
 use Rattle.std.specs.List.{All}
 use Rattle.std.proofs.lemmas.List.{length-append, map-append, append_assoc, append-nil}
 use Rattle.std.proofs.Math.Seq.{take-append-add}
 use Rattle.std.proofs.lemmas.List.Quantifiers.{all_pairs_push}
-use Rattle.dex_fold.proofs.GroupLaws.{grouped-behind, grouped-one}
+use Rattle.dex_world.proofs.GroupLaws.{grouped-behind, grouped-one}
 
 -- what holds of each two in two lists, and of each in the one and each in the other
 pairs-behind : {X : Type 0} (R : X → X → Type 0) (xs ys : List X) → AllPairs R xs → AllPairs R ys → All (λ (x : X). All (R x) ys) xs → AllPairs R (xs ++ ys)

@@ -11,8 +11,8 @@ use Rattle.dex_types.specs.Rows.{PlainRow, row_of}
 use Rattle.dex_history.specs.Journal.{Call}
 use Rattle.dex_cell.specs.CellState.{HasActed, HasSpare, IsMarketCell, MarketCellState, call_on, held_made, held_on}
 use Rattle.dex_wallet.specs.CellState.{CellState}
-use Rattle.dex_script_facts.specs.PlainScript.{PlainScript}
-use Rattle.dex_fold.specs.RowsOf.{rows_of_market, rows_on}
+use Rattle.dex_script_types.specs.PlainScript.{PlainScript}
+use Rattle.dex_world.specs.RowsOf.{rows_of_market, rows_on}
 use Rattle.dex_stamps.specs.Stamped.{AreRising, items_of, stamped}
 use Rattle.dex_journals.specs.Journals.{BankMarketState, IsBankMarket, MayAct, calls_by, market_calls, market_more}
 use Rattle.dex_journals.proofs.Counting.{fewer}

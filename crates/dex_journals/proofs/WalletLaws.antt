@@ -6,10 +6,10 @@ use Rattle.std.proofs.lemmas.List.Sums.{length-filter}
 use Rattle.dex_types.specs.declared.addresses.Address.{Address}
 use Rattle.dex_types.specs.declared.movements.WalletEntry.{WalletEntry}
 use Rattle.dex_types.specs.Rows.{PlainRow}
-use Rattle.dex_fold.specs.Fold.{names}
+use Rattle.dex_world.specs.Fold.{names}
 use Rattle.dex_wallet.specs.CellState.{CellState, HasSpare, IsWalletCell}
-use Rattle.dex_script_facts.specs.PlainScript.{PlainScript}
-use Rattle.dex_fold.specs.RowsOf.{rows_naming, rows_of_wallet}
+use Rattle.dex_script_types.specs.PlainScript.{PlainScript}
+use Rattle.dex_world.specs.RowsOf.{rows_naming, rows_of_wallet}
 use Rattle.dex_stamps.specs.Stamped.{AreRising, items_of, stamped}
 use Rattle.dex_journals.specs.Journals.{AddsEntry, BankWalletState, IsBankWallet, MayComeBack, TrailState, wallet_more}
 use Rattle.dex_journals.specs.Journals.{entries_by, left_by, wallet_entries}

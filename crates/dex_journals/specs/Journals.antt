@@ -9,8 +9,8 @@ use Rattle.dex_history.specs.Journal.{Call}
 use Rattle.dex_cell.specs.CellState.{IsFor, IsMarketCell, MarketCellState}
 use Rattle.dex_wallet.specs.CellState.{CellState, IsWalletCell}
 use Rattle.dex_act.specs.Wallets.{SeesCells, made_of}
-use Rattle.dex_script_facts.specs.PlainScript.{PlainScript}
-use Rattle.dex_fold.specs.RowsOf.{rows_naming, rows_of_market, rows_of_wallet, rows_on}
+use Rattle.dex_script_types.specs.PlainScript.{PlainScript}
+use Rattle.dex_world.specs.RowsOf.{rows_naming, rows_of_market, rows_of_wallet, rows_on}
 use Rattle.dex_stamps.specs.Stamped.{AreRising, Stamped, stamped}
 
 -- ---- a market

@@ -1,12 +1,12 @@
 -- What a lane made.
 use Rattle.std.specs.Prelude.{ℕ, ◌≡◌, ◌==◌, ◌<◌, ◌&&◌, true, false, not, List, All, length, map, take}
 use Rattle.std.specs.List.{AllPairs, list_any}
-use Rattle.dex_fold.specs.Groups.{Group, grouped, members}
-use Rattle.dex_fold.specs.Items.{rows_of_lane}
+use Rattle.dex_world.specs.Groups.{Group, grouped, members}
+use Rattle.dex_world.specs.Items.{rows_of_lane}
 use Rattle.dex_types.specs.declared.movements.Movement.{Movement}
 use Rattle.dex_history.specs.Journal.{Call, asked_of, asked_wallets, front, is_held, is_refused}
-use Rattle.dex_script_facts.specs.PlainScript.{PlainScript}
-use Rattle.dex_script_facts.specs.Sight.{IsSight}
+use Rattle.dex_script_types.specs.PlainScript.{PlainScript}
+use Rattle.dex_script_types.specs.Sight.{IsSight}
 use Rattle.dex_stamps.specs.Stamped.{Stamped}
 
 -- a call moves each wallet that its row names, once, by rising address

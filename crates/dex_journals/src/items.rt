@@ -1,6 +1,6 @@
 //! What the histories of gates are of, as clauses see it. No value of these types is made.
 
-use dex_script_facts::Script;
+use dex_script_types::Script;
 use dex_stamps::{Kept, Stamp};
 use dex_types::{Address, Entry, MarketAccounts, Row, Seen, WalletEntry};
 use std::marker::Model;

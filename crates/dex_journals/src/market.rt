@@ -7,14 +7,14 @@ ghost use Rattle.dex_types.specs.Rows.{row_of};
 ghost use Rattle.dex_types.specs.Transfers.{no_transfers};
 ghost use Rattle.dex_cell.specs.CellState.{CanHold, HasActed, held_on, refused_on, step_on};
 ghost use Rattle.dex_act.specs.Acted.{HaveActed};
-ghost use Rattle.dex_fold.specs.RowsOf.{rows_on};
+ghost use Rattle.dex_world.specs.RowsOf.{rows_on};
 ghost use Rattle.dex_journals.specs.Journals.{IsBankMarket, MayAct, market_more};
 
 use crate::items::{MarketStart, StampedCall};
 use dex_act::{act, hold, places_in};
 use dex_cell::MarketCell;
 use dex_gate::Journaled;
-use dex_script_facts::Script;
+use dex_script_types::Script;
 use dex_stamps::{Kept, Log, Stamp};
 use dex_types::{NoMemory, Reply, Row, Seen};
 use dex_wallet::WalletCell;

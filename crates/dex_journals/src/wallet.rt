@@ -1,12 +1,12 @@
 //! A wallet that threads share.
 
 ghost use Rattle.std.specs.Prelude.{◌≡◌, ◌<◌, [], max};
-ghost use Rattle.dex_fold.specs.RowsOf.{rows_naming};
+ghost use Rattle.dex_world.specs.RowsOf.{rows_naming};
 ghost use Rattle.dex_journals.specs.Journals.{IsBankWallet, MayComeBack, left_by, wallet_more};
 
 use crate::items::{StampedEntry, WalletStart};
 use dex_gate::Journaled;
-use dex_script_facts::Script;
+use dex_script_types::Script;
 use dex_stamps::{Kept, Log, Stamp};
 use dex_wallet::WalletCell;
 use std::marker::Model;

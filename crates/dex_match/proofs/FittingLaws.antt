@@ -14,7 +14,7 @@ use Rattle.dex_laws.specs.Locks.{locked}
 use Rattle.dex_laws.proofs.DemandLaws.{meet-lots, meet-rebates_le}
 use Rattle.dex_laws.proofs.MovedLaws.{meet-moved_le}
 use Rattle.dex_laws.proofs.SpendLaws.{fee_of-covers, met_by, spent-le}
-use Rattle.dex_meet.specs.Prospects.{FitsSums}
+use Rattle.dex_fills.specs.Prospects.{FitsSums}
 
 -- the sums of a meeting fit where what is locked on the other side does, and what the taker pays
 pub fits-paid : (side : Side) (t : TakerTerms) (w : Demand) (opposing : List Order) (fee lock : ℕ) → w.lots < 2 ^ 64 → lock < 2 ^ 64

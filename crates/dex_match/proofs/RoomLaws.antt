@@ -24,7 +24,7 @@ use Rattle.dex_laws.proofs.BookSideLaws.{IsApart, order_with-none}
 use Rattle.dex_laws.proofs.IdLaws.{price_of-id_of, sequence_of-id_of}
 use Rattle.dex_laws.proofs.SpendLaws.{fee_of-covers, fee_of-le, rested-paid}
 use Rattle.dex_laws.proofs.TraderLaws.{free_slot-free, free_slot-le, trader_at-put_same}
-use Rattle.dex_meet.specs.Prospects.{FitsSums}
+use Rattle.dex_fills.specs.Prospects.{FitsSums}
 use Rattle.dex_orders.specs.declared.amounts.Funds.{Funds}
 use Rattle.dex_orders.specs.OrdersAccount.{HasNoOrder, account_of, funds_of, holds_order}
 use Rattle.dex_sound.specs.Fields.{AccountFits, FieldsFit}

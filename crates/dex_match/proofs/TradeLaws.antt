@@ -8,7 +8,7 @@ use Rattle.dex_types.specs.BookSide.{CanRest}
 use Rattle.dex_types.specs.Owed.{order_lock}
 use Rattle.dex_types.specs.Posting.{post}
 use Rattle.dex_sound.proofs.OrderSoundPlaces.{All-booted}
-use Rattle.dex_meet.specs.declared.event_kinds.Amounts.{Amounts}
+use Rattle.dex_fills.specs.declared.event_kinds.Amounts.{Amounts}
 use Rattle.dex_ring.specs.Appended.{pushed_all}
 use Rattle.dex_ring.proofs.AppendLaws.{pushed_all-pushed_all}
 use Rattle.dex_types.specs.Meeting.{Meeting, event_of}

@@ -20,8 +20,8 @@ use Rattle.dex_market.specs.declared.funds.MarketFunds.{MarketFunds}
 use Rattle.dex_market.specs.MarketAccount.{MarketWords, market_words}
 use Rattle.dex_market.specs.MarketFunds.{with_funds, words_with_funds}
 use Rattle.dex_market.specs.RequestQueue.{next_sequence}
-use Rattle.dex_meet.specs.declared.event_kinds.Amounts.{Amounts}
-use Rattle.dex_meet.specs.Prospects.{FitsSums}
+use Rattle.dex_fills.specs.declared.event_kinds.Amounts.{Amounts}
+use Rattle.dex_fills.specs.Prospects.{FitsSums}
 use Rattle.dex_ring.specs.Appended.{HasRoom}
 use Rattle.dex_orders.specs.declared.amounts.Funds.{Funds}
 use Rattle.dex_orders.specs.OrdersAccount.{account_of, added, funded, funds_of}

@@ -13,8 +13,8 @@ use crate::order_outlook::outlook;
 use crate::order_plan::OrderPlan;
 use crate::order_refusals::lowest_slot;
 use crate::order_terms::{Taker, lock_of};
-use dex_meet::Sums;
-use dex_meet::prices::id_of;
+use dex_fills::Sums;
+use dex_fills::prices::id_of;
 use dex_orders::OrdersRef;
 use dex_types::{Lots, Side, SideRead};
 

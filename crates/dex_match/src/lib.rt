@@ -17,7 +17,7 @@ mod trading;
 
 pub use applying::{amounts_fit, apply_order};
 pub use deciding::{decide_order, decide_order_with_pending};
-pub use dex_meet::post_or_boot;
+pub use dex_fills::post_or_boot;
 pub use order_input::{OrderInput, gathered};
 pub use order_plan::{Decided, OrderPlan};
 pub use order_terms::{Taker, want_of};

@@ -3,7 +3,7 @@
 ghost use Rattle.std.specs.Prelude.{◌≡◌, ◌+◌, ◌*◌, ◌^◌, ◌<◌, ◌≤◌, if◌then◌else◌};
 ghost use Rattle.dex_laws.specs.Locks.{locked};
 ghost use Rattle.dex_match.specs.OrderTerms.{order_of, meeting_with};
-ghost use Rattle.dex_meet.specs.Prospects.{IsForeseen};
+ghost use Rattle.dex_fills.specs.Prospects.{IsForeseen};
 ghost use Rattle.dex_types.specs.Meeting.{Meeting};
 ghost use Rattle.dex_types.specs.NewOrder as orders;
 ghost use Rattle.dex_types.specs.Posting as posting;
@@ -11,8 +11,8 @@ ghost use Rattle.dex_types.specs.Side as book;
 
 use crate::order_terms::{Taker, terms_of, want_of};
 use dex_fees::taker_fee;
-use dex_meet::resting::{affordable, can_rest};
-use dex_meet::{Prospect, Sums, foresee};
+use dex_fills::resting::{affordable, can_rest};
+use dex_fills::{Prospect, Sums, foresee};
 use dex_types::{Lots, Side, SideRead};
 
 /// What becomes of a new order: what it meets, its fee, the native amount that its fills take from its lock, and the

@@ -2,12 +2,12 @@
 
 ghost use Rattle.std.specs.Prelude.{◌≡◌, ◌<◌, ◌^◌};
 ghost use Rattle.dex_match.specs.OrderTerms.{order_of};
-ghost use Rattle.dex_meet.specs.Taker.{taking, demand};
+ghost use Rattle.dex_fills.specs.Taker.{taking, demand};
 ghost use Rattle.dex_types.specs.NewOrder as orders;
 
 use dex_fees::spendable;
-use dex_meet::prices::quotient;
-use dex_meet::{Terms, Want};
+use dex_fills::prices::quotient;
+use dex_fills::{Terms, Want};
 use dex_types::{Address, Lots, OrderType, Program, SelfTrade, Side, Tier};
 
 /// A new order of a trader: its side, its limit price in quote lots per base lot, its base lots, the native quote that

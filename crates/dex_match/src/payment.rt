@@ -8,8 +8,8 @@ ghost use Rattle.dex_types.specs.NewOrder as orders;
 
 use crate::order_plan::OrderPlan;
 use crate::order_terms::{Taker, lock_of};
-use dex_meet::event_kinds::Amounts;
-use dex_meet::fills::lock;
+use dex_fills::event_kinds::Amounts;
+use dex_fills::fills::lock;
 use dex_orders::{Funds, OrdersView};
 use dex_types::{Lots, Side};
 

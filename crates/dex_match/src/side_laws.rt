@@ -2,7 +2,7 @@
 
 ghost use Rattle.std.specs.Prelude.{◌<◌, ◌^◌};
 ghost use Rattle.dex_laws.specs.Locks.{locked};
-ghost use Rattle.dex_meet.specs.Prospects.{FitsSums};
+ghost use Rattle.dex_fills.specs.Prospects.{FitsSums};
 ghost use Rattle.dex_types.specs.declared.terms.Side.{Side};
 ghost use Rattle.dex_types.specs.Market.{Market, orders};
 ghost use Rattle.dex_types.specs.NewOrder.{NewOrder, full_lock, meeting_of, standing_of};

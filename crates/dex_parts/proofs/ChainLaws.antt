@@ -12,13 +12,13 @@ use Rattle.dex_types.specs.Rows.{PlainRow}
 use Rattle.dex_token.specs.TokenAccount.{with_amount}
 use Rattle.dex_token.proofs.AmountWrites.{with_amount-again}
 use Rattle.dex_cell.specs.CellState.{AreOfOneMarket}
-use Rattle.dex_fold.specs.Items.{Item, fold_items, items_of}
-use Rattle.dex_fold.specs.World.{MarketState, WalletState, World}
-use Rattle.dex_fold.proofs.GroupLaws.{grouped-behind}
-use Rattle.dex_fold.proofs.MappedLists.{All-front}
+use Rattle.dex_world.specs.Items.{Item, fold_items, items_of}
+use Rattle.dex_world.specs.World.{MarketState, WalletState, World}
+use Rattle.dex_world.proofs.GroupLaws.{grouped-behind}
+use Rattle.dex_world.proofs.MappedLists.{All-front}
 use Rattle.dex_state.specs.Addresses.{address_of}
 use Rattle.dex_state.specs.Outcomes.{PlainMarketJournal, PlainOutcome, PlainWalletJournal}
-use Rattle.dex_script_facts.specs.PlainScript.{PlainScript}
+use Rattle.dex_script_types.specs.PlainScript.{PlainScript}
 use Rattle.dex_replay.specs.Replays.{IsLeftIn, IsReplayOf, start_world, wallet_state, with_amounts, world_after}
 use Rattle.dex_parts.specs.Chains.{AreCut, AreLinked, AreTwoParts, IsChainOf, IsCut, market_journal_behind, outcome_behind, outcomes_behind, rows_of_parts, wallet_journal_behind}
 use Rattle.dex_parts.specs.Together.{bare_market, bare_wallet, bare_world, each_behind, market_behind, wallet_behind, world_behind}

@@ -5,11 +5,11 @@ use Rattle.std.proofs.lemmas.Bool.{cases_eq, ne_eqb}
 use Rattle.std.proofs.lemmas.List.{append-nil, get_or-drop, get_or-map, get_or-take, get_or_default, length-drop, length-map, length-take-le}
 use Rattle.dex_types.specs.declared.rows.RowPlaces.{RowPlaces}
 use Rattle.dex_types.specs.Rows.{PlainRow}
-use Rattle.dex_fold.proofs.MappedLists.{All-unmap, head-same, tail-same, zip-map}
-use Rattle.dex_script_facts.proofs.PlacedLaws.{item_at}
-use Rattle.dex_script_facts.specs.Facts.{AreRows, HasNoThree}
-use Rattle.dex_script_facts.specs.Places.{AreBeside, IsBeside}
-use Rattle.dex_script_facts.specs.PlainScript.{PlainScript}
+use Rattle.dex_world.proofs.MappedLists.{All-unmap, head-same, tail-same, zip-map}
+use Rattle.dex_script_types.proofs.PlacedLaws.{item_at}
+use Rattle.dex_script_types.specs.Facts.{AreRows, HasNoThree}
+use Rattle.dex_script_types.specs.Places.{AreBeside, IsBeside}
+use Rattle.dex_script_types.specs.PlainScript.{PlainScript}
 use Rattle.dex_state.specs.Outcomes.{PlainOutcome}
 use Rattle.dex_parts.specs.Chains.{AreCut, AreLinked, IsChainOf, IsCut, rows_of_parts}
 use Rattle.dex_parts.specs.Cuts.{AreCutBy, AreInOrder, ArePartedAt, IsPart, numbers_of, parts_by}

@@ -9,10 +9,10 @@ use Rattle.dex_types.specs.Rows.{PlainRow}
 use Rattle.dex_types.specs.Transfers.{Transfers}
 use Rattle.dex_types.specs.Wallets.{movement_of}
 use Rattle.dex_history.specs.Journal.{row_step}
-use Rattle.dex_fold.specs.Fold.{act, acted, fold, names, wallet_acted, wallet_moved}
-use Rattle.dex_fold.specs.Groups.{members}
-use Rattle.dex_fold.specs.Items.{Item, act_item, chosen, fold_items}
-use Rattle.dex_fold.specs.World.{WalletState, World, market_at, seen_by}
+use Rattle.dex_world.specs.Fold.{act, acted, fold, names, wallet_acted, wallet_moved}
+use Rattle.dex_world.specs.Groups.{members}
+use Rattle.dex_world.specs.Items.{Item, act_item, chosen, fold_items}
+use Rattle.dex_world.specs.World.{WalletState, World, market_at, seen_by}
 
 -- what each row keeps items keep
 module _ {A : Type 0} (tell : World → A) (kept : (row : PlainRow) (found : Option Market) (world : World) → tell (acted row found world) ≡ tell world) where

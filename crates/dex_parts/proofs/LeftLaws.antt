@@ -11,12 +11,12 @@ use Rattle.dex_accounts.proofs.Decoded as decoded
 use Rattle.dex_accounts.specs.StandsFor.{StandsFor}
 use Rattle.dex_cell.specs.CellState.{AreOfOneMarket}
 use Rattle.dex_wallet.specs.CellState.{balance_of}
-use Rattle.dex_fold.specs.Items.{Item}
-use Rattle.dex_fold.specs.World.{MarketState, WalletState, World}
-use Rattle.dex_fold.proofs.MappedLists.{head-same, map-map, tail-same, zip-map}
+use Rattle.dex_world.specs.Items.{Item}
+use Rattle.dex_world.specs.World.{MarketState, WalletState, World}
+use Rattle.dex_world.proofs.MappedLists.{head-same, map-map, tail-same, zip-map}
 use Rattle.dex_state.specs.Addresses.{address_of}
 use Rattle.dex_state.specs.Outcomes.{PlainMarketJournal, PlainOutcome, PlainWalletJournal}
-use Rattle.dex_script_facts.specs.PlainScript.{PlainScript}
+use Rattle.dex_script_types.specs.PlainScript.{PlainScript}
 use Rattle.dex_replay.specs.Alike.{StandForOne}
 use Rattle.dex_replay.specs.Replays.{IsLeftBy, IsLeftIn, market_state, start_world, wallet_state, with_amounts, world_after}
 use Rattle.dex_parts.specs.Together.{bare_market, bare_wallet}

@@ -8,11 +8,11 @@ use Rattle.dex_types.specs.declared.addresses.Address.{Address}
 use Rattle.dex_types.specs.declared.rows.RowPlaces.{RowPlaces}
 use Rattle.dex_types.specs.Accounts.{PlainAccounts}
 use Rattle.dex_types.specs.Rows.{PlainRow}
-use Rattle.dex_fold.specs.Fold.{names}
-use Rattle.dex_fold.proofs.GroupLaws.{EachTwo}
-use Rattle.dex_fold.proofs.NameLaws.{coin-named, discount-named, pc-named, referrer-named}
-use Rattle.dex_script_facts.specs.Places.{AreBeside, ArePlaced, IsBeside, IsMarked, IsPlaced, IsRolePlaced, market_place, wallet_place}
-use Rattle.dex_script_facts.proofs.PlacedLaws.{market-within, wallet-within}
+use Rattle.dex_world.specs.Fold.{names}
+use Rattle.dex_world.proofs.GroupLaws.{EachTwo}
+use Rattle.dex_world.proofs.NameLaws.{coin-named, discount-named, pc-named, referrer-named}
+use Rattle.dex_script_types.specs.Places.{AreBeside, ArePlaced, IsBeside, IsMarked, IsPlaced, IsRolePlaced, market_place, wallet_place}
+use Rattle.dex_script_types.proofs.PlacedLaws.{market-within, wallet-within}
 use Rattle.dex_parts.specs.Joins.{IsWithin, Link, leg_links, links_of, role_links, row_links}
 use Rattle.dex_parts.specs.Numbers.{labels_of, numbers_to}
 use Rattle.dex_parts.proofs.JoinLaws.{Agrees, joined-all-long}

@@ -20,14 +20,14 @@ use Rattle.dex_history.specs.Journal.{row_step}
 use Rattle.dex_movements.specs.Entries.{entry_by, wallet_entry_by}
 use Rattle.dex_token.specs.TokenAccount.{with_amount}
 use Rattle.dex_accounts.specs.StandsFor.{StandsFor}
-use Rattle.dex_fold.specs.Fold.{act, acted, fold, market_acted, markets_acted, names, wallet_acted, wallet_moved}
-use Rattle.dex_fold.specs.Groups.{alone, grouped, joined, map_group, members}
-use Rattle.dex_fold.specs.Items.{Item, act_item, chosen, fold_items, held_in, idle_row, is_any_refused, items_of, why_in, why_on}
-use Rattle.dex_fold.specs.World.{MarketState, WalletState, World, market_at, role_at, seen_by, wallet_at}
-use Rattle.dex_fold.proofs.GroupLaws.{grouped-map}
-use Rattle.dex_fold.proofs.MappedLists.{map-map}
+use Rattle.dex_world.specs.Fold.{act, acted, fold, market_acted, markets_acted, names, wallet_acted, wallet_moved}
+use Rattle.dex_world.specs.Groups.{alone, grouped, joined, map_group, members}
+use Rattle.dex_world.specs.Items.{Item, act_item, chosen, fold_items, held_in, idle_row, is_any_refused, items_of, why_in, why_on}
+use Rattle.dex_world.specs.World.{MarketState, WalletState, World, market_at, role_at, seen_by, wallet_at}
+use Rattle.dex_world.proofs.GroupLaws.{grouped-map}
+use Rattle.dex_world.proofs.MappedLists.{map-map}
 use Rattle.dex_state.specs.Outcomes.{PlainMarketJournal, PlainOutcome, PlainWalletJournal}
-use Rattle.dex_script_facts.specs.PlainScript.{PlainScript}
+use Rattle.dex_script_types.specs.PlainScript.{PlainScript}
 use Rattle.dex_replay.specs.Replays.{IsLeftIn, IsReplayOf, market_state, start_world, wallet_state, with_amounts, world_after}
 use Rattle.dex_parts.specs.Numbered.{KeepsApart, entry_with, market_journal_with, outcome_with, row_with, script_with, wallet_entry_with, wallet_journal_with}
 

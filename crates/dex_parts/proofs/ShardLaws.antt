@@ -9,13 +9,13 @@ use Rattle.dex_types.specs.Accounts.{PlainAccount, PlainMarketAccounts}
 use Rattle.dex_types.specs.Market.{Listing}
 use Rattle.dex_types.specs.Rows.{PlainRow}
 use Rattle.dex_token.specs.TokenAccount.{with_amount}
-use Rattle.dex_fold.specs.Groups.{members}
-use Rattle.dex_fold.specs.Items.{Item, fold_items, items_of}
-use Rattle.dex_fold.specs.World.{MarketState, WalletState, World}
-use Rattle.dex_fold.proofs.GroupLaws.{EachTwo}
-use Rattle.dex_fold.proofs.MappedLists.{filter-of, head-same, tail-same}
+use Rattle.dex_world.specs.Groups.{members}
+use Rattle.dex_world.specs.Items.{Item, fold_items, items_of}
+use Rattle.dex_world.specs.World.{MarketState, WalletState, World}
+use Rattle.dex_world.proofs.GroupLaws.{EachTwo}
+use Rattle.dex_world.proofs.MappedLists.{filter-of, head-same, tail-same}
 use Rattle.dex_state.specs.Outcomes.{PlainMarketJournal, PlainOutcome, PlainWalletJournal}
-use Rattle.dex_script_facts.specs.PlainScript.{PlainScript}
+use Rattle.dex_script_types.specs.PlainScript.{PlainScript}
 use Rattle.dex_replay.specs.Acting.{NeverFalls}
 use Rattle.dex_replay.specs.Replays.{IsLeftIn, IsReplayOf, market_state, start_world, wallet_state, with_amounts, world_after}
 use Rattle.dex_replay.proofs.Groups.{each-two, each-two-weaker, grouped-each, grouped-filter, grouped-number, grouped-two}

@@ -15,12 +15,12 @@ use Rattle.dex_types.specs.Wallets.{movement_of}
 use Rattle.dex_laws.proofs.TraderLaws.{is_same-true}
 use Rattle.dex_sound.proofs.KeepLaws.{step-keeps}
 use Rattle.dex_history.specs.Journal.{request_of, row_step}
-use Rattle.dex_fold.specs.Fold.{act, acted, fold, market_acted, markets_acted, names, wallet_acted, wallet_moved}
-use Rattle.dex_fold.specs.Groups.{members}
-use Rattle.dex_fold.specs.Items.{Item, act_item, chosen, fold_items, held_in, idle_row, is_any_refused, why_in, why_on}
-use Rattle.dex_fold.specs.World.{MarketState, WalletState, World, market_at, role_at, seen_by, wallet_at}
-use Rattle.dex_fold.proofs.MappedLists.{list_any-agree, map-agree}
-use Rattle.dex_fold.proofs.NameLaws.{coin-named, discount-named, pc-named, referrer-named}
+use Rattle.dex_world.specs.Fold.{act, acted, fold, market_acted, markets_acted, names, wallet_acted, wallet_moved}
+use Rattle.dex_world.specs.Groups.{members}
+use Rattle.dex_world.specs.Items.{Item, act_item, chosen, fold_items, held_in, idle_row, is_any_refused, why_in, why_on}
+use Rattle.dex_world.specs.World.{MarketState, WalletState, World, market_at, role_at, seen_by, wallet_at}
+use Rattle.dex_world.proofs.MappedLists.{list_any-agree, map-agree}
+use Rattle.dex_world.proofs.NameLaws.{coin-named, discount-named, pc-named, referrer-named}
 use Rattle.dex_parts.specs.Shards.{IsItemOfOneShard, IsOfOneShard, Sharding, has_market, has_wallet, items_in, world_in}
 
 module _ (sharding : Sharding) (shard : ℕ) where

@@ -22,12 +22,12 @@ use Rattle.dex_accounts.proofs.Decoded as decoded
 use Rattle.dex_accounts.specs.Decoded.{market_in}
 use Rattle.dex_history.specs.Journal.{Call, asked_of, front}
 use Rattle.dex_eager.specs.Worth.{Worth, held_for}
-use Rattle.dex_fold.proofs.MappedLists.{head-same, tail-same}
-use Rattle.dex_fold.proofs.NameLaws.{coin-named, discount-named, pc-named, referrer-named}
-use Rattle.dex_fold.specs.Fold.{names}
+use Rattle.dex_world.proofs.MappedLists.{head-same, tail-same}
+use Rattle.dex_world.proofs.NameLaws.{coin-named, discount-named, pc-named, referrer-named}
+use Rattle.dex_world.specs.Fold.{names}
 use Rattle.dex_state.specs.Outcomes.{PlainMarketJournal, PlainOutcome}
-use Rattle.dex_script_facts.specs.Firsts.{first_of}
-use Rattle.dex_script_facts.specs.PlainScript.{PlainScript}
+use Rattle.dex_script_types.specs.Firsts.{first_of}
+use Rattle.dex_script_types.specs.PlainScript.{PlainScript}
 use Rattle.dex_replay.proofs.Groups.{filter-all, filter-none}
 use Rattle.dex_replay.specs.Acting.{NeverFalls}
 use Rattle.dex_replay.specs.Alike.{StandForOne}

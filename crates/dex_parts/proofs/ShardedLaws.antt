@@ -9,12 +9,12 @@ use Rattle.dex_types.specs.declared.rows.RowPlaces.{RowPlaces}
 use Rattle.dex_types.specs.Accounts.{PlainAccount, PlainAccounts, PlainMarketAccounts}
 use Rattle.dex_types.specs.Rows.{PlainRow}
 use Rattle.dex_laws.proofs.TraderLaws.{is_same-true}
-use Rattle.dex_fold.specs.Fold.{is_role, names}
-use Rattle.dex_fold.proofs.GroupLaws.{EachTwo}
-use Rattle.dex_fold.proofs.MappedLists.{All-front, zip-map}
-use Rattle.dex_fold.proofs.NameLaws.{in_roles, names-roles}
-use Rattle.dex_script_facts.specs.Places.{AreBeside, ArePlaced, IsBeside, IsPlaced, IsRolePlaced, market_place, wallet_place}
-use Rattle.dex_script_facts.proofs.PlacedLaws.{market-here, market-within, wallet-here, wallet-within}
+use Rattle.dex_world.specs.Fold.{is_role, names}
+use Rattle.dex_world.proofs.GroupLaws.{EachTwo}
+use Rattle.dex_world.proofs.MappedLists.{All-front, zip-map}
+use Rattle.dex_world.proofs.NameLaws.{in_roles, names-roles}
+use Rattle.dex_script_types.specs.Places.{AreBeside, ArePlaced, IsBeside, IsPlaced, IsRolePlaced, market_place, wallet_place}
+use Rattle.dex_script_types.proofs.PlacedLaws.{market-here, market-within, wallet-here, wallet-within}
 use Rattle.dex_parts.specs.Joins.{IsWithin, Link, leg_links, links_of, role_links, row_links}
 use Rattle.dex_parts.specs.Numbers.{in_market, labels_of, market_shards, numbers_to, row_shards, wallet_shards}
 use Rattle.dex_parts.specs.Sharded.{AreShardsOf, number_at, sharding_by}
@@ -23,8 +23,8 @@ use Rattle.dex_parts.proofs.JoinLaws.{Agrees, HasOne, Keeps, all-keep, all-low, 
 use Rattle.dex_parts.proofs.LinkLaws.{LegsAgree, RowAgrees, labels-long, links-agree, links-within, markets-on, numbers-at, numbers-long}
 use Rattle.dex_parts.proofs.ListLaws.{All-behind}
 use Rattle.dex_replay.proofs.Groups.{each-two, each-two-weaker}
-use Rattle.dex_script_facts.specs.Facts.{AreRows}
-use Rattle.dex_script_facts.specs.PlainScript.{PlainScript}
+use Rattle.dex_script_types.specs.Facts.{AreRows}
+use Rattle.dex_script_types.specs.PlainScript.{PlainScript}
 
 -- each two, from places
 two-each : {A : Type 0} (R : A → A → Type 0) (xs : List A) → EachTwo R xs → AllPairs R xs

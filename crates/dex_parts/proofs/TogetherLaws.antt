@@ -15,11 +15,11 @@ use Rattle.dex_types.specs.Transfers.{Transfers}
 use Rattle.dex_types.specs.Wallets.{movement_of}
 use Rattle.dex_history.specs.Journal.{row_step}
 use Rattle.dex_movements.specs.Entries.{entry_by, wallet_entry_by}
-use Rattle.dex_fold.specs.Fold.{act, acted, fold, market_acted, markets_acted, names, wallet_acted, wallet_moved}
-use Rattle.dex_fold.specs.Groups.{members}
-use Rattle.dex_fold.specs.Items.{Item, act_item, chosen, fold_items, held_in, idle_row, is_any_refused, why_in, why_on}
-use Rattle.dex_fold.specs.World.{MarketState, WalletState, World, market_at, role_at, seen_by, wallet_at}
-use Rattle.dex_fold.proofs.MappedLists.{list_any-agree, map-agree}
+use Rattle.dex_world.specs.Fold.{act, acted, fold, market_acted, markets_acted, names, wallet_acted, wallet_moved}
+use Rattle.dex_world.specs.Groups.{members}
+use Rattle.dex_world.specs.Items.{Item, act_item, chosen, fold_items, held_in, idle_row, is_any_refused, why_in, why_on}
+use Rattle.dex_world.specs.World.{MarketState, WalletState, World, market_at, role_at, seen_by, wallet_at}
+use Rattle.dex_world.proofs.MappedLists.{list_any-agree, map-agree}
 use Rattle.dex_parts.specs.Together.{bare_market, bare_wallet, bare_world, each_behind, market_behind, wallet_behind, world_behind}
 
 -- ---- what a row finds and sees

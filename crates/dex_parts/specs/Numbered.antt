@@ -4,7 +4,7 @@ use Rattle.dex_types.specs.declared.movements.Entry.{Entry}
 use Rattle.dex_types.specs.declared.movements.WalletEntry.{WalletEntry}
 use Rattle.dex_types.specs.Rows.{PlainRow}
 use Rattle.dex_state.specs.Outcomes.{PlainMarketJournal, PlainOutcome, PlainWalletJournal}
-use Rattle.dex_script_facts.specs.PlainScript.{PlainScript}
+use Rattle.dex_script_types.specs.PlainScript.{PlainScript}
 
 -- no two numbers become one
 abbrev pub KeepsApart : (ℕ → ℕ) → Type 0

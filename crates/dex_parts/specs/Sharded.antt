@@ -3,9 +3,9 @@ use Rattle.std.specs.Prelude.{◌≡◌, ◌≤◌, ◌<◌, ℕ, false, List, O
 use Rattle.dex_types.specs.declared.addresses.Address.{Address}
 use Rattle.dex_types.specs.Accounts.{PlainAccounts, PlainMarketAccounts}
 use Rattle.dex_types.specs.Rows.{PlainRow}
-use Rattle.dex_fold.specs.Fold.{names}
-use Rattle.dex_script_facts.specs.Places.{market_place, wallet_place}
-use Rattle.dex_script_facts.specs.PlainScript.{PlainScript}
+use Rattle.dex_world.specs.Fold.{names}
+use Rattle.dex_script_types.specs.Places.{market_place, wallet_place}
+use Rattle.dex_script_types.specs.PlainScript.{PlainScript}
 use Rattle.dex_parts.specs.Shards.{FallsInto, Sharding}
 
 -- the number at a place, if there is one

@@ -4,12 +4,12 @@ use Rattle.std.specs.List.{AllPairs, AllZip, filter}
 use Rattle.dex_types.specs.declared.addresses.Address.{Address}
 use Rattle.dex_types.specs.Accounts.{PlainAccount, PlainAccounts, PlainMarketAccounts}
 use Rattle.dex_types.specs.Rows.{PlainRow}
-use Rattle.dex_fold.specs.Fold.{names}
-use Rattle.dex_fold.specs.Groups.{members}
-use Rattle.dex_fold.specs.Items.{Item}
-use Rattle.dex_fold.specs.World.{MarketState, WalletState, World}
+use Rattle.dex_world.specs.Fold.{names}
+use Rattle.dex_world.specs.Groups.{members}
+use Rattle.dex_world.specs.Items.{Item}
+use Rattle.dex_world.specs.World.{MarketState, WalletState, World}
 use Rattle.dex_state.specs.Outcomes.{PlainMarketJournal, PlainOutcome, PlainWalletJournal}
-use Rattle.dex_script_facts.specs.PlainScript.{PlainScript}
+use Rattle.dex_script_types.specs.PlainScript.{PlainScript}
 use Rattle.dex_replay.specs.Alike.{StandForOne}
 
 -- the number of the shard of each market and of each wallet, by address

@@ -1,6 +1,6 @@
 -- Worlds behind others: the same markets and wallets, with journals that go on.
 use Rattle.std.specs.Prelude.{List, [], ◌∷◌, ◌++◌, map}
-use Rattle.dex_fold.specs.World.{MarketState, WalletState, World}
+use Rattle.dex_world.specs.World.{MarketState, WalletState, World}
 
 -- a market, with its journal behind that of an earlier time
 abbrev pub market_behind : MarketState → MarketState → MarketState

@@ -4,7 +4,7 @@ ghost use Rattle.std.specs.Prelude.{◌≡◌, ◌<◌, ◌≤◌, ◌+◌, ◌+
 ghost use Rattle.dex_types.specs.declared.rows.RowPlaces.{RowPlaces as RowPlacesOf};
 ghost use Rattle.dex_parts.specs.Cuts.{AreCutBy, AreInOrder, ArePartedAt, numbers_of};
 
-use dex_script_facts::Script;
+use dex_script_types::Script;
 use dex_types::{NoMemory, RowPlaces};
 use std::alloc::Global;
 

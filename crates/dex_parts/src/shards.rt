@@ -7,7 +7,7 @@ ghost use Rattle.dex_parts.specs.Numbers.{in_market, labels_of, market_shards, n
 ghost use Rattle.dex_parts.specs.Sharded.{AreShardsOf};
 
 use crate::joins::join_rows;
-use dex_script_facts::Script;
+use dex_script_types::Script;
 use dex_types::{NoMemory, RowPlaces};
 use std::alloc::Global;
 

@@ -6,8 +6,8 @@ ghost use Rattle.dex_types.specs.Transfers.{deposit};
 ghost use Rattle.dex_plan.specs.Owing.{deposit_of, entering};
 
 use dex_cancel::CancelWhat;
+use dex_fills::PendingFills;
 use dex_match::{OrderPlan, Taker};
-use dex_meet::PendingFills;
 use dex_settle::SettlePlan;
 use dex_take::TakePlan;
 use dex_types::Side;

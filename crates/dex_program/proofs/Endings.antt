@@ -10,7 +10,7 @@ use Rattle.dex_commands.specs.Ending.{Ends, Input, Output}
 use Rattle.dex_commands.specs.LaneAnswers.{HaveRun}
 use Rattle.dex_state.specs.Outcomes.{PlainOutcome}
 use Rattle.dex_report.specs.Report.{report_text}
-use Rattle.dex_script_facts.specs.PlainScript.{PlainScript}
+use Rattle.dex_script_types.specs.PlainScript.{PlainScript}
 use Rattle.dex_script.specs.Scripts.{Reads}
 use Rattle.dex_program.specs.Ending.{OneLegalHistory, OneOrder, WhereRun}
 

@@ -9,7 +9,7 @@ ghost use Rattle.dex_answers.specs.declared.status.Status.TheVariants as status;
 
 use dex_answers::{Status, StatusText};
 use dex_report::report_pieces;
-use dex_script_facts::RowList;
+use dex_script_types::RowList;
 use dex_state::Outcome;
 use dex_types::NoMemory;
 use std::alloc::Global;

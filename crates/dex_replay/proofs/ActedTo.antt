@@ -1,20 +1,20 @@
 -- A script's items act one after the other, until none of its rows is left.
 use Rattle.std.proofs.Common.{◌≡◌, ℕ, zero, suc, ◌+◌, ◌-◌, ◌<◌, ◌≤◌, min, true, false, eqb, List, [], ◌∷◌, ◌++◌, Option, None, Some, drop, get_or, is_some, length, map, option_copied, option_map, refl, reverse, slice_get, sym, ap, ◌∙◌, subst, arith, take, ⊎_elim}
-use Rattle.dex_fold.proofs.Common.{All-cons, All-head, All-nil, All-tail, All-weaker, AllPairs, AllZip-long, PlainRow, Row, World, act, act_item, alone, cases_Bool, false≢true, flat_map, flat_map-append, fold_items, length-map, members, ne_eqb, row_of, why_in}
+use Rattle.dex_world.proofs.Common.{All-cons, All-head, All-nil, All-tail, All-weaker, AllPairs, AllZip-long, PlainRow, Row, World, act, act_item, alone, cases_Bool, false≢true, flat_map, flat_map-append, fold_items, length-map, members, ne_eqb, row_of, why_in}
 use Rattle.dex_replay.proofs.Common.{AreCells, AreLegs, CanAct, CellsState, IsRowOf, IsScript, PlainScript, opened, opened_of, start_world, world_of}
 use Rattle.std.specs.List.{All}
 use Rattle.std.specs.Borrow.{Bor}
 use Rattle.std.proofs.lemmas.List.{append-nil, append_assoc, drop-map, get_or-reverse, get_or_default, get_or_past, length-drop, length-reverse, reverse-append, take-append-drop}
 use Rattle.std.proofs.lemmas.Option.{slice_get-get_or, slice_get-map}
 use Rattle.std.proofs.Math.Seq.{drop-append_seam}
-use Rattle.dex_fold.specs.Items.{Item, items_of, pair_of}
-use Rattle.dex_fold.proofs.GroupLaws.{grouped-apart, grouped-pair}
-use Rattle.dex_fold.proofs.ItemLaws.{alone-acts}
+use Rattle.dex_world.specs.Items.{Item, items_of, pair_of}
+use Rattle.dex_world.proofs.GroupLaws.{grouped-apart, grouped-pair}
+use Rattle.dex_world.proofs.ItemLaws.{alone-acts}
 use Rattle.dex_types.specs.declared.rows.RowPlaces.{RowPlaces}
 use Rattle.dex_bank.specs.Cells.{CanActBoth, IsTakeOrRefused}
 use Rattle.dex_bank.specs.Places.{ArePlacedIn, ArePlacesIn}
 use Rattle.dex_bank.proofs.Stands.{its-address, stand-still}
-use Rattle.dex_script_facts.specs.Facts.{HasNoThree, IsLeg}
+use Rattle.dex_script_types.specs.Facts.{HasNoThree, IsLeg}
 use Rattle.dex_replay.specs.Acting.{AreLeft, HaveActed, IsNext, NeverFalls}
 use Rattle.dex_replay.proofs.Counting.{IsCounted, run-counted}
 use Rattle.dex_replay.proofs.Groups.{each-two}

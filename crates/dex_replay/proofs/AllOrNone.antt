@@ -1,11 +1,11 @@
 -- In the journals that a run leaves, the rows of an item were all done, or each that was not refused was held back.
 use Rattle.std.proofs.Common.{◌≡◌, ℕ, ◌&&◌, ◌||◌, not, Bool, true, false, eqb, List, [], ◌∷◌, get_or, map, refl, sym, ap, ◌∙◌, subst, ⊎_elim}
 use Rattle.std.proofs.Math.Bool.{and-false, or-false}
-use Rattle.dex_fold.proofs.Common.{Address, All-cons, All-head, All-map, All-nil, All-tail, All-weaker, AllZip, Asked, Call, EachTwo, Entry, IsLegal, Market, MarketState, PlainMarketAccounts, PlainRow, Reply, cases_Bool, cond-false, cond-true, cond_both, decoded, eq-eqb, eqb-true, false_from_ne_true, false≢true, filter, is_done, is_refusal, is_same, is_same-refl, is_same-sym, is_same-true, is_take, list_any, members, step_of}
+use Rattle.dex_world.proofs.Common.{Address, All-cons, All-head, All-map, All-nil, All-tail, All-weaker, AllZip, Asked, Call, EachTwo, Entry, IsLegal, Market, MarketState, PlainMarketAccounts, PlainRow, Reply, cases_Bool, cond-false, cond-true, cond_both, decoded, eq-eqb, eqb-true, false_from_ne_true, false≢true, filter, is_done, is_refusal, is_same, is_same-refl, is_same-sym, is_same-true, is_take, list_any, members, step_of}
 use Rattle.dex_replay.proofs.Common.{IsAllOrNone, PlainMarketJournal, PlainScript, has_market, is_answered, market_in, was_held}
 use Rattle.std.specs.List.{All}
 use Rattle.std.proofs.lemmas.List.Elements.{All-contains}
-use Rattle.dex_fold.specs.Items.{Item}
+use Rattle.dex_world.specs.Items.{Item}
 use Rattle.dex_replay.specs.Lawful.{entries_at}
 use Rattle.dex_replay.proofs.Items.{IsSettled, is_refused_told, row_told}
 use Rattle.dex_replay.proofs.MappedLists.{All-unmap, head-same, list_any-agree, list_any-map, tail-same}

@@ -14,9 +14,9 @@ use Rattle.dex_accounts.specs.Decoded.{market_in}
 use Rattle.dex_sound.proofs.KeepLaws.{step-keeps}
 use Rattle.dex_history.specs.Journal.{Asked, Call, IsLegal, acted_of, asked_of, step_of}
 use Rattle.dex_state.specs.Outcomes.{PlainMarketJournal, PlainOutcome}
-use Rattle.dex_script_facts.specs.PlainScript.{PlainScript}
-use Rattle.dex_script_facts.specs.Facts.{IsScript}
-use Rattle.dex_script_facts.specs.Firsts.{first_of}
+use Rattle.dex_script_types.specs.PlainScript.{PlainScript}
+use Rattle.dex_script_types.specs.Facts.{IsScript}
+use Rattle.dex_script_types.specs.Firsts.{first_of}
 use Rattle.dex_replay.specs.Lawful.{AllThree, IsLawful, IsLawfulMarket, IsSight, rows_of_market}
 use Rattle.dex_replay.proofs.LastAccounts.{listing-in}
 use Rattle.dex_replay.proofs.Groups.{unfilter}

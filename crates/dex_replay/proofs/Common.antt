@@ -14,9 +14,9 @@ pub use Rattle.dex_replay.specs.Lawful.{AllThree, IsAllOrNone, IsLawful, IsLawfu
 pub use Rattle.dex_replay.specs.Replays.{IsLeftBy, IsReplayOf, market_state, start_world, wallet_state, with_amounts, world_after}
 pub use Rattle.dex_replay.specs.Runs.{IsOneOrder, IsRunOf, KeepsLanes}
 pub use Rattle.dex_state.specs.Outcomes.{PlainMarketJournal, PlainOutcome, PlainWalletJournal, outcome_of}
-pub use Rattle.dex_script_facts.specs.PlainScript.{PlainScript}
-pub use Rattle.dex_script_facts.specs.Facts.{AreLegs, AreRows, HasNoSwap, IsRowOf, IsScript, IsStart, lanes_of}
-pub use Rattle.dex_script_facts.specs.Known.{has_account, has_market, is_known_role}
+pub use Rattle.dex_script_types.specs.PlainScript.{PlainScript}
+pub use Rattle.dex_script_types.specs.Facts.{AreLegs, AreRows, HasNoSwap, IsRowOf, IsScript, IsStart, lanes_of}
+pub use Rattle.dex_script_types.specs.Known.{has_account, has_market, is_known_role}
 pub use Rattle.dex_token.proofs.AmountWrites.{wallet_words-with_amount}
 pub use Rattle.dex_token.specs.TokenAccount.{IsWallet, WalletWords, wallet_words, with_amount}
 pub use Rattle.dex_wallet.specs.CellState.{CellState, IsWalletCell, balance_of}

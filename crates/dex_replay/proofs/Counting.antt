@@ -1,6 +1,6 @@
 -- No journal is longer than there are rows that name its market or its wallet: it has one entry of each of them.
 use Rattle.std.proofs.Common.{◌≡◌, ◌≤◌, Bool, List, length, map, sym, ap, ◌∙◌, subst, arith}
-use Rattle.dex_fold.proofs.Common.{Address, Asked, Call, Entry, MarketState, PlainAccount, PlainMarketAccounts, PlainRow, Reply, WalletState, World, filter, is_same, length-map, names}
+use Rattle.dex_world.proofs.Common.{Address, Asked, Call, Entry, MarketState, PlainAccount, PlainMarketAccounts, PlainRow, Reply, WalletState, World, filter, is_same, length-map, names}
 use Rattle.dex_replay.proofs.Common.{Origin, PlainScript, origin_of_entry, rows_naming, rows_on}
 use Rattle.std.specs.List.{All, count_by}
 use Rattle.std.proofs.lemmas.List.Sums.{length-filter}

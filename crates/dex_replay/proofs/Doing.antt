@@ -1,6 +1,6 @@
 -- What a row does where it acts, and where it is held back: a call that stands in its market's history.
 use Rattle.std.proofs.Common.{◌≡◌, ℕ, ◌&&◌, Bool, true, List, None, refl, sym, ap, ◌∙◌}
-use Rattle.dex_fold.proofs.Common.{Call, Market, PlainRow, Seen, Sees, Stands, Step, asked_of, decoded, done, entry_by, idle-step, is_done, is_held, is_take, nothing_to_do, request_of, row_step, step_of, why}
+use Rattle.dex_world.proofs.Common.{Call, Market, PlainRow, Seen, Sees, Stands, Step, asked_of, decoded, done, entry_by, idle-step, is_done, is_held, is_take, nothing_to_do, request_of, row_step, step_of, why}
 use Rattle.dex_history.specs.Journal as history
 use Rattle.dex_history.proofs.HeldLaws.{held-stands, held-step, own-stands, own-step}
 use Rattle.dex_history.proofs.PriceLaws.{decoded-priced}

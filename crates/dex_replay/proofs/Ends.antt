@@ -1,10 +1,10 @@
 -- What cells leave at the end is what items leave that made their world.
 use Rattle.std.proofs.Common.{◌≡◌, ℕ, List, [], ◌∷◌, map, refl, sym, ap, ◌∙◌, subst}
-use Rattle.dex_fold.proofs.Common.{All-head, All-tail, AllZip, MarketState, PlainAccount, PlainMarketAccounts, WalletState, World}
+use Rattle.dex_world.proofs.Common.{All-head, All-tail, AllZip, MarketState, PlainAccount, PlainMarketAccounts, WalletState, World}
 use Rattle.dex_replay.proofs.Common.{AreAccepted, AreCells, CellState, CellsState, IsLeftBy, IsWalletCell, MarketCellState, PlainMarketJournal, PlainScript, PlainWalletJournal, StandsFor, account_in, address_of, balance_of, closed, market_journal_in, market_state_of, wallet_journal_in, wallet_state_of, with_amount, with_amounts, world_after, world_of}
 use Rattle.std.specs.List.{All}
 use Rattle.dex_cell.specs.CellState.{AreOfOneMarket}
-use Rattle.dex_fold.specs.Items.{Item}
+use Rattle.dex_world.specs.Items.{Item}
 use Rattle.dex_replay.specs.Replays.{IsOfStart}
 use Rattle.dex_replay.proofs.LastAccounts.{last-accepted}
 use Rattle.dex_replay.proofs.MappedLists.{AllZip-maps, map-map}

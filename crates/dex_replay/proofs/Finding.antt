@@ -10,8 +10,8 @@ use Rattle.dex_laws.proofs.TraderLaws.{is_same-refl}
 use Rattle.dex_state.specs.Addresses.{address_of, all_of_market, times}
 use Rattle.dex_state.specs.Accepted.{AreAccepted}
 use Rattle.dex_state.proofs.Times.{times-append, times-cons}
-use Rattle.dex_script_facts.specs.Facts.{AreLegs}
-use Rattle.dex_script_facts.specs.Firsts.{first_of}
+use Rattle.dex_script_types.specs.Facts.{AreLegs}
+use Rattle.dex_script_types.specs.Firsts.{first_of}
 use Rattle.dex_replay.specs.EntryCalls.{is_row_on}
 
 -- ---- a row

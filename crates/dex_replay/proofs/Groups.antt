@@ -1,9 +1,9 @@
 -- Groups of neighbours of one number, and what holds of their elements.
 use Rattle.std.proofs.Common.{◌≡◌, ℕ, ◌<◌, ◌≤◌, suc, Bool, true, false, cond, eqb, List, [], ◌∷◌, get_or, map, refl, sym, ap, ◌∙◌, subst, arith}
-use Rattle.dex_fold.proofs.Common.{All-cons, All-filter, All-head, All-nil, All-tail, All-weaker, AllPairs, EachTwo, Goes, Group, Rise, alone, cond-false, cond-true, cond_both, eq-eqb, eqb-false, eqb-true, false≢true, filter, grouped, grouped-firsts, grouped-rise, members, ne_eqb}
+use Rattle.dex_world.proofs.Common.{All-cons, All-filter, All-head, All-nil, All-tail, All-weaker, AllPairs, EachTwo, Goes, Group, Rise, alone, cond-false, cond-true, cond_both, eq-eqb, eqb-false, eqb-true, false≢true, filter, grouped, grouped-firsts, grouped-rise, members, ne_eqb}
 use Rattle.std.specs.List.{All}
-use Rattle.dex_fold.specs.Groups.{joined}
-use Rattle.dex_fold.proofs.GroupLaws.{FirstStamp}
+use Rattle.dex_world.specs.Groups.{joined}
+use Rattle.dex_world.proofs.GroupLaws.{FirstStamp}
 
 -- ---- each two elements
 

@@ -1,6 +1,6 @@
 -- Lawful journals have one entry for each row.
 use Rattle.std.proofs.Common.{◌≡◌, ◌==◌, ◌<◌, ◌≤◌, ℕ, Bool, true, List, [], ◌∷◌, get_or, map, refl, sym, ap, ◌∙◌, arith}
-use Rattle.dex_fold.proofs.Common.{Address, All-filter, AllPairs, AllPairs-filter, Asked, Call, Entry, IsLegal, Market, PlainAccount, PlainMarketAccounts, PlainRow, WalletEntry, asked_of, false≢true, filter, filter_passes, is_same, is_same-true, names, step_of}
+use Rattle.dex_world.proofs.Common.{Address, All-filter, AllPairs, AllPairs-filter, Asked, Call, Entry, IsLegal, Market, PlainAccount, PlainMarketAccounts, PlainRow, WalletEntry, asked_of, false≢true, filter, filter_passes, is_same, is_same-true, names, step_of}
 use Rattle.dex_replay.proofs.Common.{AreLegs, AreRows, IsLawfulMarket, IsLawfulWallet, Origin, PlainMarketJournal, PlainScript, PlainWalletJournal, market_in, origin_of_entry, origin_of_row, rows_of_market, rows_of_wallet}
 use Rattle.std.specs.List.{All}
 use Rattle.dex_replay.proofs.MappedLists.{filter-across, filter-of, map-map}

@@ -3,9 +3,9 @@ use Rattle.std.proofs.Common.{◌≡◌, ◌∙◌, List, [], ◌∷◌, map, re
 use Rattle.std.specs.List.{AllZip}
 use Rattle.dex_types.specs.Accounts.{PlainMarketAccounts}
 use Rattle.dex_accounts.specs.StandsFor.{StandsFor}
-use Rattle.dex_fold.specs.World.{MarketState, World}
+use Rattle.dex_world.specs.World.{MarketState, World}
 use Rattle.dex_state.specs.Outcomes.{PlainMarketJournal, PlainOutcome, PlainWalletJournal}
-use Rattle.dex_script_facts.specs.PlainScript.{PlainScript}
+use Rattle.dex_script_types.specs.PlainScript.{PlainScript}
 use Rattle.dex_replay.specs.Alike.{AreAlike, StandForOne}
 use Rattle.dex_replay.specs.Replays.{IsLeftIn}
 

@@ -1,9 +1,9 @@
 -- Orders of a script's items that keep each lane: whose rows they are, and that no market has two of one number.
 use Rattle.std.proofs.Common.{◌≡◌, ℕ, ◌≤◌, true, false, eqb, List, [], ◌∷◌, ◌++◌, get_or, refl, sym, ap, ◌∙◌, subst, ⊎_elim}
-use Rattle.dex_fold.proofs.Common.{All-filter, All-head, All-tail, All-weaker, EachApart, EachTwo, PlainRow, ShareNothing, cases_Bool, cond-false, cond-true, eq-eqb, eqb-true, filter-append, filter_passes, flat_map, grouped-flat, is_same, items_of_lane, members, rows_of_lane}
+use Rattle.dex_world.proofs.Common.{All-filter, All-head, All-tail, All-weaker, EachApart, EachTwo, PlainRow, ShareNothing, cases_Bool, cond-false, cond-true, eq-eqb, eqb-true, filter-append, filter_passes, flat_map, grouped-flat, is_same, items_of_lane, members, rows_of_lane}
 use Rattle.dex_replay.proofs.Common.{AreLegs, AreRows, IsRowOf, KeepsLanes, PlainScript}
 use Rattle.std.specs.List.{All}
-use Rattle.dex_fold.specs.Items.{Item, items_of}
+use Rattle.dex_world.specs.Items.{Item, items_of}
 use Rattle.dex_replay.proofs.Groups.{each-two, each-two-filter, each-two-weaker, each-with-each, filter-all, filter-none, grouped-each, grouped-filter, grouped-number, grouped-two, pairs-of-class, unfilter}
 
 abbrev number_of : PlainRow → ℕ

@@ -1,6 +1,6 @@
 -- Each row of a script finds the cells that it names, with room for one entry more.
 use Rattle.std.proofs.Common.{◌≡◌, ℕ, ◌+◌, ◌≤◌, Bool, true, cond, List, ◌∷◌, ◌++◌, length, map, get_or, sym, ap, ◌∙◌, subst, arith}
-use Rattle.dex_fold.proofs.Common.{Address, Call, Listing, PlainMarketAccounts, PlainRow, is_same, length-map, list_any, names, row_wallets, sum_by-append, sum_by-cons}
+use Rattle.dex_world.proofs.Common.{Address, Call, Listing, PlainMarketAccounts, PlainRow, is_same, length-map, list_any, names, row_wallets, sum_by-append, sum_by-cons}
 use Rattle.dex_replay.proofs.Common.{CanAct, CellState, CellsState, IsRowOf, MarketCellState, PlainScript, address_of, has_account, is_among, is_market, market_state_of, rows_naming, rows_on, wallet_state_of, world_of}
 use Rattle.std.specs.List.{All, count_by}
 use Rattle.dex_cell.specs.CellState as market
@@ -9,7 +9,7 @@ use Rattle.dex_act.proofs.CellLists.{is_among-any}
 use Rattle.dex_replay.proofs.Counting.{HasFew, HasFewMoves, IsCounted}
 use Rattle.dex_replay.proofs.LastAccounts.{listing-in}
 use Rattle.dex_replay.proofs.MappedLists.{All-unmap, list_any-map}
-use Rattle.dex_script_facts.proofs.Roles.{roles-all}
+use Rattle.dex_script_types.proofs.Roles.{roles-all}
 use Rattle.dex_replay.proofs.Starts.{AreOfScript, HasItsAddress, market-addresses, wallet-addresses}
 
 module _ (script : PlainScript) (cells : CellsState) (own : AreOfScript script cells) (its : All HasItsAddress cells.markets) where

@@ -1,14 +1,14 @@
 -- What items leave in an order that keeps the lanes is a run of the script: lawful, of sound markets, and with each
 -- mint conserved.
 use Rattle.std.proofs.Common.{◌≡◌, ℕ, ◌+◌, cond, List, [], ◌∷◌, map, refl, sym, ap, ◌∙◌, subst, arith}
-use Rattle.dex_fold.proofs.Common.{Address, All-cons, All-head, All-nil, All-tail, All-weaker, AllZip, MarketState, PlainAccount, PlainMarketAccounts, WalletState, World, is_same, total}
+use Rattle.dex_world.proofs.Common.{Address, All-cons, All-head, All-nil, All-tail, All-weaker, AllZip, MarketState, PlainAccount, PlainMarketAccounts, WalletState, World, is_same, total}
 use Rattle.dex_replay.proofs.Common.{AreCells, AreSound, CellsState, IsAccepted, IsLeftBy, IsOneOrder, IsReplayOf, IsRunOf, IsScript, KeepsLanes, PlainOutcome, PlainScript, StandsFor, WalletWords, balance_of, closed, market_state, market_words, opened, opened_of, wallet_state, wallet_words, wallet_words-with_amount, with_amount, with_amounts, world_after, world_of}
 use Rattle.dex_accounts.specs.Decoded.{market_in}
 use Rattle.std.specs.List.{All}
 use Rattle.dex_accounts.proofs.Decoded.{AreSound-of}
 use Rattle.dex_accounts.proofs.Decoded as decoded
 use Rattle.dex_state.specs.Conserved.{IsConserved, amount_of, held_of, in_vaults, in_wallets}
-use Rattle.dex_fold.specs.Items.{Item, items_of}
+use Rattle.dex_world.specs.Items.{Item, items_of}
 use Rattle.dex_replay.proofs.Ends.{is-left}
 use Rattle.dex_replay.proofs.Holdings.{in_market, in_wallet}
 use Rattle.dex_replay.proofs.Lawfulness.{is-lawful, order-run, told}

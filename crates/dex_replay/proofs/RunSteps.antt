@@ -1,6 +1,6 @@
 -- One row more leaves a run of rows with that row.
 use Rattle.std.proofs.Common.{◌≡◌, ℕ, ◌≤◌, ⊎_elim, Bool, true, false, ◌||◌, cond, List, [], ◌∷◌, ◌++◌, map, get_or, Option, Some, refl, sym, ap, ◌∙◌, subst, arith}
-use Rattle.dex_fold.proofs.Common.{Address, All-cons, All-head, All-map, All-nil, All-push, All-tail, All-weaker, AllZip, Asked, Call, CanMove, Contains, Contains-append_left, Entry, IsSound, Listing, Market, MarketState, Movement, PlainAccount, PlainMarketAccounts, PlainRow, Reply, Seen, Sees, Stands, Step, Transfers, WalletEntry, WalletState, World, act, acted, asked_of, balance_after-append, balance_seen, brought_to, cases_Bool, cond-false, cond-true, cond_both, done, entry_by, false≢true, is_same, is_same-refl, is_same-true, list_any, list_any_at, map_push, market_acted, market_after, market_after-one, markets_acted, moved_balance, movement_of, names, places-movements, request_of, row_step, row_wallets, seen-wallets, seen_by, seen_wallets, step-keeps, sum_by-cons, taken_from, wallet-movement_by, wallet_acted, wallet_entry_by, wallet_entry_of, wallet_moved}
+use Rattle.dex_world.proofs.Common.{Address, All-cons, All-head, All-map, All-nil, All-push, All-tail, All-weaker, AllZip, Asked, Call, CanMove, Contains, Contains-append_left, Entry, IsSound, Listing, Market, MarketState, Movement, PlainAccount, PlainMarketAccounts, PlainRow, Reply, Seen, Sees, Stands, Step, Transfers, WalletEntry, WalletState, World, act, acted, asked_of, balance_after-append, balance_seen, brought_to, cases_Bool, cond-false, cond-true, cond_both, done, entry_by, false≢true, is_same, is_same-refl, is_same-true, list_any, list_any_at, map_push, market_acted, market_after, market_after-one, markets_acted, moved_balance, movement_of, names, places-movements, request_of, row_step, row_wallets, seen-wallets, seen_by, seen_wallets, step-keeps, sum_by-cons, taken_from, wallet-movement_by, wallet_acted, wallet_entry_by, wallet_entry_of, wallet_moved}
 use Rattle.dex_replay.proofs.Common.{AreSound, IsRowOf, IsSight, IsStart, Origin, PlainScript, address_of, balance_of, has_market, market_in, market_state, origin_of_entry, origin_of_row, start_world, wallet_state}
 use Rattle.std.specs.List.{All}
 use Rattle.std.proofs.lemmas.List.Elements.{Contains-push}
@@ -11,15 +11,15 @@ use Rattle.dex_history.proofs.PriceLaws.{calls-sound}
 use Rattle.dex_history.proofs.StepMints.{row-of}
 use Rattle.dex_history.proofs.StepMoves.{row-moves}
 use Rattle.dex_state.specs.Addresses.{times}
-use Rattle.dex_fold.specs.World.{market_at}
+use Rattle.dex_world.specs.World.{market_at}
 use Rattle.dex_replay.proofs.LastAccounts.{listing-in, market_after-listing}
 use Rattle.dex_replay.proofs.MappedLists.{Any-map, filter-push_no, filter-push_yes, zip-map}
 use Rattle.dex_replay.proofs.Holdings.{CanMoveIt, markets-hold, wallets-hold}
 use Rattle.dex_replay.proofs.Runs.{AllStandIn, IsHistory, IsMoved, IsRun, StandIn, StandsIn, RowReply, naming, on, origin_of, row-sees, row-sight, said, said_of, still-there}
 use Rattle.dex_replay.proofs.Sights.{AreOnce, address_in, before-movement, sees-balances}
-use Rattle.dex_script_facts.proofs.Roles.{roles-all}
+use Rattle.dex_script_types.proofs.Roles.{roles-all}
 use Rattle.dex_replay.proofs.Doing.{Does, doing, made, sees-doing}
-use Rattle.dex_script_facts.proofs.Apart.{market-once, wallet-once}
+use Rattle.dex_script_types.proofs.Apart.{market-once, wallet-once}
 
 -- a market at the end of its calls is sound
 pub history-sound : (script : PlainScript) (done : List RowReply) (first : PlainMarketAccounts) (state : MarketState) → AreSound first → IsHistory script done first state

@@ -1,6 +1,6 @@
 -- Rows that act one after the other leave each market a history, and each wallet a journal, of the rows that name it.
 use Rattle.std.proofs.Common.{◌≡◌, Bool, true, false, ◌||◌, List, [], ◌∷◌, map, Option, Some, None, refl, sym, ap, ◌∙◌, ⊎_elim}
-use Rattle.dex_fold.proofs.Common.{Address, Agree, AllZip, Asked, Call, Contains, Entry, IsLegal, IsWalletLegal, MarketState, Movement, PlainAccount, PlainMarketAccounts, PlainRow, Reply, Sees, WalletSeen, WalletState, World, address_seen, asked_of, balance_after, cases_Bool, cond-false, cond-true, cond_both, false≢true, filter, is_same, is_same-true, list_any, market_after, names, role_at, seen_by, wallet_at, wallet_entry_of}
+use Rattle.dex_world.proofs.Common.{Address, Agree, AllZip, Asked, Call, Contains, Entry, IsLegal, IsWalletLegal, MarketState, Movement, PlainAccount, PlainMarketAccounts, PlainRow, Reply, Sees, WalletSeen, WalletState, World, address_seen, asked_of, balance_after, cases_Bool, cond-false, cond-true, cond_both, false≢true, filter, is_same, is_same-true, list_any, market_after, names, role_at, seen_by, wallet_at, wallet_entry_of}
 use Rattle.dex_replay.proofs.Common.{IsRowOf, IsSight, IsWalletSeen, Origin, PlainScript, balance_of, has_account, is_known_role, market_in, origin_of_entry, origin_of_row, start_world, wallet_words}
 use Rattle.std.specs.List.{All, Any}
 use Rattle.dex_history.specs.Journal.{front}

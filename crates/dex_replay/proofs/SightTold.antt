@@ -23,7 +23,7 @@ use Rattle.dex_history.proofs.WalletLaws.{places-movements, wallet-movement_by}
 use Rattle.dex_act.specs.Wallets.{any_hit, hits}
 use Rattle.dex_act.proofs.Seeing.{any-seen}
 use Rattle.dex_state.specs.Addresses.{address_of, times}
-use Rattle.dex_script_facts.specs.PlainScript.{PlainScript}
+use Rattle.dex_script_types.specs.PlainScript.{PlainScript}
 use Rattle.dex_replay.specs.Lawful.{IsSight, IsWalletSeen}
 use Rattle.dex_replay.specs.EntryCalls.{before_of, role_told, seen_told, wallet_told}
 use Rattle.dex_replay.proofs.Finding.{wallet-found}

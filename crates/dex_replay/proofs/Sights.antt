@@ -1,6 +1,6 @@
 -- What a row sees of a wallet that it names, and at which balance it moves it.
 use Rattle.std.proofs.Common.{nat_lt, ℕ, ◌+◌, ◌≤◌, ◌≡◌, Bool, true, false, ◌||◌, List, [], ◌∷◌, get_or, map, Option, Some, None, refl, sym, ap, ◌∙◌, subst, arith, ⊎_elim}
-use Rattle.dex_fold.proofs.Common.{Address, All-cons, All-nil, Movement, PlainRow, Seen, Transfers, WalletSeen, WalletState, World, balance_in, balance_seen, brought_to, cases_Bool, cond-false, cond-true, cond_both, false≢true, is_role, is_same, is_same-refl, is_same-true, list_any, movement_of, names, names-roles, role_at, seen_by, taken_from, wallet_at}
+use Rattle.dex_world.proofs.Common.{Address, All-cons, All-nil, Movement, PlainRow, Seen, Transfers, WalletSeen, WalletState, World, balance_in, balance_seen, brought_to, cases_Bool, cond-false, cond-true, cond_both, false≢true, is_role, is_same, is_same-refl, is_same-true, list_any, movement_of, names, names-roles, role_at, seen_by, taken_from, wallet_at}
 use Rattle.std.specs.List.{All}
 use Rattle.dex_state.specs.Addresses.{times}
 use Rattle.dex_state.proofs.Times.{one, times-cons}

@@ -1,6 +1,6 @@
 -- What cells keep of the script with which they were opened.
 use Rattle.std.proofs.Common.{◌≡◌, List, map, refl, sym, ap, ◌∙◌, subst}
-use Rattle.dex_fold.proofs.Common.{All-map, MarketState, PlainAccount, PlainMarketAccounts, WalletState, map-id}
+use Rattle.dex_world.proofs.Common.{All-map, MarketState, PlainAccount, PlainMarketAccounts, WalletState, map-id}
 use Rattle.dex_replay.proofs.Common.{CellState, CellsState, MarketCellState, PlainScript, address_of, market_opened, market_state_of, opened, opened_of, rows_naming, rows_on, start_world, wallet_opened, wallet_state_of, world_of}
 use Rattle.std.specs.List.{All}
 use Rattle.dex_cell.specs.CellState as market

@@ -4,13 +4,13 @@ use Rattle.std.specs.List.{AllPairs, flat_map}
 use Rattle.dex_types.specs.declared.rows.RowPlaces.{RowPlaces}
 use Rattle.dex_types.specs.Rows.{PlainRow}
 use Rattle.dex_cell.specs.CellState.{MarketCellState}
-use Rattle.dex_fold.specs.Groups.{members}
-use Rattle.dex_fold.specs.Items.{Item, fold_items, items_of}
+use Rattle.dex_world.specs.Groups.{members}
+use Rattle.dex_world.specs.Items.{Item, fold_items, items_of}
 use Rattle.dex_bank.specs.Cells.{CellsState, opened_of, world_of}
 use Rattle.dex_bank.specs.Opened.{opened}
 use Rattle.dex_bank.specs.Places.{ArePlacedIn}
-use Rattle.dex_script_facts.specs.PlainScript.{PlainScript}
-use Rattle.dex_script_facts.specs.Facts.{HasNoThree}
+use Rattle.dex_script_types.specs.PlainScript.{PlainScript}
+use Rattle.dex_script_types.specs.Facts.{HasNoThree}
 use Rattle.dex_replay.specs.Replays.{start_world}
 
 -- of two rows the later one has no lower number

@@ -15,8 +15,8 @@ use Rattle.dex_accounts.specs.StandsFor.{StandsFor}
 use Rattle.dex_history.specs.Journal.{Call, IsLegal, Stands, asked_of, front, market_after}
 use Rattle.dex_state.specs.Outcomes.{PlainMarketJournal}
 use Rattle.dex_replay.specs.Lawful.{IsSight}
-use Rattle.dex_script_facts.specs.PlainScript.{PlainScript}
-use Rattle.dex_script_facts.specs.Firsts.{first_of}
+use Rattle.dex_script_types.specs.PlainScript.{PlainScript}
+use Rattle.dex_script_types.specs.Firsts.{first_of}
 use Rattle.dex_token.specs.TokenAccount.{wallet_words}
 
 -- ---- what an entry tells

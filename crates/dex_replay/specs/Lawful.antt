@@ -14,13 +14,13 @@ use Rattle.dex_accounts.specs.Decoded.{market_in}
 use Rattle.dex_accounts.specs.StandsFor.{StandsFor}
 use Rattle.dex_instruction.specs.Reading.{decoded}
 use Rattle.dex_history.specs.Journal.{Call, IsLegal, asked_of, front, is_done, is_refusal, is_take, market_after, wallet_entry_of}
-use Rattle.dex_fold.specs.Groups.{members}
-use Rattle.dex_fold.specs.Items.{Item, items_of, rows_of_lane}
-pub use Rattle.dex_fold.specs.Lists.{AllThree}
-pub use Rattle.dex_fold.specs.RowsOf.{rows_of_market, rows_of_wallet}
+use Rattle.dex_world.specs.Groups.{members}
+use Rattle.dex_world.specs.Items.{Item, items_of, rows_of_lane}
+pub use Rattle.dex_world.specs.Lists.{AllThree}
+pub use Rattle.dex_world.specs.RowsOf.{rows_of_market, rows_of_wallet}
 use Rattle.dex_state.specs.Outcomes.{PlainMarketJournal, PlainOutcome, PlainWalletJournal}
-use Rattle.dex_script_facts.specs.PlainScript.{PlainScript}
-pub use Rattle.dex_script_facts.specs.Sight.{IsSight, IsWalletSeen}
+use Rattle.dex_script_types.specs.PlainScript.{PlainScript}
+pub use Rattle.dex_script_types.specs.Sight.{IsSight, IsWalletSeen}
 use Rattle.dex_token.specs.TokenAccount.{with_amount}
 use Rattle.dex_wallet.specs.CellState.{balance_of}
 use Rattle.dex_replay.specs.Replays.{IsOfStart}

@@ -7,12 +7,12 @@ use Rattle.dex_accounts.specs.StandsFor.{StandsFor}
 use Rattle.dex_cell.specs.CellState.{AreOfOneMarket}
 use Rattle.dex_state.specs.Addresses.{address_of}
 use Rattle.dex_state.specs.Accepted.{AreAccepted}
-use Rattle.dex_fold.specs.Fold.{fold}
-use Rattle.dex_fold.specs.Items.{Item, fold_items, items_of}
-use Rattle.dex_fold.specs.World.{MarketState, WalletState, World}
+use Rattle.dex_world.specs.Fold.{fold}
+use Rattle.dex_world.specs.Items.{Item, fold_items, items_of}
+use Rattle.dex_world.specs.World.{MarketState, WalletState, World}
 use Rattle.dex_state.specs.Outcomes.{PlainMarketJournal, PlainOutcome, PlainWalletJournal}
-use Rattle.dex_script_facts.specs.PlainScript.{PlainScript}
-pub use Rattle.dex_script_facts.specs.Starts.{market_state, start_world, wallet_state}
+use Rattle.dex_script_types.specs.PlainScript.{PlainScript}
+pub use Rattle.dex_script_types.specs.Starts.{market_state, start_world, wallet_state}
 use Rattle.dex_wallet.specs.CellState.{balance_of}
 use Rattle.dex_token.specs.TokenAccount.{with_amount}
 

@@ -4,9 +4,9 @@ use Rattle.dex_types.specs.Rows.{PlainRow}
 use Rattle.dex_accounts.specs.Decoded.{AreSound}
 use Rattle.dex_state.specs.Conserved.{IsConserved}
 use Rattle.dex_state.specs.Accepted.{AreAccepted}
-use Rattle.dex_fold.specs.Items.{Item, items_of, items_of_lane, rows_of_lane}
+use Rattle.dex_world.specs.Items.{Item, items_of, items_of_lane, rows_of_lane}
 use Rattle.dex_state.specs.Outcomes.{PlainOutcome}
-use Rattle.dex_script_facts.specs.PlainScript.{PlainScript}
+use Rattle.dex_script_types.specs.PlainScript.{PlainScript}
 use Rattle.dex_replay.specs.Lawful.{IsLawful}
 use Rattle.dex_replay.specs.Replays.{IsLeftBy, IsLeftByRows}
 

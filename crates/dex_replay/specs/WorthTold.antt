@@ -11,7 +11,7 @@ use Rattle.dex_history.specs.Journal.{Call}
 use Rattle.dex_eager.specs.Eager.{Worths}
 use Rattle.dex_eager.specs.Worth.{Worth, held_for}
 use Rattle.dex_state.specs.Outcomes.{PlainMarketJournal, PlainOutcome}
-use Rattle.dex_script_facts.specs.PlainScript.{PlainScript}
+use Rattle.dex_script_types.specs.PlainScript.{PlainScript}
 use Rattle.dex_replay.specs.EntryCalls.{calls_told}
 use Rattle.dex_replay.specs.Told.{told_in, told_out}
 

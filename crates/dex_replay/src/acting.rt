@@ -3,12 +3,12 @@
 ghost use Rattle.std.specs.Prelude.{◌≡◌, ◌∷◌, ◌-◌, List, length, map, option_copied, option_map, take};
 ghost use Rattle.dex_types.specs.declared.rows.RowPlaces.{RowPlaces as RowPlacesOf};
 ghost use Rattle.dex_types.specs.Rows.{PlainRow, row_of};
-ghost use Rattle.dex_fold.specs.Items.{items_of};
+ghost use Rattle.dex_world.specs.Items.{items_of};
 ghost use Rattle.dex_bank.specs.Cells.{opened_of, world_of};
 ghost use Rattle.dex_bank.specs.Opened.{opened};
 ghost use Rattle.dex_bank.specs.Places.{ArePlacedIn};
-ghost use Rattle.dex_script_facts.specs.PlainScript.{PlainScript};
-ghost use Rattle.dex_script_facts.specs.Facts.{IsScript};
+ghost use Rattle.dex_script_types.specs.PlainScript.{PlainScript};
+ghost use Rattle.dex_script_types.specs.Facts.{IsScript};
 ghost use Rattle.dex_replay.specs.Acting.{HaveActed, IsNext};
 ghost use Rattle.dex_replay.specs.Replays.{world_after};
 

@@ -8,8 +8,8 @@ ghost use Rattle.dex_types.specs.Rows.{PlainRow};
 ghost use Rattle.dex_history.specs.Journal.{Call};
 ghost use Rattle.dex_state.specs.Outcomes.{PlainMarketJournal, PlainOutcome};
 ghost use Rattle.dex_replay.specs.Lawful.{AllThree, IsLawful, IsLawfulMarket};
-ghost use Rattle.dex_script_facts.specs.PlainScript.{PlainScript};
-ghost use Rattle.dex_script_facts.specs.Facts.{IsScript};
+ghost use Rattle.dex_script_types.specs.PlainScript.{PlainScript};
+ghost use Rattle.dex_script_types.specs.Facts.{IsScript};
 ghost use Rattle.dex_replay.specs.EntryCalls.{IsCallOf, TellsHistory, call_told, calls_told};
 
 /// The call of an entry of a lawful journal is the one that the script, the market and the entry tell.

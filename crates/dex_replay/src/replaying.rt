@@ -8,7 +8,7 @@ ghost use Rattle.dex_replay.specs.Runs.{IsRunOf};
 
 use crate::acting::{act_all, use_up};
 use dex_bank::Cells;
-use dex_script_facts::Script;
+use dex_script_types::Script;
 use dex_state::Outcome;
 use dex_types::{NoMemory, Row};
 use std::alloc::Global;

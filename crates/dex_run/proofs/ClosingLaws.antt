@@ -1,15 +1,15 @@
 -- What the gates give, when all seats are back, is what the lanes of the script made.
 use Rattle.std.proofs.Common.{◌≡◌, ℕ, zero, suc, ◌+◌, ◌<◌, List, Option, Vec, get_or, length, map, refl, sym, ap, ◌∙◌, subst}
-use Rattle.dex_fold.proofs.Common.{Address, All-map, All-weaker, AllZip, Call, PlainAccount, PlainMarketAccounts, WalletEntry, length-map, range_with_len, rows_of_lane}
+use Rattle.dex_world.proofs.Common.{Address, All-map, All-weaker, AllZip, Call, PlainAccount, PlainMarketAccounts, WalletEntry, length-map, range_with_len, rows_of_lane}
 use Rattle.dex_replay.proofs.Common.{AreCells, CellState, IsMarketCell, IsWalletCell, MarketCellState, PlainOutcome, PlainScript}
-use Rattle.dex_order.proofs.Common.{BankMarketState, BankWalletState, IsBankMarket, IsBankWallet, IsLane, IsLaneDone, IsMarketMerged, IsWalletMerged, Lane, MarketOrigin, Stamped, WalletOrigin, calls_on, entries_on, map-map, market_calls, wallet_entries}
+use Rattle.dex_serializable.proofs.Common.{BankMarketState, BankWalletState, IsBankMarket, IsBankWallet, IsLane, IsLaneDone, IsMarketMerged, IsWalletMerged, Lane, MarketOrigin, Stamped, WalletOrigin, calls_on, entries_on, map-map, market_calls, wallet_entries}
 use Rattle.dex_run.proofs.Common.{AreMarketsClosed, AreWalletsClosed, BankState, GateView, IsBank, IsDone, IsMarketClosed, IsMarketGate, IsMarketPassAt, IsSeat, IsSeatOf, IsWalletClosed, IsWalletGate, IsWalletPassAt, MarketColumns, PassView, SeatState, WalletColumns, added}
 use Rattle.std.specs.List.{All}
 use Rattle.dex_types.specs.declared.terms.Program.{Program}
 use Rattle.dex_act.specs.Wallets.{AreApart}
 use Rattle.dex_bank.specs.Closed as cells
 use Rattle.dex_journals.specs.StampedCalls.{calls_of_lane, entries_of_lane}
-use Rattle.dex_order.proofs.LastCells.{wallets-kept}
+use Rattle.dex_serializable.proofs.LastCells.{wallets-kept}
 use Rattle.dex_run.specs.Closing.{AreClosed, ClosesAs}
 use Rattle.dex_turns.specs.Seats.{lane_in}
 use Rattle.dex_run.proofs.ColumnLists.{All-across, AllThree-length, AllZip-last_of}

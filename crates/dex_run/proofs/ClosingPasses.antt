@@ -1,11 +1,11 @@
 -- The passes of all seats, gate by gate: they are all passes of their gates.
 use Rattle.std.proofs.Common.{◌≡◌, ℕ, zero, suc, ◌+◌, ◌<◌, ◌≤◌, ◌⊎◌, List, [], ◌∷◌, ◌++◌, Any, Some, Vec, drop, get_or, eq-or-lt_of_le, inl, inr, length, map, refl, sym, ap, ◌∙◌, subst, arith}
-use Rattle.dex_fold.proofs.Common.{AllZip, AllZip-long, Call, PlainAccount, PlainMarketAccounts, WalletEntry, range_with_len}
+use Rattle.dex_world.proofs.Common.{AllZip, AllZip-long, Call, PlainAccount, PlainMarketAccounts, WalletEntry, range_with_len}
 use Rattle.dex_replay.proofs.Common.{AllThree}
-use Rattle.dex_order.proofs.Common.{MarketOrigin, Stamped, WalletOrigin, any-there}
+use Rattle.dex_serializable.proofs.Common.{MarketOrigin, Stamped, WalletOrigin, any-there}
 use Rattle.dex_run.proofs.Common.{AreLonger, BankState, CanClose, GateView, Idle, IsBank, IsMarketGate, IsMarketPassAt, IsWalletGate, IsWalletPassAt, MarketColumns, PassView, SeatState, WalletColumns}
 use Rattle.dex_gate.specs.PassView.{Accounts, AreAll}
-use Rattle.dex_order.proofs.Common.{calls_on, entries_on}
+use Rattle.dex_serializable.proofs.Common.{calls_on, entries_on}
 use Rattle.dex_turns.specs.Seats.{IsPass}
 use Rattle.dex_run.specs.Closing.{IsPassAt}
 use Rattle.dex_run.proofs.ColumnLists.{All-second, AllThree-of, AllZip-of, Columns, columns-length, columns-more, map-across}

@@ -1,11 +1,11 @@
 -- Lists that grow or shrink at their ends, place by place.
 use Rattle.std.proofs.Common.{◌≡◌, ℕ, zero, suc, ◌<◌, ◌≤◌, List, [], ◌∷◌, ◌++◌, length, get_or, set, reverse, map, Vec, vec_len, vec_capacity, refl, sym, ap, ◌∙◌, subst, arith, append_assoc, append-nil}
-use Rattle.dex_fold.proofs.Common.{All-cons, All-head, All-nil, All-tail, AllZip, AllZip-long}
+use Rattle.dex_world.proofs.Common.{All-cons, All-head, All-nil, All-tail, AllZip, AllZip-long}
 use Rattle.dex_replay.proofs.Common.{AllThree}
 use Rattle.dex_run.proofs.Common.{AreLonger, GateView, IsLonger, PassView}
 use Rattle.dex_run.specs.Closing.{AreClosed}
 use Rattle.std.specs.List.{All}
-use Rattle.dex_fold.proofs.MappedLists.{AllZip-last, none-left}
+use Rattle.dex_world.proofs.MappedLists.{AllZip-last, none-left}
 use Rattle.std.proofs.lemmas.List.{reverse-append}
 use Rattle.std.proofs.lemmas.Slice.Zip.{all_zipped_more}
 

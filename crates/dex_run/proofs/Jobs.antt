@@ -1,9 +1,9 @@
 -- The jobs of all lanes, and their seats.
 use Rattle.std.proofs.Common.{◌≡◌, ℕ, ◌+◌, ◌<◌, List, [], ◌∷◌, get_or, length, map, sym, ap, ◌∙◌, subst, arith}
-use Rattle.dex_fold.proofs.Common.{All-cons, All-head, All-nil, All-tail, AllZip, get_or-map, length-map, length-range_with_len, range_with_len}
+use Rattle.dex_world.proofs.Common.{All-cons, All-head, All-nil, All-tail, AllZip, get_or-map, length-map, length-range_with_len, range_with_len}
 use Rattle.dex_run.proofs.Common.{BankState, CanRun, HasRun, IsDone, IsJobOf, IsSeatOf, LaneJob, Lanes, SeatState}
 use Rattle.std.specs.List.{All}
-use Rattle.dex_fold.proofs.MappedLists.{zip-map}
+use Rattle.dex_world.proofs.MappedLists.{zip-map}
 use Rattle.dex_run.proofs.ColumnLists.{All-second}
 use Rattle.std.proofs.lemmas.List.FromFn.{get_or-range_with_len}
 

@@ -1,9 +1,9 @@
 -- The places at which the items of lanes begin, found row by row; and the items of a lane, one after the other.
 use Rattle.std.proofs.Common.{◌≡◌, ℕ, ◌+◌, ◌<◌, ◌≤◌, ⊎_elim, Bool, cond, List, [], ◌∷◌, ◌++◌, Vec, Global, length, get_or, set, map, take, drop, refl, sym, ap, ◌∙◌, subst, arith, append_assoc, append-nil}
-use Rattle.dex_fold.proofs.Common.{PlainRow, Row, eq-eqb, ne_eqb, row_of, rows_of_lane, take_all, take_more}
+use Rattle.dex_world.proofs.Common.{PlainRow, Row, eq-eqb, ne_eqb, row_of, rows_of_lane, take_all, take_more}
 use Rattle.dex_replay.proofs.Common.{AreRows, PlainScript}
 use Rattle.std.specs.List.{All}
-use Rattle.dex_fold.proofs.MappedLists.{same-get}
+use Rattle.dex_world.proofs.MappedLists.{same-get}
 use Rattle.dex_run.proofs.Common.{Begins, IsAlone, IsDone, IsIndex, IsItemOf, IsRest, IsRestAt, IsSwapAt, SeatState, rows_before}
 use Rattle.dex_run.proofs.LaneRows.{are-legs, rows_of_lane-append}
 use Rattle.std.proofs.Math.ListN.{drop_of_length-le}

@@ -1,13 +1,13 @@
 -- The items of a lane, one after the other.
 use Rattle.std.proofs.Common.{◌≡◌, ℕ, zero, suc, ◌+◌, ◌<◌, ◌≤◌, ⊎_elim, nat_eq, drop, length-drop, Bool, cond, List, [], ◌∷◌, ◌++◌, length, get_or, map, take, sym, ap, ◌∙◌, subst, arith}
-use Rattle.dex_fold.proofs.Common.{All-cons, All-filter, All-map, All-nil, All-weaker, get_or-map, length-map, PlainAccounts, PlainRow, Row, eq-eqb, filter-append, row_of, rows_of_lane, take_at}
+use Rattle.dex_world.proofs.Common.{All-cons, All-filter, All-map, All-nil, All-weaker, get_or-map, length-map, PlainAccounts, PlainRow, Row, eq-eqb, filter-append, row_of, rows_of_lane, take_at}
 use Rattle.dex_replay.proofs.Common.{AreLegs, AreRows, PlainScript, lanes_of}
 use Rattle.std.specs.List.{All}
-use Rattle.dex_fold.proofs.MappedLists.{same-get}
+use Rattle.dex_world.proofs.MappedLists.{same-get}
 use Rattle.dex_run.proofs.Common.{AreNext, AreRowsOf, BankState, Begins, IsNext, SeatState}
 use Rattle.dex_types.specs.declared.rows.RowPlaces.{RowPlaces}
-use Rattle.dex_script_facts.specs.Places.{AreBeside, IsBeside, IsPlaced}
-use Rattle.dex_script_facts.proofs.PlacedLaws.{item-at, item_at, nowhere, placed-long, row-at}
+use Rattle.dex_script_types.specs.Places.{AreBeside, IsBeside, IsPlaced}
+use Rattle.dex_script_types.proofs.PlacedLaws.{item-at, item_at, nowhere, placed-long, row-at}
 use Rattle.std.proofs.lemmas.Bool.{cases_lt}
 use Rattle.std.proofs.lemmas.Slice.Zip.{AllZip-long}
 use Rattle.std.proofs.lemmas.List.{drop_more, get_or-drop, take-append-drop, get_or-take, length-take-le, map-append}

@@ -1,6 +1,6 @@
 -- Lists of gates and of the passes for them.
 use Rattle.std.proofs.Common.{◌≡◌, ℕ, zero, suc, ◌+◌, ◌<◌, ◌≤◌, List, [], ◌∷◌, ◌++◌, length, get_or, set, map, take, refl, sym, ap, ◌∙◌, subst, arith, Some}
-use Rattle.dex_fold.proofs.Common.{All-cons, All-nil, AllZip, take_more}
+use Rattle.dex_world.proofs.Common.{All-cons, All-nil, AllZip, take_more}
 use Rattle.dex_run.proofs.Common.{GateView, PassView, first_passes, fresh_pass, next_pass, passes_of, split_once}
 use Rattle.std.specs.List.{All}
 use Rattle.std.proofs.lemmas.List.{map-append}

@@ -1,8 +1,8 @@
 -- The seats of a script's lanes, when no row has acted.
 use Rattle.std.proofs.Common.{◌≡◌, ℕ, zero, suc, ◌+◌, ◌-◌, ◌<◌, ◌≤◌, List, [], ◌∷◌, ◌++◌, map, refl, sym, ap, ◌∙◌, subst, arith}
-use Rattle.dex_fold.proofs.Common.{AllZip, Call, PlainAccount, PlainMarketAccounts, WalletEntry, range_with_len}
+use Rattle.dex_world.proofs.Common.{AllZip, Call, PlainAccount, PlainMarketAccounts, WalletEntry, range_with_len}
 use Rattle.dex_replay.proofs.Common.{CellState, MarketCellState, PlainScript, market_opened, wallet_opened}
-use Rattle.dex_order.proofs.Common.{MarketOrigin, Stamped, WalletOrigin}
+use Rattle.dex_serializable.proofs.Common.{MarketOrigin, Stamped, WalletOrigin}
 use Rattle.dex_run.proofs.Common.{BankState, GateView, IsMarketGate, IsPass, IsSeatOf, IsWalletGate, PassView, SeatState, first_passes, fresh_pass, passes_of, seat_in}
 use Rattle.std.specs.List.{All}
 use Rattle.std.proofs.lemmas.List.FromFn.{map-range_with_len_more}

@@ -8,14 +8,14 @@ use Rattle.dex_gate.specs.GateView.{GateView}
 use Rattle.dex_gate.specs.PassView.{PassView}
 use Rattle.dex_history.specs.Journal.{Call}
 use Rattle.dex_state.specs.Outcomes.{PlainOutcome}
-use Rattle.dex_script_facts.specs.PlainScript.{PlainScript}
-use Rattle.dex_fold.specs.Lists.{AllThree}
+use Rattle.dex_script_types.specs.PlainScript.{PlainScript}
+use Rattle.dex_world.specs.Lists.{AllThree}
 use Rattle.dex_wallet.specs.CellState.{CellState}
 use Rattle.dex_stamps.specs.Stamped.{Stamped}
 use Rattle.dex_journals.specs.Journals.{BankMarketState, IsBankMarket, MarketOrigin, market_calls, market_origin}
 use Rattle.dex_journals.specs.Journals.{BankWalletState, IsBankWallet, WalletOrigin, wallet_entries, wallet_origin}
 use Rattle.dex_journals.specs.StampedCalls.{calls_on, entries_on}
-use Rattle.dex_order.specs.Merged.{AreMerged, Histories, left}
+use Rattle.dex_serializable.specs.Merged.{AreMerged, Histories, left}
 use Rattle.dex_run.specs.declared.closing.ClosingRoom.{ClosingRoom}
 use Rattle.dex_run.specs.declared.closing.GateRoom.{GateRoom}
 use Rattle.dex_turns.specs.Bank.{BankState}

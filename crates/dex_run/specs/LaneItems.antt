@@ -4,8 +4,8 @@ use Rattle.std.specs.declared.alloc.Global.{Global}
 use Rattle.dex_types.specs.declared.rows.Row.{Row}
 use Rattle.dex_types.specs.declared.rows.RowPlaces.{RowPlaces}
 use Rattle.dex_types.specs.Rows.{row_of}
-use Rattle.dex_fold.specs.Items.{rows_of_lane}
-use Rattle.dex_script_facts.specs.Places.{AreBeside}
+use Rattle.dex_world.specs.Items.{rows_of_lane}
+use Rattle.dex_script_types.specs.Places.{AreBeside}
 use Rattle.dex_turns.specs.Seats.{SeatState}
 
 -- what is said of rows holds of all that these stand beside

@@ -3,8 +3,8 @@ use Rattle.std.specs.Prelude.{◌≡◌, ◌<◌, List, [], length, map}
 use Rattle.dex_types.specs.declared.rows.Row.{Row}
 use Rattle.dex_types.specs.declared.rows.RowPlaces.{RowPlaces}
 use Rattle.dex_types.specs.Rows.{row_of}
-use Rattle.dex_script_facts.specs.Facts.{IsScript}
-use Rattle.dex_script_facts.specs.Places.{AreBeside, ArePlaced}
+use Rattle.dex_script_types.specs.Facts.{IsScript}
+use Rattle.dex_script_types.specs.Places.{AreBeside, ArePlaced}
 use Rattle.dex_run.specs.LaneItems.{IsIndex}
 use Rattle.dex_run.specs.declared.lane.LaneJob.{LaneJob}
 use Rattle.dex_run.specs.declared.lane.Lanes.{Lanes}

@@ -13,7 +13,7 @@ use crate::of_cell::OfCell;
 use dex_bank::Cells;
 use dex_gate::{Gate, Journaled, Pass};
 use dex_journals::{BankMarket, BankWallet};
-use dex_script_facts::Script;
+use dex_script_types::Script;
 use dex_turns::{Bank, LaneSeat, Outline};
 use dex_types::{NoMemory, add};
 use std::alloc::Global;

@@ -3,7 +3,7 @@
 ghost use Rattle.std.specs.Prelude.{◌≡◌, List, All, IfErr, IfOk, IfSome, length, map, vec_len};
 ghost use Rattle.std.specs.List.{range_with_len};
 ghost use Rattle.dex_state.specs.Outcomes.{PlainOutcome, outcome_of};
-ghost use Rattle.dex_script_facts.specs.PlainScript.{PlainScript};
+ghost use Rattle.dex_script_types.specs.PlainScript.{PlainScript};
 ghost use Rattle.dex_replay.specs.Runs.{IsOneOrder, IsRunOf};
 ghost use Rattle.dex_turns.specs.Bank.{IsBank};
 ghost use Rattle.dex_run.specs.Closing.{ClosesAs, HasGateRoom, HasRoom};
@@ -16,8 +16,8 @@ use dex_bank::{Cells, Room};
 use dex_cell::MarketCell;
 use dex_gate::Pass;
 use dex_journals::{BankMarket, BankWallet};
-use dex_order::laws::what_lanes_leave_is_a_replay;
 use dex_replay::laws::what_one_order_leaves_is_a_run;
+use dex_serializable::laws::what_lanes_leave_is_a_replay;
 use dex_state::Outcome;
 use dex_turns::{Bank, BankParts, LaneSeat};
 use dex_wallet::WalletCell;

@@ -2,13 +2,13 @@
 
 ghost use Rattle.std.specs.Prelude.{◌≡◌, ◌<◌, IfOk, false, length, map, true};
 ghost use Rattle.dex_types.specs.Rows.{row_of};
-ghost use Rattle.dex_script_facts.specs.PlainScript.{PlainScript};
-ghost use Rattle.dex_script_facts.specs.Facts.{AreRows};
-ghost use Rattle.dex_script_facts.specs.Places.{AreBeside};
+ghost use Rattle.dex_script_types.specs.PlainScript.{PlainScript};
+ghost use Rattle.dex_script_types.specs.Facts.{AreRows};
+ghost use Rattle.dex_script_types.specs.Places.{AreBeside};
 ghost use Rattle.dex_run.specs.LaneItems.{IsAlone, IsIndex, IsSwapAt, OfRows};
 
 use crate::columns::columns_for;
-use dex_script_facts::RowList;
+use dex_script_types::RowList;
 use dex_types::{NoMemory, RowPlaces, add};
 use std::alloc::Global;
 

@@ -11,7 +11,7 @@ use dex_act::PlacedRow;
 use dex_gate::Door;
 use dex_io::Pace;
 use dex_lanes::Job;
-use dex_script_facts::RowList;
+use dex_script_types::RowList;
 use dex_swap::swap_two;
 use dex_turns::{Bank, LaneSeat};
 use dex_types::RowPlaces;

@@ -1,14 +1,14 @@
 //! Values behind gates, each of which is of one cell.
 
 ghost use Rattle.std.specs.Prelude.{◌≡◌, [], IfOk};
-ghost use Rattle.dex_script_facts.specs.PlainScript.{PlainScript};
-ghost use Rattle.dex_fold.specs.RowsOf.{rows_naming, rows_on};
+ghost use Rattle.dex_script_types.specs.PlainScript.{PlainScript};
+ghost use Rattle.dex_world.specs.RowsOf.{rows_naming, rows_on};
 ghost use Rattle.dex_journals.specs.Journals.{IsBankMarket, IsBankWallet};
 
 use dex_cell::MarketCell;
 use dex_gate::Journaled;
 use dex_journals::{BankMarket, BankWallet};
-use dex_script_facts::Script;
+use dex_script_types::Script;
 use dex_stamps::Kept;
 use dex_types::NoMemory;
 use dex_wallet::WalletCell;

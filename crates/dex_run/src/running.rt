@@ -15,7 +15,7 @@ use crate::stay::doors_for;
 use dex_bank::Cells;
 use dex_io::Pace;
 use dex_lanes::run_jobs;
-use dex_script_facts::{RowList, Script};
+use dex_script_types::{RowList, Script};
 use dex_state::Outcome;
 use dex_turns::{LaneSeat, Outline};
 use dex_types::{NoMemory, add};

@@ -17,9 +17,9 @@ use Rattle.dex_statement.specs.Faults.{◌>>=◌, found_or, unless}
 use Rattle.dex_statement.specs.Stated.{PlainInstruction, PlainMarketWords, PlainSwap}
 use Rattle.dex_statement.specs.Statements.{statement_of}
 use Rattle.dex_statement.specs.Words.{Fields}
-use Rattle.dex_script_facts.specs.PlainScript.{PlainScript}
-use Rattle.dex_script_facts.specs.Known.{has_account}
-use Rattle.dex_script_facts.specs.Facts.{HasNoSwap}
+use Rattle.dex_script_types.specs.PlainScript.{PlainScript}
+use Rattle.dex_script_types.specs.Known.{has_account}
+use Rattle.dex_script_types.specs.Facts.{HasNoSwap}
 use Rattle.dex_script.specs.Drafts.{PlainDraft, behind_dump, no_rows}
 use Rattle.dex_script.specs.Known.{is_any_among, made_addresses, mint_at, orders_at}
 use Rattle.dex_script.specs.Rows.{checked_name, checked_new, exceeds_market, exceeds_row, instruction_row, is_full, is_unknown, set_of, with_instruction, with_item, with_known, with_market, with_mint, with_msrm, with_orders_row, with_program, with_row, with_srm, with_statement, with_wallet}

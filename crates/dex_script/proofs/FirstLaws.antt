@@ -6,7 +6,7 @@ use Rattle.std.proofs.lemmas.List.Quantifiers.{position-Some}
 use Rattle.std.proofs.lemmas.List.Sums.{fails_before_first}
 use Rattle.std.proofs.lemmas.List.Elements.{All-cons}
 use Rattle.std.specs.List.{All, position, position_or_len}
-use Rattle.dex_script_facts.specs.Firsts.{first_of, with_first}
+use Rattle.dex_script_types.specs.Firsts.{first_of, with_first}
 
 -- the element at a place is the first that passes
 pub record IsFirst {X : Type 0} (test : X → Bool) (xs : List X) (place : ℕ) (d : X) : Type 0 where

@@ -13,7 +13,7 @@ use Rattle.dex_statement.specs.declared.faults.FaultKind.TheVariants.{SetupRefus
 use Rattle.dex_statement.specs.declared.faults.SetupCode.TheVariants as code
 use Rattle.dex_statement.specs.declared.statement.Statement.{Statement}
 use Rattle.dex_statement.specs.declared.statement.Statement.TheVariants as row
-use Rattle.dex_script_facts.specs.Places.{AreBeside, ArePlaced}
+use Rattle.dex_script_types.specs.Places.{AreBeside, ArePlaced}
 use Rattle.dex_script.specs.Drafts.{PlainDraft}
 use Rattle.dex_script.specs.Names.{AreFew, IsReading}
 use Rattle.dex_script.specs.Rows.{IsSetup, with_clock, with_program, with_statement}

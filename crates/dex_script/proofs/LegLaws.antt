@@ -7,11 +7,11 @@ use Rattle.dex_types.specs.Rows.{PlainRow}
 use Rattle.dex_laws.proofs.TraderLaws.{is_same-true}
 use Rattle.dex_instruction.specs.Reading.{decoded}
 use Rattle.dex_history.specs.Journal.{is_take_or_bad}
-use Rattle.dex_fold.specs.Fold.{is_role, names}
-use Rattle.dex_fold.specs.Items.{ShareNothing}
-use Rattle.dex_fold.proofs.NameLaws.{names-roles}
+use Rattle.dex_world.specs.Fold.{is_role, names}
+use Rattle.dex_world.specs.Items.{ShareNothing}
+use Rattle.dex_world.proofs.NameLaws.{names-roles}
 use Rattle.dex_statement.specs.Stated.{PlainInstruction, PlainLeg, leg_words}
-use Rattle.dex_script_facts.specs.Facts.{AreLegs, IsLeg}
+use Rattle.dex_script_types.specs.Facts.{AreLegs, IsLeg}
 use Rattle.dex_script.specs.Rows.{instruction_row, is_bad_swap, is_named_among, is_named_twice, is_no_leg, is_one_wallet}
 use Rattle.dex_script.proofs.FaultLaws.{differ}
 

@@ -9,7 +9,7 @@ use Rattle.dex_types.specs.declared.addresses.Address.{Address}
 use Rattle.dex_types.specs.Accounts.{PlainAccount, PlainMarketAccounts, market_accounts_of}
 use Rattle.dex_types.specs.Addresses.{is_same}
 use Rattle.dex_dump.specs.Reading.{with_orders}
-use Rattle.dex_script_facts.specs.Firsts.{with_first}
+use Rattle.dex_script_types.specs.Firsts.{with_first}
 use Rattle.dex_script.proofs.FirstLaws.{changed-at, changed-none, first-at, first-none, is-first, none-passes}
 use Rattle.dex_script.specs.Known.{orders_at}
 

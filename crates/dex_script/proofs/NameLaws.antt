@@ -10,8 +10,8 @@ use Rattle.dex_types.specs.Addresses.{is_same}
 use Rattle.dex_laws.proofs.TraderLaws.{is_same-sym}
 use Rattle.dex_state.specs.Addresses.{address_of}
 use Rattle.dex_statement.specs.Stated.{PlainParties}
-use Rattle.dex_script_facts.specs.Known.{has_market, is_known_role}
-use Rattle.dex_script_facts.specs.Places.{market_place, wallet_place}
+use Rattle.dex_script_types.specs.Known.{has_market, is_known_role}
+use Rattle.dex_script_types.specs.Places.{market_place, wallet_place}
 use Rattle.dex_script.specs.declared.names.Names.{Names}
 use Rattle.dex_script.specs.declared.names.Stand.{Stand}
 use Rattle.dex_script.specs.Names.{AreAt, AreNames, IsRoleAt, StandAt, all_places, market_address, places_of, role_place}

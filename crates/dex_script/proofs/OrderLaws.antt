@@ -13,16 +13,16 @@ use Rattle.dex_dump.specs.Answers.{AnswersDump, PlainAnswer, next_number}
 use Rattle.dex_dump.proofs.SoFarLaws.{dump-read}
 use Rattle.dex_audit.specs.Findings.{findings}
 use Rattle.dex_audit_rules.specs.declared.finding.Finding.{Finding}
-use Rattle.dex_fold.specs.Items.{items_of}
+use Rattle.dex_world.specs.Items.{items_of}
 use Rattle.dex_statement.specs.declared.faults.FaultKind.{FaultKind}
 use Rattle.dex_statement.specs.declared.statement.Statement.{Statement}
 use Rattle.dex_statement.specs.declared.statement.Statement.TheVariants as row
 use Rattle.dex_statement.specs.Stated.{PlainInstruction, PlainSwap}
 use Rattle.dex_statement.specs.Statements.{statement_of}
 use Rattle.dex_statement.specs.Words.{Fields}
-use Rattle.dex_script_facts.specs.PlainScript.{PlainScript}
-use Rattle.dex_script_facts.specs.Facts.{AreLegs, AreRows, HasNoSwap, IsRowOf, lanes_of}
-use Rattle.dex_script_facts.specs.Known.{has_market, is_known_role}
+use Rattle.dex_script_types.specs.PlainScript.{PlainScript}
+use Rattle.dex_script_types.specs.Facts.{AreLegs, AreRows, HasNoSwap, IsRowOf, lanes_of}
+use Rattle.dex_script_types.specs.Known.{has_market, is_known_role}
 use Rattle.dex_script.specs.Drafts.{PlainDraft, behind_dump, no_rows}
 use Rattle.dex_script.specs.Rows.{exceeds_row, instruction_row, is_full, is_unknown, with_item, with_row, with_statement}
 use Rattle.dex_script.specs.Scripts.{AnswersBy, Reads, Refusal, begins_with_dump, behind, draft_after, fault_in, script_from, unless_found}

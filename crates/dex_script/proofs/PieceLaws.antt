@@ -19,7 +19,7 @@ use Rattle.dex_statement.specs.Faults.{◌>>=◌}
 use Rattle.dex_statement.specs.Stated.{PlainInstruction, PlainParties, PlainSwap}
 use Rattle.dex_statement.specs.Statements.{statement_of}
 use Rattle.dex_statement.specs.Words.{Fields}
-use Rattle.dex_script_facts.specs.Places.{ArePlaced, IsBeside, IsPlaced, IsRolePlaced, wallet_place}
+use Rattle.dex_script_types.specs.Places.{ArePlaced, IsBeside, IsPlaced, IsRolePlaced, wallet_place}
 use Rattle.dex_script.specs.Drafts.{PlainDraft}
 use Rattle.dex_script.specs.declared.names.Stand.{Stand}
 use Rattle.dex_script.specs.Names.{AreFew, IsReading, places_of, role_place}

@@ -7,9 +7,9 @@ use Rattle.std.proofs.lemmas.List.Elements.{All-head, All-nil, All-push, All-tai
 use Rattle.std.proofs.lemmas.List.Quantifiers.{all_pairs_push}
 use Rattle.dex_types.specs.Accounts.{PlainAccounts}
 use Rattle.dex_types.specs.Rows.{PlainRow}
-use Rattle.dex_fold.specs.Items.{Item, items_of}
-use Rattle.dex_fold.proofs.GroupLaws.{grouped-behind, grouped-one}
-use Rattle.dex_script_facts.specs.Facts.{AreLegs, HasNoThree, IsRowOf, lanes_of}
+use Rattle.dex_world.specs.Items.{Item, items_of}
+use Rattle.dex_world.proofs.GroupLaws.{grouped-behind, grouped-one}
+use Rattle.dex_script_types.specs.Facts.{AreLegs, HasNoThree, IsRowOf, lanes_of}
 
 -- rows of a start, whose numbers never fall, of which two of one number are legs, and no three are of one
 pub record AreInOrder (start : PlainAccounts) (rows : List PlainRow) : Type 0 where

@@ -14,7 +14,7 @@ use Rattle.dex_statement.specs.declared.faults.FaultKind.TheVariants.{UnknownLab
 use Rattle.dex_statement.specs.declared.faults.SetupCode.TheVariants as code
 use Rattle.dex_statement.specs.Faults.{◌>>=◌}
 use Rattle.dex_statement.specs.Stated.{PlainMarketWords}
-use Rattle.dex_script_facts.specs.Known.{has_account}
+use Rattle.dex_script_types.specs.Known.{has_account}
 use Rattle.dex_script.specs.Drafts.{PlainDraft}
 use Rattle.dex_script.specs.Known.{is_any_among, made_addresses, mint_at, orders_at, with_supply}
 use Rattle.dex_script.specs.Rows.{checked_name, checked_new, exceeds_market, set_of, with_market, with_mint, with_msrm, with_orders_row, with_srm, with_start, with_wallet}

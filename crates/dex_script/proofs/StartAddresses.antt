@@ -22,7 +22,7 @@ use Rattle.dex_state.specs.Addresses.{address_of, addresses_of, all_of_market, m
 use Rattle.dex_dump.specs.Reading.{is_among, with_orders}
 use Rattle.dex_state.proofs.Times.{one, times-append, times-cons, times-same}
 use Rattle.dex_dump.proofs.TakenLaws.{AreApart, AreFree, times-new, times-none}
-use Rattle.dex_script_facts.specs.Known.{has_account}
+use Rattle.dex_script_types.specs.Known.{has_account}
 use Rattle.dex_script.specs.Known.{is_any_among, made_addresses}
 
 pub record AreTaken (start : PlainAccounts) (taken : List Address) : Type 0 where

@@ -14,8 +14,8 @@ use Rattle.dex_statement.specs.declared.statement.Statement.{Statement}
 use Rattle.dex_statement.specs.declared.statement.Statement.TheVariants as row
 use Rattle.dex_statement.specs.Statements.{statement_of}
 use Rattle.dex_statement.specs.Words.{Fields}
-use Rattle.dex_script_facts.specs.PlainScript.{PlainScript, no_accounts}
-use Rattle.dex_script_facts.specs.Facts.{IsStart}
+use Rattle.dex_script_types.specs.PlainScript.{PlainScript, no_accounts}
+use Rattle.dex_script_types.specs.Facts.{IsStart}
 use Rattle.dex_script.specs.Drafts.{PlainDraft, no_rows}
 use Rattle.dex_script.specs.Rows.{with_row, with_statement}
 use Rattle.dex_script.specs.Scripts.{AnswersBy, Reads, Refusal, begins_with_dump, draft_after, script_from}

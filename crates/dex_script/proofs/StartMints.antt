@@ -12,8 +12,8 @@ use Rattle.dex_types.specs.Addresses.{is_same}
 use Rattle.dex_laws.proofs.TraderLaws.{is_same-true}
 use Rattle.dex_token.specs.MintAccount.{MintWords, mint_words}
 use Rattle.dex_state.specs.Addresses.{address_of}
-use Rattle.dex_script_facts.specs.Firsts.{first_of}
-use Rattle.dex_script_facts.specs.Known.{has_account}
+use Rattle.dex_script_types.specs.Firsts.{first_of}
+use Rattle.dex_script_types.specs.Known.{has_account}
 use Rattle.dex_script.specs.Known.{mint_at, raised, with_supply}
 
 -- ---- the first that passes

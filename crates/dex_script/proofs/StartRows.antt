@@ -17,7 +17,7 @@ use Rattle.dex_state.specs.Accepted.{HasMints}
 use Rattle.dex_dump.specs.Reading.{is_among}
 use Rattle.dex_dump.proofs.TakenLaws.{AreApart, AreFree}
 use Rattle.dex_statement.specs.Stated.{PlainMarketWords}
-use Rattle.dex_script_facts.specs.Known.{has_account}
+use Rattle.dex_script_types.specs.Known.{has_account}
 use Rattle.dex_script.specs.Drafts.{PlainDraft}
 use Rattle.dex_script.specs.Known.{made_addresses}
 use Rattle.dex_script.proofs.MadeMarkets.{IsSet, set-is, stands-made}

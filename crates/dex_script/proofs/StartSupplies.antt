@@ -19,7 +19,7 @@ use Rattle.dex_make.proofs.TokenLaws.{mint_words-made, wallet_words-made}
 use Rattle.dex_state.specs.Addresses.{address_of, times}
 use Rattle.dex_state.proofs.Times.{one, times-cons}
 use Rattle.dex_state.specs.Conserved.{IsConserved, amount_of, in_vaults, in_wallets}
-use Rattle.dex_script_facts.specs.Known.{has_account}
+use Rattle.dex_script_types.specs.Known.{has_account}
 use Rattle.dex_script.specs.Known.{mint_at, raised, with_supply}
 use Rattle.dex_script.specs.Mints.{AreMints}
 use Rattle.dex_script.proofs.Started.{IsMade, IsWalletOf}

@@ -25,8 +25,8 @@ use Rattle.dex_accounts.specs.StandsFor.{StandsFor}
 use Rattle.dex_accounts.proofs.Decoded.{AreSound-of}
 use Rattle.dex_state.specs.Accepted.{AreAccepted, AreApart as NamesApart, HasMints, IsMintOf}
 use Rattle.dex_state.specs.Conserved.{IsConserved}
-use Rattle.dex_script_facts.specs.Facts.{IsStart}
-use Rattle.dex_script_facts.specs.Known.{has_account}
+use Rattle.dex_script_types.specs.Facts.{IsStart}
+use Rattle.dex_script_types.specs.Known.{has_account}
 use Rattle.dex_script.specs.Mints.{AreMints}
 use Rattle.dex_script.proofs.DistinctOrders.{orders-distinct}
 use Rattle.dex_script.proofs.StartAddresses.{AreTaken}

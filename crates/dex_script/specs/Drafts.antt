@@ -3,7 +3,7 @@ use Rattle.std.specs.Prelude.{ℕ, ℤ, pos, Bool, true, false, List, []}
 use Rattle.dex_types.specs.declared.addresses.Address.{Address}
 use Rattle.dex_types.specs.Accounts.{PlainAccounts}
 use Rattle.dex_state.specs.Addresses.{addresses_of}
-use Rattle.dex_script_facts.specs.PlainScript.{PlainScript, no_accounts, without_rows}
+use Rattle.dex_script_types.specs.PlainScript.{PlainScript, no_accounts, without_rows}
 
 -- the script so far, with every address that is taken, the clock of the next instruction row, whether no row stands
 -- there but those of a dump, whether setup rows come too late: after a dump or an instruction row; how many instruction

@@ -10,7 +10,7 @@ use Rattle.dex_make.specs.declared.parts.MarketPart.TheVariants.{CoinVault, PcVa
 use Rattle.dex_make.specs.Derived.{derived}
 use Rattle.dex_token.specs.MintAccount.{MintWords, mint_words}
 use Rattle.dex_dump.specs.Reading.{is_among}
-use Rattle.dex_script_facts.specs.Firsts.{first_of, with_first}
+use Rattle.dex_script_types.specs.Firsts.{first_of, with_first}
 
 -- what the first mint of an address says
 abbrev pub mint_at : Address → List PlainAccount → Option MintWords

@@ -4,7 +4,7 @@ use Rattle.dex_types.specs.declared.addresses.Address.{Address}
 use Rattle.dex_types.specs.Accounts.{PlainAccount, PlainAccounts, PlainMarketAccounts}
 use Rattle.dex_statement.specs.Words.{Fields}
 use Rattle.dex_dump.specs.Answers.{next_number}
-use Rattle.dex_script_facts.specs.Places.{market_place, wallet_place}
+use Rattle.dex_script_types.specs.Places.{market_place, wallet_place}
 use Rattle.dex_script.specs.Drafts.{PlainDraft}
 use Rattle.dex_script.specs.Markets.{no_accounts_of}
 

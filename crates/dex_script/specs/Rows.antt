@@ -11,7 +11,7 @@ use Rattle.dex_types.specs.Addresses.{is_same}
 use Rattle.dex_types.specs.Rows.{PlainRow}
 use Rattle.dex_instruction.specs.Reading.{decoded}
 use Rattle.dex_history.specs.Journal.{is_take_or_bad}
-use Rattle.dex_fold.specs.Fold.{is_role}
+use Rattle.dex_world.specs.Fold.{is_role}
 use Rattle.dex_make.specs.declared.market.MarketSet.{MarketSet}
 use Rattle.dex_make.specs.Blanks.{blank_account}
 use Rattle.dex_make.specs.MarketBytes.{made_accounts}
@@ -26,7 +26,7 @@ use Rattle.dex_statement.specs.Faults.{◌>>=◌, found_or, unless}
 use Rattle.dex_statement.specs.Stated.{PlainInstruction, PlainMarketWords, PlainParties, PlainSwap, leg_words}
 use Rattle.dex_statement.specs.Statements.{statement_of}
 use Rattle.dex_statement.specs.Words.{Fields}
-use Rattle.dex_script_facts.specs.Known.{has_account, has_market, is_known_role}
+use Rattle.dex_script_types.specs.Known.{has_account, has_market, is_known_role}
 use Rattle.dex_script.specs.Drafts.{PlainDraft}
 use Rattle.dex_script.specs.Known.{is_any_among, made_addresses, mint_at, orders_at, with_supply}
 

@@ -9,7 +9,7 @@ use Rattle.dex_dump.specs.Answers.{AnswersDump, PlainAnswer, next_number}
 use Rattle.dex_dump_rows.specs.Lines.{is_first_row}
 use Rattle.dex_audit_rules.specs.declared.finding.Finding.{Finding}
 use Rattle.dex_audit.specs.Findings.{findings}
-use Rattle.dex_script_facts.specs.PlainScript.{PlainScript}
+use Rattle.dex_script_types.specs.PlainScript.{PlainScript}
 use Rattle.dex_script.specs.Drafts.{PlainDraft, behind_dump, no_rows}
 use Rattle.dex_script.specs.Rows.{with_row}
 

@@ -11,7 +11,7 @@ use Rattle.dex_statement.specs.declared.faults.FaultKind.{FaultKind}
 use Rattle.dex_statement.specs.declared.faults.RowError.{RowError}
 use Rattle.dex_statement.specs.declared.faults.RowError.TheVariants as row_error
 use Rattle.dex_statement.specs.Faults.{code_of, kind_number}
-use Rattle.dex_script_facts.specs.PlainScript.{PlainScript}
+use Rattle.dex_script_types.specs.PlainScript.{PlainScript}
 use Rattle.dex_script.specs.declared.draft.Draft.{Draft}
 use Rattle.dex_script.specs.declared.draft.Start.{Start}
 use Rattle.dex_script.specs.declared.fault.ScriptError.{ScriptError}

@@ -4,8 +4,8 @@ ghost use Rattle.std.specs.Prelude.{◌≡◌, ◌++◌, IfOk, map};
 ghost use Rattle.dex_types.specs.Accounts.{accounts_of};
 ghost use Rattle.dex_types.specs.Rows.{row_of};
 ghost use Rattle.dex_state.specs.Accepted.{AreAccepted};
-ghost use Rattle.dex_script_facts.specs.Facts.{IsScript};
-ghost use Rattle.dex_script_facts.specs.Places.{AreBeside, ArePlaced};
+ghost use Rattle.dex_script_types.specs.Facts.{IsScript};
+ghost use Rattle.dex_script_types.specs.Places.{AreBeside, ArePlaced};
 ghost use Rattle.dex_script.specs.Drafts as spec;
 ghost use Rattle.dex_script.specs.Telling.{draft_of, start_of};
 
@@ -13,7 +13,7 @@ use crate::market::DeclaredMarket;
 use crate::markets::{all_accounts, declared};
 use crate::mints::Mints;
 use crate::taken::taken_addresses;
-use dex_script_facts::{RowList, Script};
+use dex_script_types::{RowList, Script};
 use dex_types::{Accounts, Address, Named, NoMemory, Program, Row, RowPlaces};
 use std::alloc::Global;
 

@@ -3,7 +3,7 @@
 ghost use Rattle.std.specs.Prelude.{◌≡◌, ◌<◌, ◌≤◌, ◌+◌, List, [], ◌∷◌, ◌++◌, true, OnOk, map, vec_capacity, vec_len};
 ghost use Rattle.dex_types.specs.Accounts.{PlainAccounts};
 ghost use Rattle.dex_types.specs.Rows.{PlainRow, row_of};
-ghost use Rattle.dex_script_facts.specs.Places.{AreBeside, ArePlaced};
+ghost use Rattle.dex_script_types.specs.Places.{AreBeside, ArePlaced};
 ghost use Rattle.dex_script.specs.Names.{IsReading, StandAt};
 ghost use Rattle.dex_script.specs.Rows as spec;
 ghost use Rattle.dex_script.specs.Telling.{TellsAdded, draft_of, start_of};

@@ -5,7 +5,7 @@ ghost use Rattle.std.specs.List.{list_any};
 ghost use Rattle.dex_types.specs.Accounts.{named_of};
 ghost use Rattle.dex_types.specs.Addresses as addresses;
 ghost use Rattle.dex_dump.specs.Reading as dumps;
-ghost use Rattle.dex_script_facts.specs.Known as facts;
+ghost use Rattle.dex_script_types.specs.Known as facts;
 ghost use Rattle.dex_script.specs.Known as spec;
 
 use dex_make::{MarketPart, derived};

@@ -18,7 +18,7 @@ mod setup;
 mod swap;
 mod taken;
 
-pub use dex_script_facts::Script;
+pub use dex_script_types::Script;
 pub use fault::ScriptError;
 pub use instruction::{exceeds_row, make_room, push_placed, take_row};
 pub use laws::{

@@ -6,7 +6,7 @@ ghost use Rattle.dex_types.specs.Accounts.{named_of};
 ghost use Rattle.dex_types.specs.Addresses.{is_same};
 ghost use Rattle.dex_make.specs.TokenBytes.{mint_bytes};
 ghost use Rattle.dex_token.specs.MintAccount.{IsMint, mint_words};
-ghost use Rattle.dex_script_facts.specs.Known as facts;
+ghost use Rattle.dex_script_types.specs.Known as facts;
 ghost use Rattle.dex_script.specs.Known as spec;
 ghost use Rattle.dex_script.specs.Mints.{AreMints, words_of};
 

@@ -10,7 +10,7 @@ ghost use Rattle.dex_script.specs.Telling.{start_of};
 
 use crate::draft::Start;
 use crate::market::DeclaredMarket;
-use dex_script_facts::{addresses_of_wallets, push_address};
+use dex_script_types::{addresses_of_wallets, push_address};
 use dex_statement::Parties;
 use dex_types::{Address, NoMemory};
 use std::alloc::Global;

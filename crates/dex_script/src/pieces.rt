@@ -8,7 +8,7 @@ use crate::draft::{Draft, Start};
 use crate::market::DeclaredMarket;
 use crate::mints::Mints;
 use crate::reader::Reader;
-use dex_script_facts::RowList;
+use dex_script_types::RowList;
 use dex_types::{Named, NoMemory};
 use std::alloc::{AllocError, Global};
 

@@ -1,7 +1,7 @@
 //! A script as far as it is read, one row after the other.
 
 ghost use Rattle.std.specs.Prelude.{◌≡◌, ℕ, [], IfOk};
-ghost use Rattle.dex_script_facts.specs.Facts.{IsScript};
+ghost use Rattle.dex_script_types.specs.Facts.{IsScript};
 ghost use Rattle.dex_script.specs.Drafts.{no_rows};
 ghost use Rattle.dex_script.specs.Names.{IsReading, places_of};
 ghost use Rattle.dex_script.specs.Rows as spec;
@@ -12,7 +12,7 @@ use crate::draft::Draft;
 use crate::making::MakeMarkets;
 use crate::names::{Names, Stand};
 use dex_rows::records::Fields;
-use dex_script_facts::Script;
+use dex_script_types::Script;
 use dex_statement::{
     FaultKind, InstructionWords, Parties, RowError, Statement, SwapWords, read_instruction,
     statement_of,

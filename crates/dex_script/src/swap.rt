@@ -4,7 +4,7 @@ ghost use Rattle.std.specs.Prelude.{◌≡◌};
 ghost use Rattle.dex_script.specs.Rows as spec;
 
 use dex_instruction::decode;
-use dex_script_facts::is_role;
+use dex_script_types::is_role;
 use dex_statement::{InstructionWords, Parties};
 use dex_types::{Address, Ix, is_same};
 

@@ -8,7 +8,7 @@ ghost use Rattle.dex_state.specs.Addresses.{address_of, addresses_of, all_of_mar
 ghost use Rattle.dex_script.specs.Markets.{AreMarkets};
 
 use dex_market::MarketRef;
-use dex_script_facts::{push_address, push_named};
+use dex_script_types::{push_address, push_named};
 use dex_types::{Accounts, Address, MarketAccounts, NoMemory, OrdersAccount};
 use std::alloc::Global;
 

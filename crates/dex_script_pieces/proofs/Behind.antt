@@ -8,7 +8,7 @@ use Rattle.dex_types.specs.Accounts.{PlainAccounts}
 use Rattle.dex_dump.specs.Answers.{next_number}
 use Rattle.dex_statement.specs.Faults.{◌>>=◌}
 use Rattle.dex_statement.specs.Words.{Fields}
-use Rattle.dex_script_facts.specs.Places.{market_place, wallet_place}
+use Rattle.dex_script_types.specs.Places.{market_place, wallet_place}
 use Rattle.dex_script.specs.declared.fault.ScriptError.{ScriptError}
 use Rattle.dex_script.specs.declared.fault.ScriptError.TheVariants as script
 use Rattle.dex_script.specs.Drafts.{PlainDraft}

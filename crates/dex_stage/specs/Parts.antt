@@ -1,9 +1,9 @@
 -- What rows see of wallets in hand.
 use Rattle.std.specs.Prelude.{◌≡◌, List, [], map}
 use Rattle.dex_wallet.specs.CellState.{CellState}
-use Rattle.dex_fold.specs.World.{World}
+use Rattle.dex_world.specs.World.{World}
 use Rattle.dex_act.specs.Wallets.{wallet_state_of}
-use Rattle.dex_script_facts.specs.PlainScript.{PlainScript}
+use Rattle.dex_script_types.specs.PlainScript.{PlainScript}
 use Rattle.dex_stage.specs.declared.parts.Terms.{Terms}
 
 -- the terms are a script's

@@ -3,12 +3,12 @@
 ghost use Rattle.std.specs.Prelude.{◌≡◌};
 ghost use Rattle.std.specs.List.{All};
 ghost use Rattle.dex_types.specs.Rows.{row_of};
-ghost use Rattle.dex_fold.specs.World as world;
+ghost use Rattle.dex_world.specs.World as world;
 ghost use Rattle.dex_act.specs.Wallets.{Fits, roles_of};
 ghost use Rattle.dex_stage.specs.Parts.{AreTermsOf, world_in_hand};
 
 use dex_act::look;
-use dex_script_facts::Script;
+use dex_script_types::Script;
 use dex_types::{Address, Program, Row, Seen};
 use dex_wallet::WalletCell;
 

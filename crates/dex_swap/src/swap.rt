@@ -2,7 +2,7 @@
 
 ghost use Rattle.std.specs.Prelude.{IfSome};
 ghost use Rattle.dex_types.specs.Rows.{row_of};
-ghost use Rattle.dex_script_facts.specs.Places.{IsPlaced};
+ghost use Rattle.dex_script_types.specs.Places.{IsPlaced};
 ghost use Rattle.dex_turns.specs.Seats.{IsSeat, IsSeatOf};
 ghost use Rattle.dex_turns.specs.Submitted.{AreLegReplies, AreNext, HaveSubmitted};
 

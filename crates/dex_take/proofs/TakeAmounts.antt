@@ -22,7 +22,7 @@ use Rattle.dex_match.specs.declared.order_terms.Taker.{Taker}
 use Rattle.dex_market.specs.MarketAccount.{sizes_of}
 use Rattle.dex_market.specs.MarketAccount.{vault_of}
 use Rattle.dex_match.proofs.FittingLaws.{fits-paid, locks-fit}
-use Rattle.dex_meet.specs.Prospects.{FitsSums}
+use Rattle.dex_fills.specs.Prospects.{FitsSums}
 use Rattle.dex_ring.specs.StandsFor.{StandsForEvents, ring_of_market}
 use Rattle.dex_sound.proofs.FillLaws.{take-within}
 use Rattle.dex_sound.proofs.OrderSoundReasons.{refused_where-none}

@@ -12,9 +12,9 @@ ghost use Rattle.dex_take.specs.Taking.{IsDecided};
 
 use crate::plan::{Exchange, TakePlan, exchange_of};
 use crate::terms::{terms_of, want_of};
+use dex_fills::meet_side;
 use dex_market::{MarketFunds, MarketView};
 use dex_match::{Taker, amounts_fit};
-use dex_meet::meet_side;
 use dex_ring::RingView;
 use dex_types::{Reply, SideBook};
 

@@ -2,7 +2,7 @@
 
 ghost use Rattle.std.specs.Prelude.{◌≡◌, ◌<◌, ◌^◌, None, length};
 ghost use Rattle.dex_laws.specs.Locks.{locked};
-ghost use Rattle.dex_meet.specs.Prospects.{FitsSums};
+ghost use Rattle.dex_fills.specs.Prospects.{FitsSums};
 ghost use Rattle.dex_take.specs.TakeTerms.{bare_take, meeting_with};
 ghost use Rattle.dex_take.specs.Taking.{plan_by};
 ghost use Rattle.dex_types.specs.Reasons.{ask_too_large};
@@ -11,8 +11,8 @@ ghost use Rattle.dex_types.specs.Side.{opposite};
 use crate::plan::{TakePlan, plan_of};
 use crate::terms::{terms_of, want_of};
 use dex_fees::taker_fee;
+use dex_fills::{Sums, foresee};
 use dex_match::Taker;
-use dex_meet::{Sums, foresee};
 use dex_types::{Lots, SideRead};
 
 /// What becomes of a take: its plan, the number of its makers' events, and the sums of its fills.

@@ -5,7 +5,7 @@ ghost use Rattle.dex_take.specs.Exchanging.{moves};
 ghost use Rattle.dex_take.specs.Taking.{transfers_by};
 ghost use Rattle.dex_types.specs.Side.{by_side};
 
-use dex_meet::Sums;
+use dex_fills::Sums;
 use dex_ring::PendingFills;
 use dex_types::{Lots, Side};
 

@@ -2,12 +2,12 @@
 
 ghost use Rattle.std.specs.Prelude.{◌≡◌};
 ghost use Rattle.dex_match.specs.OrderTerms.{order_of};
-ghost use Rattle.dex_meet.specs.Taker.{demand, taking};
+ghost use Rattle.dex_fills.specs.Taker.{demand, taking};
 ghost use Rattle.dex_take.specs.TakeTerms.{bare_take};
 ghost use Rattle.dex_types.specs.Take.{take_demand, take_terms};
 
+use dex_fills::{Terms, Want};
 use dex_match::Taker;
-use dex_meet::{Terms, Want};
 use dex_types::{Lots, OrderType, SelfTrade};
 
 /// What a take keeps to while it meets the opposite side. It has no owner, so no order is its own and the self-trade

@@ -8,9 +8,9 @@ use Rattle.dex_types.specs.declared.replies.Reply.{Reply}
 use Rattle.dex_types.specs.declared.rows.Row.{Row}
 use Rattle.dex_types.specs.declared.rows.RowPlaces.{RowPlaces}
 use Rattle.dex_types.specs.Rows.{PlainRow, row_of}
-use Rattle.dex_fold.specs.Fold.{fold}
-use Rattle.dex_fold.specs.World.{World}
-use Rattle.dex_fold.proofs.FoldLaws.{fold-append}
+use Rattle.dex_world.specs.Fold.{fold}
+use Rattle.dex_world.specs.World.{World}
+use Rattle.dex_world.proofs.FoldLaws.{fold-append}
 use Rattle.dex_act.specs.Wallets.{wallet_places}
 use Rattle.dex_bank.specs.Cells.{CanAct, CellsState, world_of}
 use Rattle.dex_bank.specs.Places.{ArePlacesIn}

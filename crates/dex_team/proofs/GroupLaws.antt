@@ -2,14 +2,14 @@
 use Rattle.std.proofs.Common.{◌≡◌, ℕ, zero, suc, ◌<◌, Bool, true, false, ◌||◌, eqb, List, [], ◌∷◌, get_or, length, map, Option, None, Some, refl, sym, ap, ◌∙◌, arith}
 use Rattle.std.specs.List.{All, AllZip}
 use Rattle.std.proofs.lemmas.Bool.{cond-false, cond-true, cond_both, false≢true}
-use Rattle.dex_fold.proofs.Common.{Address, All-cons, All-map, All-nil, All-weaker, Market, MarketState, PlainRow, WalletState, World, acted, alone, fold, fold_items, get_or-map, is_role, is_same, is_same-refl, is_same-sym, is_same-true, length-map, markets_acted, market_acted, names-roles, seen_by}
+use Rattle.dex_world.proofs.Common.{Address, All-cons, All-map, All-nil, All-weaker, Market, MarketState, PlainRow, WalletState, World, acted, alone, fold, fold_items, get_or-map, is_role, is_same, is_same-refl, is_same-sym, is_same-true, length-map, markets_acted, market_acted, names-roles, seen_by}
 use Rattle.dex_types.specs.declared.rows.RowPlaces.{RowPlaces}
 use Rattle.dex_types.specs.declared.rows.Seen.{Seen}
 use Rattle.dex_types.specs.declared.rows.WalletSeen.{WalletSeen}
 use Rattle.dex_cell.specs.CellState.{MarketCellState}
 use Rattle.dex_wallet.specs.CellState.{CellState}
-use Rattle.dex_fold.specs.Items.{Item}
-use Rattle.dex_fold.proofs.MappedLists.{filter-of, map-map}
+use Rattle.dex_world.specs.Items.{Item}
+use Rattle.dex_world.proofs.MappedLists.{filter-of, map-map}
 use Rattle.dex_act.specs.Opened.{market_state_of}
 use Rattle.dex_act.specs.Wallets.{IsRoleAt, wallet_state_of}
 use Rattle.dex_bank.specs.Cells.{CellsState, world_of}

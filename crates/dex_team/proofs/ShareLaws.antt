@@ -2,12 +2,12 @@
 use Rattle.std.proofs.Common.{◌≡◌, ℕ, ◌<◌, Bool, true, false, ◌||◌, cond, eqb, List, [], ◌∷◌, ◌++◌, get_or, length, map, Option, refl, sym, ap, ◌∙◌, subst, arith}
 use Rattle.std.specs.List.{All, AllZip, filter, list_any}
 use Rattle.std.proofs.lemmas.Bool.{cond_both, eq-eqb, false≢true, or_left, or_parts, or_right}
-use Rattle.dex_fold.proofs.Common.{Address, All-cons, All-head, All-nil, All-tail, All-weaker, AllZip-long, MarketState, PlainRow, WalletState, World, fold, get_or-map, is_same, is_same-refl, is_same-true, length-map, names, row_wallets}
+use Rattle.dex_world.proofs.Common.{Address, All-cons, All-head, All-nil, All-tail, All-weaker, AllZip-long, MarketState, PlainRow, WalletState, World, fold, get_or-map, is_same, is_same-refl, is_same-true, length-map, names, row_wallets}
 use Rattle.dex_types.specs.declared.rows.RowPlaces.{RowPlaces}
 use Rattle.dex_types.specs.declared.terms.Program.{Program}
 use Rattle.dex_cell.specs.CellState.{IsMarketCell, MarketCellState}
 use Rattle.dex_wallet.specs.CellState.{CellState, IsWalletCell}
-use Rattle.dex_fold.proofs.MappedLists.{All-second, list_any-map, map-map}
+use Rattle.dex_world.proofs.MappedLists.{All-second, list_any-map, map-map}
 use Rattle.dex_act.specs.Opened.{market_state_of}
 use Rattle.dex_act.specs.Wallets.{AreApart, is_among, made_of, wallet_state_of}
 use Rattle.dex_act.proofs.CellLists.{is_among-any}

@@ -7,8 +7,8 @@ use Rattle.dex_types.specs.Addresses.{is_same}
 use Rattle.dex_types.specs.Rows.{PlainRow}
 use Rattle.dex_types.specs.Wallets.{row_wallets}
 use Rattle.dex_cell.specs.CellState.{MarketCellState}
-use Rattle.dex_fold.specs.Fold.{fold}
-use Rattle.dex_fold.specs.World.{MarketState, WalletState}
+use Rattle.dex_world.specs.Fold.{fold}
+use Rattle.dex_world.specs.World.{MarketState, WalletState}
 use Rattle.dex_act.specs.Wallets.{is_among}
 use Rattle.dex_bank.specs.Cells.{CellsState, is_market, opened_of, world_of}
 use Rattle.dex_bank.specs.Places.{ArePlacedIn}

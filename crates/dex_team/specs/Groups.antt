@@ -4,7 +4,7 @@ use Rattle.std.specs.List.{All}
 use Rattle.dex_types.specs.declared.addresses.Address.{Address}
 use Rattle.dex_types.specs.declared.rows.RowPlaces.{RowPlaces}
 use Rattle.dex_types.specs.Addresses.{is_same}
-use Rattle.dex_fold.specs.World.{World}
+use Rattle.dex_world.specs.World.{World}
 use Rattle.dex_parts.specs.Shards.{Sharding}
 use Rattle.dex_team.specs.Acting.{market_addresses, wallet_addresses}
 use Rattle.dex_team.specs.declared.groups.Groups.{Groups}

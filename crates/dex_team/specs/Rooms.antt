@@ -4,8 +4,8 @@ use Rattle.std.specs.List.{AllZip}
 use Rattle.dex_types.specs.Rows.{PlainRow}
 use Rattle.dex_cell.specs.CellState.{MarketCellState}
 use Rattle.dex_wallet.specs.CellState.{CellState}
-use Rattle.dex_fold.specs.RowsOf.{rows_naming, rows_on}
-use Rattle.dex_fold.specs.World.{MarketState, WalletState}
+use Rattle.dex_world.specs.RowsOf.{rows_naming, rows_on}
+use Rattle.dex_world.specs.World.{MarketState, WalletState}
 use Rattle.dex_bank.specs.Cells.{CellsState, world_of}
 
 -- a market's journal has room for an entry of each of these rows on it

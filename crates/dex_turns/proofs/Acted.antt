@@ -1,6 +1,6 @@
 -- A row that acts on its market and on the cells in hand, or is held back there, and what is recorded of it.
 use Rattle.std.proofs.Common.{◌≡◌, ℕ, ◌&&◌, ◌||◌, not, Bool, true, false, List, [], ◌∷◌, is_some, Option, Some, None, Result, Ok, Err, refl, sym, ap, ◌∙◌, subst}
-use Rattle.dex_fold.proofs.Common.{AllZip, Refusal, Row, decoded, false≢true, row_of, All-cons, All-nil, Call, Market, PlainMarketAccounts, PlainRow, Seen, Sees, Step, asked_of, idle-step, is_done, is_held, is_refusal, is_refused, is_take, request_of, row_step, row_wallets, seen_by, step-refused, why}
+use Rattle.dex_world.proofs.Common.{AllZip, Refusal, Row, decoded, false≢true, row_of, All-cons, All-nil, Call, Market, PlainMarketAccounts, PlainRow, Seen, Sees, Step, asked_of, idle-step, is_done, is_held, is_refusal, is_refused, is_take, request_of, row_step, row_wallets, seen_by, step-refused, why}
 use Rattle.dex_turns.proofs.Common.{AreAllOrNone, AreInHand, CellState, Fits, HasEntry, IsAsOthers, IsSight, MarketCellState, PlainScript, SeesCells, Stamped, roles_of, world_with}
 use Rattle.std.specs.List.{All}
 use Rattle.dex_types.specs.declared.instructions.BadData.{BadData}
@@ -12,9 +12,9 @@ use Rattle.dex_history.proofs.HeldLaws.{own-not_held}
 use Rattle.dex_cell.specs.CellState.{CanHold, market_at}
 use Rattle.dex_accounts.specs.Decoded.{market_in}
 use Rattle.dex_act.specs.Acted.{HaveActed}
-use Rattle.dex_fold.specs.Items.{doing}
-use Rattle.dex_fold.proofs.ItemLaws.{not-refused}
-use Rattle.dex_script_facts.specs.Facts.{IsLeg}
+use Rattle.dex_world.specs.Items.{doing}
+use Rattle.dex_world.proofs.ItemLaws.{not-refused}
+use Rattle.dex_script_types.specs.Facts.{IsLeg}
 use Rattle.dex_turns.specs.Submitted.{written_by}
 use Rattle.dex_turns.specs.Turns.{IsTold, made_by}
 use Rattle.dex_turns.proofs.InHand.{HasHands, cells-named, have-entries, moves-each, sees-asked, sees-hand, sight}

@@ -3,9 +3,9 @@ pub use Rattle.dex_accounts.specs.Decoded.{market_in}
 pub use Rattle.dex_act.specs.Wallets.{Fits, SeesCells, is_among, made_of, roles_of, wallet_state_of}
 pub use Rattle.dex_cell.specs.CellState.{MarketCellState}
 pub use Rattle.dex_state.specs.Accepted.{AreAccepted}
-pub use Rattle.dex_fold.proofs.MappedLists.{All-unmap, any-here, any-there, filter-of, filter-swap, list_any-map}
-pub use Rattle.dex_fold.specs.Lists.{AllThree}
-pub use Rattle.dex_fold.specs.RowsOf.{rows_of_market, rows_of_wallet}
+pub use Rattle.dex_world.proofs.MappedLists.{All-unmap, any-here, any-there, filter-of, filter-swap, list_any-map}
+pub use Rattle.dex_world.specs.Lists.{AllThree}
+pub use Rattle.dex_world.specs.RowsOf.{rows_of_market, rows_of_wallet}
 pub use Rattle.dex_gate.specs.AwayView.{AwayView}
 pub use Rattle.dex_gate.specs.GateView.{GateView}
 pub use Rattle.dex_gate.specs.History.{AddsOne, Extends, added, of_lane}
@@ -16,13 +16,13 @@ pub use Rattle.dex_journals.proofs.StampedLists.{items_of-stamped}
 pub use Rattle.dex_journals.specs.Journals.{BankMarketState, BankWalletState, IsBankWallet, MarketOrigin, TrailState, WalletOrigin, entries_by, left_by, market_calls, wallet_entries}
 pub use Rattle.dex_journals.specs.Lanes.{AreAllOrNone, IsAsOthers, IsLane, MovesEach, number_in}
 pub use Rattle.dex_journals.specs.StampedCalls.{calls_on, entries_in, entries_on, entry_made}
-pub use Rattle.dex_script_facts.proofs.Apart.{market-once, wallet-once}
-pub use Rattle.dex_script_facts.proofs.Roles.{roles-all}
-pub use Rattle.dex_script_facts.specs.PlainScript.{PlainScript}
-pub use Rattle.dex_script_facts.specs.Facts.{IsRowOf, IsScript}
-pub use Rattle.dex_script_facts.specs.Known.{has_account}
-pub use Rattle.dex_script_facts.specs.Places.{IsPlace, market_addresses, wallet_addresses}
-pub use Rattle.dex_script_facts.specs.Sight.{IsSight, IsWalletSeen}
+pub use Rattle.dex_script_types.proofs.Apart.{market-once, wallet-once}
+pub use Rattle.dex_script_types.proofs.Roles.{roles-all}
+pub use Rattle.dex_script_types.specs.PlainScript.{PlainScript}
+pub use Rattle.dex_script_types.specs.Facts.{IsRowOf, IsScript}
+pub use Rattle.dex_script_types.specs.Known.{has_account}
+pub use Rattle.dex_script_types.specs.Places.{IsPlace, market_addresses, wallet_addresses}
+pub use Rattle.dex_script_types.specs.Sight.{IsSight, IsWalletSeen}
 pub use Rattle.dex_stage.specs.Parts.{world_with}
 pub use Rattle.dex_stamps.specs.Stamped.{Stamped, stamped}
 pub use Rattle.dex_token.proofs.AmountWrites.{wallet_words-with_amount}

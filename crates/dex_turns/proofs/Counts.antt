@@ -1,12 +1,12 @@
 -- How many calls a lane has made on a market and on a wallet, before one of its rows.
 use Rattle.std.proofs.Common.{◌≡◌, ℕ, ◌+◌, ◌<◌, ◌==◌, Bool, true, false, cond, List, [], ◌∷◌, ◌++◌, length, map, take, refl, sym, ap, ◌∙◌, subst, arith, ⊎_elim}
-use Rattle.dex_fold.proofs.Common.{Address, All-head, All-tail, Asked, Call, Movement, PlainRow, asked-once, asked_of, asked_wallets, cases_Bool, cond-false, cond-true, filter, filter-append, is_same, is_same-sym, length-map, list_any, names, rows_of_lane}
+use Rattle.dex_world.proofs.Common.{Address, All-head, All-tail, Asked, Call, Movement, PlainRow, asked-once, asked_of, asked_wallets, cases_Bool, cond-false, cond-true, filter, filter-append, is_same, is_same-sym, length-map, list_any, names, rows_of_lane}
 use Rattle.dex_turns.proofs.Common.{IsLane, MovesEach, PlainScript, Stamped, calls_on, entries_in, entries_on, entry_made, filter-of, filter-swap, items_of-stamped, rows_of_market, rows_of_wallet, stamped}
 use Rattle.std.specs.List.{All}
 use Rattle.std.proofs.lemmas.List.{length-append}
 use Rattle.dex_history.specs.Journal.{front}
 use Rattle.dex_history.proofs.AddressOrder.{times}
-use Rattle.dex_fold.proofs.OnceLaws.{times-any}
+use Rattle.dex_world.proofs.OnceLaws.{times-any}
 
 -- ---- filters
 

@@ -13,16 +13,16 @@ use Rattle.dex_types.specs.Market.{Market}
 use Rattle.dex_types.specs.Rows.{PlainRow}
 use Rattle.dex_types.specs.Why.{why}
 use Rattle.dex_history.specs.Journal.{Call, Stands, acted_of, is_held, is_refused}
-use Rattle.dex_fold.specs.Fold.{act, fold, names}
-use Rattle.dex_fold.specs.Groups.{alone}
-use Rattle.dex_fold.specs.Items.{Item, ShareNothing, act_item, chosen, doing, fold_items, idle_row, items_of, items_of_lane, pair_of, rows_of_lane, why_in}
-use Rattle.dex_fold.specs.World.{World}
-use Rattle.dex_script_facts.specs.PlainScript.{PlainScript}
+use Rattle.dex_world.specs.Fold.{act, fold, names}
+use Rattle.dex_world.specs.Groups.{alone}
+use Rattle.dex_world.specs.Items.{Item, ShareNothing, act_item, chosen, doing, fold_items, idle_row, items_of, items_of_lane, pair_of, rows_of_lane, why_in}
+use Rattle.dex_world.specs.World.{World}
+use Rattle.dex_script_types.specs.PlainScript.{PlainScript}
 use Rattle.dex_stamps.specs.Stamped.{Stamped}
 use Rattle.dex_journals.specs.Lanes.{AreAllOrNone, IsBefore, IsLane, number_in}
 use Rattle.dex_journals.specs.StampedCalls.{calls_on, entry_made}
 use Rattle.dex_turns.specs.Submitted.{AreLegReplies}
-use Rattle.dex_fold.proofs.Common.{All-head, WalletEntry}
+use Rattle.dex_world.proofs.Common.{All-head, WalletEntry}
 use Rattle.dex_gate.specs.GateView.{GateView}
 use Rattle.dex_gate.specs.declared.stage.Stage.TheVariants.{Idle, Out}
 use Rattle.dex_journals.specs.Journals.{MarketOrigin, WalletOrigin}

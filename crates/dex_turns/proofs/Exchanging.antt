@@ -2,7 +2,7 @@
 use Rattle.std.proofs.Common.{◌≡◌, ℕ, Bool, true, false, cond, List, [], ◌∷◌, Some, get_or, sym, ap, ◌∙◌, subst, ⊎_elim}
 use Rattle.std.specs.List.{All}
 use Rattle.std.proofs.lemmas.Bool.{cond-false, cond-true}
-use Rattle.dex_fold.proofs.Common.{Address, All-head, All-nil, All-weaker, Call, cases_Bool, is_same, is_same-refl, is_same-sym}
+use Rattle.dex_world.proofs.Common.{Address, All-head, All-nil, All-weaker, Call, cases_Bool, is_same, is_same-refl, is_same-sym}
 use Rattle.dex_types.specs.Wallets.{is_lower, with_address}
 use Rattle.dex_history.proofs.AddressOrder.{AreRising, with_address-rising}
 use Rattle.dex_turns.proofs.Common.{BankMarketState, GateView, Idle, MarketOrigin, Stamped}

@@ -1,8 +1,8 @@
 -- How many lanes some rows are on.
 use Rattle.std.proofs.Common.{◌≤◌, List, [], ◌∷◌, arith}
-use Rattle.dex_fold.proofs.Common.{All-head, All-tail, PlainAccounts, PlainRow}
+use Rattle.dex_world.proofs.Common.{All-head, All-tail, PlainAccounts, PlainRow}
 use Rattle.std.specs.List.{All}
-use Rattle.dex_script_facts.specs.Facts.{IsRowOf, lanes_of}
+use Rattle.dex_script_types.specs.Facts.{IsRowOf, lanes_of}
 
 pub lanes_of-some : (rows : List PlainRow) → 1 ≤ lanes_of rows
 lanes_of-some [] = omega arith

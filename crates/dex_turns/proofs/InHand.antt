@@ -1,6 +1,6 @@
 -- The cells in hand, when they are those of all wallets that a row names: what it sees, and what it leaves.
 use Rattle.std.proofs.Common.{◌≡◌, ℕ, true, List, [], ◌∷◌, ◌++◌, length, map, Option, Some, None, refl, sym, ap, ◌∙◌, subst, arith}
-use Rattle.dex_fold.proofs.Common.{Address, All-cons, All-head, All-nil, All-tail, All-weaker, AllZip, Call, Movement, PlainAccount, PlainRow, Reply, Seen, Sees, Transfers, WalletSeen, WalletState, asked_of, cond-true, cond_both, entry_by, filter, is_same, is_same-refl, list_any, movement_of, names, or_left, or_right, places-movements, role_at, row_wallets, seen_by, wallet_acted, wallet_at, wallet_entry_by, wallet_moved}
+use Rattle.dex_world.proofs.Common.{Address, All-cons, All-head, All-nil, All-tail, All-weaker, AllZip, Call, Movement, PlainAccount, PlainRow, Reply, Seen, Sees, Transfers, WalletSeen, WalletState, asked_of, cond-true, cond_both, entry_by, filter, is_same, is_same-refl, list_any, movement_of, names, or_left, or_right, places-movements, role_at, row_wallets, seen_by, wallet_acted, wallet_at, wallet_entry_by, wallet_moved}
 use Rattle.dex_turns.proofs.Common.{All-unmap, AreInHand, CellState, Fits, HasEntry, IsReady, IsSight, IsWalletCell, IsWalletSeen, MovesEach, PlainScript, SeesCells, Stamped, WalletWords, any-here, any-there, balance_of, entries_in, entry_made, is_among, made_of, roles_of, wallet_state_of, wallet_words, wallet_words-with_amount, world_with}
 use Rattle.std.specs.List.{All, Any}
 use Rattle.std.proofs.lemmas.List.{append-nil}
@@ -9,7 +9,7 @@ use Rattle.dex_wallet.specs.CellState.{HasSpare, seen_of}
 use Rattle.dex_act.specs.Wallets.{AreApart}
 use Rattle.dex_act.proofs.Sights.{row-sees, sees-cells}
 use Rattle.dex_act.proofs.CellLists.{is_among-any}
-use Rattle.dex_fold.proofs.KeptMoves.{moves-kept}
+use Rattle.dex_world.proofs.KeptMoves.{moves-kept}
 use Rattle.dex_turns.specs.Submitted.{written_by}
 use Rattle.dex_turns.specs.Turns.{IsOfStart}
 use Rattle.dex_turns.proofs.Rising.{AreOnce}

@@ -1,6 +1,6 @@
 -- What a turn leaves: the journal with one entry more, and the pass that has made it.
 use Rattle.std.proofs.Common.{◌≡◌, ℕ, ◌<◌, ◌==◌, Bool, true, cond, List, [], ◌∷◌, ◌++◌, length, sym, ap, ◌∙◌, subst, arith}
-use Rattle.dex_fold.proofs.Common.{Address, Call, IsLegal, IsWalletLegal, PlainAccount, PlainMarketAccounts, WalletEntry, eq-eqb}
+use Rattle.dex_world.proofs.Common.{Address, Call, IsLegal, IsWalletLegal, PlainAccount, PlainMarketAccounts, WalletEntry, eq-eqb}
 use Rattle.dex_turns.proofs.Common.{AddsOne, BankMarketState, BankWalletState, CellState, Extends, GateView, HasCall, HasCalled, HasEntry, HasLeft, Idle, IsBankWallet, MarketOrigin, MayLeave, PassView, Stamped, TrailState, WalletOrigin, added, balance_of, entries_by, left_by, market_calls, market_in, of_lane, rows_of_wallet, stamped, wallet_entries}
 use Rattle.std.proofs.lemmas.List.{length-append}
 use Rattle.std.proofs.Math.Seq.{drop-append_seam}

@@ -1,14 +1,14 @@
 -- The cells in hand of two legs that share no wallet: what the second sees after the first, and what both write.
 use Rattle.std.proofs.Common.{◌≡◌, ℕ, ◌<◌, ◌||◌, Bool, true, false, cond, List, [], ◌∷◌, ◌++◌, length, map, Option, Some, None, refl, sym, ap, ◌∙◌, subst, arith, ⊎_elim}
-use Rattle.dex_fold.proofs.Common.{Address, All-cons, All-head, All-nil, All-tail, AllZip, Call, Market, PlainRow, Seen, Sees, ShareNothing, Step, Transfers, WalletEntry, WalletState, act, acted, asked_of, cases_Bool, false≢true, is_same, list_any, movement_of, names, row_step, row_wallets, seen_by, wallet_acted, wallet_moved}
+use Rattle.dex_world.proofs.Common.{Address, All-cons, All-head, All-nil, All-tail, AllZip, Call, Market, PlainRow, Seen, Sees, ShareNothing, Step, Transfers, WalletEntry, WalletState, act, acted, asked_of, cases_Bool, false≢true, is_same, list_any, movement_of, names, row_step, row_wallets, seen_by, wallet_acted, wallet_moved}
 use Rattle.dex_turns.proofs.Common.{CellState, HasEntry, IsWalletCell, PlainScript, Stamped, entries_in, made_of, wallet_state_of, world_with}
 use Rattle.std.specs.List.{All}
 use Rattle.std.proofs.lemmas.List.{append-nil}
-use Rattle.dex_fold.specs.World.{World, market_at}
-use Rattle.dex_fold.proofs.FarLaws.{seen-far}
+use Rattle.dex_world.specs.World.{World, market_at}
+use Rattle.dex_world.proofs.FarLaws.{seen-far}
 use Rattle.dex_act.specs.Wallets.{is_among}
 use Rattle.dex_act.specs.Acted.{HaveActed}
-use Rattle.dex_fold.specs.Items.{doing}
+use Rattle.dex_world.specs.Items.{doing}
 use Rattle.dex_turns.specs.Submitted.{written_by, written_by_two}
 use Rattle.dex_turns.specs.Turns.{made_by}
 use Rattle.dex_turns.proofs.Rising.{AreOnce}

@@ -1,13 +1,13 @@
 -- The wallets of two legs are those that the two name, each once.
 use Rattle.std.proofs.Common.{◌≡◌, Bool, true, false, ◌||◌, List, [], map, None, Option, refl, sym, ap, ◌∙◌, subst}
-use Rattle.dex_fold.proofs.Common.{Address, All-weaker, PlainRow, is_same, list_any, names}
+use Rattle.dex_world.proofs.Common.{Address, All-weaker, PlainRow, is_same, list_any, names}
 use Rattle.dex_turns.proofs.Common.{All-unmap, CellState, IsRowOf, PlainScript, has_account, roles-all}
 use Rattle.std.specs.List.{All}
 use Rattle.std.proofs.lemmas.List.{append-nil}
 use Rattle.dex_types.specs.Wallets.{row_wallets, with_role}
-use Rattle.dex_fold.specs.Fold.{is_role}
-use Rattle.dex_fold.proofs.NameLaws.{any-with_role, names-roles}
-use Rattle.dex_script_facts.specs.Facts.{AreLegs}
+use Rattle.dex_world.specs.Fold.{is_role}
+use Rattle.dex_world.proofs.NameLaws.{any-with_role, names-roles}
+use Rattle.dex_script_types.specs.Facts.{AreLegs}
 use Rattle.dex_turns.specs.Turns.{AreInHand, MayName, leg_wallets}
 use Rattle.dex_turns.proofs.InHand.{each-any}
 use Rattle.dex_turns.proofs.Rising.{AreOnce, legs-rising, rising-once, row-rising}

@@ -1,6 +1,6 @@
 -- A seat whose next item is the two legs of a swap: its passes for their wallets may draw.
 use Rattle.std.proofs.Common.{◌≡◌, ℕ, ◌<◌, ◌||◌, Bool, true, false, length, sym, ap, ◌∙◌, subst, ⊎_elim}
-use Rattle.dex_fold.proofs.Common.{Address, AllZip, PlainRow, cases_Bool, is_same, list_any, names}
+use Rattle.dex_world.proofs.Common.{Address, AllZip, PlainRow, cases_Bool, is_same, list_any, names}
 use Rattle.dex_turns.proofs.Common.{AreNext, AreReady, BankState, IsBank, IsSeat, IsSeatOf, IsWalletPass, PlainScript, SeatState, entries_on, rows_of_wallet}
 use Rattle.dex_turns.specs.Turns.{leg_wallets}
 use Rattle.dex_turns.proofs.LegNames.{named-is}

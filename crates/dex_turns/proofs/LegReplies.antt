@@ -1,6 +1,6 @@
 -- What two legs are answered.
 use Rattle.std.proofs.Common.{◌≡◌, ◌&&◌, ◌||◌, not, Bool, true, false, Option, Some, None, Result, Ok, is_some, refl, sym, ap, ◌∙◌, subst, ⊎_elim}
-use Rattle.dex_fold.proofs.Common.{Market, PlainRow, Refusal, Reply, Seen, Step, asked_of, cases_Bool, decoded, false≢true, idle-step, is_done, is_refusal, is_take, request_of, row_step, why}
+use Rattle.dex_world.proofs.Common.{Market, PlainRow, Refusal, Reply, Seen, Step, asked_of, cases_Bool, decoded, false≢true, idle-step, is_done, is_refusal, is_take, request_of, row_step, why}
 use Rattle.dex_types.specs.declared.instructions.BadData.{BadData}
 use Rattle.dex_types.specs.declared.instructions.Ix.{Ix}
 use Rattle.dex_types.specs.declared.instructions.Ix.TheVariants.{SendTake}
@@ -8,7 +8,7 @@ use Rattle.dex_types.specs.Requests.{Request}
 use Rattle.dex_types.specs.Steps.{act_decoded, unless_refused}
 use Rattle.dex_history.specs.Journal.{is_took}
 use Rattle.dex_history.proofs.HeldLaws.{take-tells}
-use Rattle.dex_script_facts.specs.Facts.{IsLeg}
+use Rattle.dex_script_types.specs.Facts.{IsLeg}
 use Rattle.dex_turns.specs.Submitted.{AreLegReplies}
 use Rattle.dex_turns.specs.Turns.{made_by}
 use Rattle.dex_turns.proofs.Acted.{MayWait, take-of}

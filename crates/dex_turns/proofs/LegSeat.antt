@@ -1,11 +1,11 @@
 -- A seat before and after the two legs of a swap.
 use Rattle.std.proofs.Common.{◌≡◌, ℕ, ◌<◌, ◌≤◌, ◌||◌, Bool, true, false, cond, List, [], ◌∷◌, ◌++◌, length, set, get_or, Some, refl, sym, ap, ◌∙◌, subst, arith, ⊎_elim}
-use Rattle.dex_fold.proofs.Common.{Address, All-append, All-cons, All-nil, All-weaker, AllZip, Asked, Call, IsLegal, IsWalletLegal, PlainAccount, PlainMarketAccounts, PlainRow, Reply, ShareNothing, WalletEntry, asked_of, cases_Bool, false≢true, filter-append, is_same, is_same-refl, is_same-sym, is_same-true, list_any, names}
+use Rattle.dex_world.proofs.Common.{Address, All-append, All-cons, All-nil, All-weaker, AllZip, Asked, Call, IsLegal, IsWalletLegal, PlainAccount, PlainMarketAccounts, PlainRow, Reply, ShareNothing, WalletEntry, asked_of, cases_Bool, false≢true, filter-append, is_same, is_same-refl, is_same-sym, is_same-true, list_any, names}
 use Rattle.dex_turns.proofs.Common.{AllThree, AreNext, BankState, GateView, HasCalled, HaveGrown, HaveSubmitted, IsMarketPass, IsPass, IsSeat, IsSeatOf, IsSight, IsWalletPass, MovesEach, PassView, PlainScript, SeatState, Stamped, Where, balance_of, calls_on, entries_in, entries_on, market_in}
 use Rattle.std.specs.List.{All}
 use Rattle.std.proofs.lemmas.List.{append-nil, append_assoc, set-get_or}
 use Rattle.dex_stamps.specs.Stamped.{items_of}
-use Rattle.dex_script_facts.specs.Facts.{AreLegs}
+use Rattle.dex_script_types.specs.Facts.{AreLegs}
 use Rattle.dex_journals.proofs.LaneGrowth.{lane-more}
 use Rattle.dex_turns.specs.Submitted.{HasMade, LegMarketGrows, LegWalletGrows, MarketGrows, WhereEither, written_by_two}
 use Rattle.dex_turns.specs.Turns.{HaveLegsTold, leg_wallets}

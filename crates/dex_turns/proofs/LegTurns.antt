@@ -1,16 +1,16 @@
 -- The turns of the markets of two legs: what is known when they are taken, and when they are left.
 use Rattle.std.proofs.Common.{◌≡◌, ℕ, ◌<◌, List, get_or, length, set, Some, refl, sym, ap, ◌∙◌, subst, arith}
-use Rattle.dex_fold.proofs.Common.{Call, PlainMarketAccounts, PlainRow, asked_of, false≢true, is_same, is_same-refl}
+use Rattle.dex_world.proofs.Common.{Call, PlainMarketAccounts, PlainRow, asked_of, false≢true, is_same, is_same-refl}
 use Rattle.dex_turns.proofs.Common.{AddsOne, AllThree, AwayView, BankMarketState, BankState, Extends, GateView, HasCall, HasCalled, IsBank, MarketOrigin, MayEnter, PlainScript, Stamped, market_calls}
 use Rattle.std.proofs.lemmas.List.{length-set}
 use Rattle.dex_gate.specs.declared.stage.Stage.TheVariants.{Out}
-use Rattle.dex_script_facts.specs.Facts.{AreLegs}
+use Rattle.dex_script_types.specs.Facts.{AreLegs}
 use Rattle.dex_turns.specs.Submitted.{LegMarketGrows}
 use Rattle.dex_turns.specs.Turns.{AreOutAt, HasSeenAt, IsAwayFor, IsHomeAt, IsMarketOut, MayCallBoth, MayEnterAt, MayLeaveAt, left_with}
 use Rattle.dex_turns.proofs.Distinct.{markets-differ}
 use Rattle.dex_turns.proofs.Entering.{MarketPass, adds, called, may-call, still-from}
 use Rattle.dex_turns.proofs.LegSeat.{legs-grow}
-use Rattle.dex_fold.proofs.MappedLists.{same-get}
+use Rattle.dex_world.proofs.MappedLists.{same-get}
 use Rattle.dex_turns.proofs.TwoPlaces.{get-first, get-second, set-both}
 
 abbrev MarketGate : Type 0

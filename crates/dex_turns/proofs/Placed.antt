@@ -2,7 +2,7 @@
 use Rattle.std.proofs.Common.{◌≡◌, ◌||◌, ℕ, ◌+◌, Bool, true, false, cond, List, [], ◌∷◌, Some, None, sym, ◌∙◌}
 use Rattle.std.specs.List.{position, position_from}
 use Rattle.std.proofs.lemmas.Iterator.Adapters.{position_from-zero}
-use Rattle.dex_fold.proofs.Common.{Address, false≢true, list_any}
+use Rattle.dex_world.proofs.Common.{Address, false≢true, list_any}
 
 from-none : (test : Address → Bool) (i : ℕ) (xs : List Address) → list_any test xs ≡ true → position_from test i xs ≡ None → ⊥
 from-none test i [] some none = false≢true some

@@ -1,7 +1,7 @@
 -- Addresses that rise; so do the wallets that a row names, and those of two legs.
 use Rattle.std.proofs.Common.{◌≡◌, ℕ, true, false, Bool, ◌||◌, ◌&&◌, eqb, List, [], ◌∷◌, ◌++◌, None, Option, Some, refl, sym, ap, ◌∙◌, arith, ⊎_elim}
 use Rattle.std.proofs.lemmas.Bool.{le-ltb}
-use Rattle.dex_fold.proofs.Common.{Address, All-head, All-tail, PlainRow, cases_Bool, eq-eqb, false≢true, is_same, is_same-true, list_any, row_wallets}
+use Rattle.dex_world.proofs.Common.{Address, All-head, All-tail, PlainRow, cases_Bool, eq-eqb, false≢true, is_same, is_same-true, list_any, row_wallets}
 use Rattle.std.specs.List.{All}
 use Rattle.dex_types.specs.Wallets.{is_less, is_lower, with_role}
 use Rattle.dex_history.proofs.AddressOrder.{with_address-rising}

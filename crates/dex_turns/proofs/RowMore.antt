@@ -1,9 +1,9 @@
 -- A row that is submitted alone is an item of one call, and two legs are an item of two.
 use Rattle.std.proofs.Common.{sym, ◌≡◌, ℕ, ◌<◌, ◌≤◌, ◌||◌, ◌&&◌, not, Bool, true, false, eqb, List, [], ◌∷◌, ◌++◌, length, take, refl, ap, ◌∙◌, arith}
-use Rattle.dex_fold.proofs.Common.{All-cons, All-nil, All-weaker, Asked, Call, PlainRow, asked_of, is_held, is_refused, ne_eqb, rows_of_lane}
+use Rattle.dex_world.proofs.Common.{All-cons, All-nil, All-weaker, Asked, Call, PlainRow, asked_of, is_held, is_refused, ne_eqb, rows_of_lane}
 use Rattle.dex_turns.proofs.Common.{IsAsOthers, IsLane, IsSight, MovesEach, PlainScript, Stamped, number_in}
 use Rattle.std.specs.List.{All}
-use Rattle.dex_fold.proofs.MappedLists.{All-across}
+use Rattle.dex_world.proofs.MappedLists.{All-across}
 use Rattle.dex_journals.proofs.LaneGrowth.{IsItemMore}
 use Rattle.dex_turns.specs.Turns.{HaveLegsTold, IsTold}
 

@@ -1,6 +1,6 @@
 -- A seat before and after a row.
 use Rattle.std.proofs.Common.{◌≡◌, ℕ, zero, suc, ◌<◌, ◌≤◌, ◌==◌, Bool, true, false, cond, List, [], ◌∷◌, ◌++◌, length, set, get_or, take, Some, refl, sym, ap, ◌∙◌, subst, arith}
-use Rattle.dex_fold.proofs.Common.{Address, All-filter, All-push, All-tail, All-weaker, AllZip, AllZip-long, Asked, Call, IsLegal, IsWalletLegal, PlainAccount, PlainMarketAccounts, PlainRow, Reply, WalletEntry, asked_of, asked_wallets, eqb-true, filter-append, filter_passes, get_or-map, is_same, is_same-refl, is_same-sym, length-map, is_held, list_any, names, row_wallets, rows_of_lane}
+use Rattle.dex_world.proofs.Common.{Address, All-filter, All-push, All-tail, All-weaker, AllZip, AllZip-long, Asked, Call, IsLegal, IsWalletLegal, PlainAccount, PlainMarketAccounts, PlainRow, Reply, WalletEntry, asked_of, asked_wallets, eqb-true, filter-append, filter_passes, get_or-map, is_same, is_same-refl, is_same-sym, length-map, is_held, list_any, names, row_wallets, rows_of_lane}
 use Rattle.dex_turns.proofs.Common.{AllThree, AreNext, AreReady, BankState, GateView, HasCalled, HasSubmitted, HaveGrown, IsBank, IsMarketGate, IsMarketPass, IsNext, IsPlace, IsRowOf, IsScript, IsSeat, IsSeatOf, IsSight, IsWalletPass, MarketOrigin, MayDraw, MayEnter, MayName, MovesEach, PlainScript, SeatState, Stamped, Where, balance_of, calls_on, entries_in, entries_on, list_any-map, market_addresses, market_in, rows_of_market, rows_of_wallet}
 use Rattle.std.specs.List.{All}
 use Rattle.std.proofs.lemmas.List.{append-nil, append_assoc}
@@ -14,7 +14,7 @@ use Rattle.dex_journals.proofs.LaneGrowth.{lane-more}
 use Rattle.dex_turns.proofs.Growing.{Differ, WalletPass, gates-grown, passes-grown, set-three}
 use Rattle.dex_turns.proofs.LegNames.{row-names}
 use Rattle.dex_turns.proofs.RowMore.{row-more}
-use Rattle.dex_fold.proofs.MappedLists.{same-get}
+use Rattle.dex_world.proofs.MappedLists.{same-get}
 use Rattle.dex_turns.proofs.Taking.{all-midst, zip-at}
 use Rattle.dex_turns.specs.Submitted.{written_by}
 

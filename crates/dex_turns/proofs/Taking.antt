@@ -1,7 +1,7 @@
 -- The turn of an item's next wallet: what is known when it is taken, and when it is left.
 use Rattle.std.proofs.Common.{◌≡◌, ℕ, zero, suc, ◌+◌, ◌-◌, ◌<◌, ◌==◌, true, false, List, [], ◌∷◌, ◌++◌, drop, length, map, set, take, get_or, Option, Some, None, refl, sym, ap, ◌∙◌, subst, arith}
-use Rattle.dex_fold.proofs.Common.{Address, All-head, All-push, All-tail, AllZip, AllZip-long, PlainAccount, WalletEntry, get_or-map, is_same, is_same-refl, length-map, list_any, or_left}
-use Rattle.dex_fold.proofs.MappedLists.{same-get}
+use Rattle.dex_world.proofs.Common.{Address, All-head, All-push, All-tail, AllZip, AllZip-long, PlainAccount, WalletEntry, get_or-map, is_same, is_same-refl, length-map, list_any, or_left}
+use Rattle.dex_world.proofs.MappedLists.{same-get}
 use Rattle.dex_turns.proofs.InHand.{each-any}
 use Rattle.dex_turns.proofs.Common.{AllThree, AreInHand, AreReady, BankState, CellState, GateView, HasEntry, HasLeft, HaveGrown, Idle, IsBank, IsPlace, IsReady, IsWalletGate, MayDraw, MayLeave, OneGrows, PlainScript, Stamped, TrailState, WalletOrigin, added, entries_by, left_by, of_lane, rows_of_wallet, wallet_addresses, wallet_entries}
 use Rattle.std.specs.List.{All}
@@ -10,8 +10,8 @@ use Rattle.dex_gate.specs.declared.stage.Stage.TheVariants.{Out}
 use Rattle.dex_locks.specs.Places.{front}
 use Rattle.dex_journals.specs.Journals.{wallet_origin}
 use Rattle.dex_journals.proofs.WalletLaws.{spare-wallet}
-use Rattle.dex_script_facts.proofs.PlacedLaws.{wallet-placed}
-use Rattle.dex_script_facts.specs.Places.{wallet_place}
+use Rattle.dex_script_types.proofs.PlacedLaws.{wallet-placed}
+use Rattle.dex_script_types.specs.Places.{wallet_place}
 use Rattle.dex_turns.specs.Turns.{AreRising, IsAboveWallets, IsOut, IsWalletOutAt, MayName, first_in}
 use Rattle.dex_types.specs.Wallets.{is_lower}
 use Rattle.dex_turns.proofs.Rising.{IsAbove, rising-behind, rising-once}

@@ -1,9 +1,9 @@
 -- What a bank keeps of its script beside the cells.
 use Rattle.std.specs.Prelude.{◌≡◌}
 use Rattle.dex_turns.specs.declared.outline.Outline.TheInside as outline
-use Rattle.dex_script_facts.specs.PlainScript.{PlainScript}
-use Rattle.dex_script_facts.specs.Facts.{IsScript}
-use Rattle.dex_script_facts.specs.Places.{market_addresses, wallet_addresses}
+use Rattle.dex_script_types.specs.PlainScript.{PlainScript}
+use Rattle.dex_script_types.specs.Facts.{IsScript}
+use Rattle.dex_script_types.specs.Places.{market_addresses, wallet_addresses}
 use Rattle.dex_stage.specs.Parts.{AreTermsOf}
 
 -- the script that the fields are of

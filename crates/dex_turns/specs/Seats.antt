@@ -7,11 +7,11 @@ use Rattle.dex_gate.specs.GateView.{GateView}
 use Rattle.dex_gate.specs.PassView.{PassView}
 use Rattle.dex_gate.specs.declared.stage.Stage.TheVariants.{Idle}
 use Rattle.dex_history.specs.Journal.{Call}
-use Rattle.dex_script_facts.specs.PlainScript.{PlainScript}
+use Rattle.dex_script_types.specs.PlainScript.{PlainScript}
 use Rattle.dex_stamps.specs.Stamped.{Stamped}
 use Rattle.dex_journals.specs.Journals.{MarketOrigin, WalletOrigin}
 use Rattle.dex_journals.specs.StampedCalls.{calls_on, entries_on}
-use Rattle.dex_fold.specs.Items.{rows_of_lane}
+use Rattle.dex_world.specs.Items.{rows_of_lane}
 use Rattle.dex_journals.specs.Lanes.{IsLane, Lane}
 use Rattle.dex_turns.specs.Bank.{BankState}
 

@@ -8,19 +8,19 @@ use Rattle.dex_types.specs.Addresses.{is_same}
 use Rattle.dex_types.specs.Rows.{PlainRow}
 use Rattle.dex_types.specs.WalletJournal.{IsWalletLegal}
 use Rattle.dex_accounts.specs.Decoded.{market_in}
-use Rattle.dex_fold.specs.Fold.{names}
+use Rattle.dex_world.specs.Fold.{names}
 use Rattle.dex_gate.specs.History.{Extends}
 use Rattle.dex_gate.specs.PassView.{PassView}
 use Rattle.dex_history.specs.Journal.{Call, IsLegal, asked_of, is_done, is_held, is_refusal, is_took}
 use Rattle.dex_wallet.specs.CellState.{balance_of}
-use Rattle.dex_fold.specs.Lists.{AllThree}
-use Rattle.dex_script_facts.specs.Sight.{IsSight}
+use Rattle.dex_world.specs.Lists.{AllThree}
+use Rattle.dex_script_types.specs.Sight.{IsSight}
 use Rattle.dex_stamps.specs.Stamped.{Stamped, items_of}
 use Rattle.dex_journals.specs.Journals.{MarketOrigin, WalletOrigin}
 use Rattle.dex_journals.specs.StampedCalls.{entries_in}
-use Rattle.dex_fold.specs.Items.{rows_of_lane}
+use Rattle.dex_world.specs.Items.{rows_of_lane}
 use Rattle.dex_journals.specs.Lanes.{AreAllOrNone, MovesEach}
-use Rattle.dex_script_facts.specs.Facts.{AreLegs}
+use Rattle.dex_script_types.specs.Facts.{AreLegs}
 use Rattle.dex_turns.specs.Seats.{SeatState}
 
 -- a pass with a longer history, and with these entries made

@@ -21,14 +21,14 @@ use Rattle.dex_history.specs.Journal.{Call, asked_of, is_held}
 use Rattle.dex_cell.specs.CellState.{call_made}
 use Rattle.dex_wallet.specs.CellState.{CellState, HasSpare, IsWalletCell, balance_of}
 use Rattle.dex_act.specs.Wallets.{made_of}
-use Rattle.dex_script_facts.specs.PlainScript.{PlainScript}
-use Rattle.dex_script_facts.specs.Facts.{AreLegs}
-use Rattle.dex_script_facts.specs.Known.{has_account}
-use Rattle.dex_script_facts.specs.Places.{IsPlaced, wallet_place}
-use Rattle.dex_fold.specs.Items.{doing}
-use Rattle.dex_fold.specs.Lists.{AllThree}
-use Rattle.dex_fold.specs.RowsOf.{rows_of_market, rows_of_wallet}
-use Rattle.dex_script_facts.specs.Sight.{IsSight}
+use Rattle.dex_script_types.specs.PlainScript.{PlainScript}
+use Rattle.dex_script_types.specs.Facts.{AreLegs}
+use Rattle.dex_script_types.specs.Known.{has_account}
+use Rattle.dex_script_types.specs.Places.{IsPlaced, wallet_place}
+use Rattle.dex_world.specs.Items.{doing}
+use Rattle.dex_world.specs.Lists.{AllThree}
+use Rattle.dex_world.specs.RowsOf.{rows_of_market, rows_of_wallet}
+use Rattle.dex_script_types.specs.Sight.{IsSight}
 use Rattle.dex_stamps.specs.Stamped.{Stamped, items_of}
 use Rattle.dex_journals.specs.Journals.{BankMarketState, IsBankMarket, IsBankWallet, MarketOrigin, TrailState, WalletOrigin}
 use Rattle.dex_journals.specs.Journals.{calls_by, entries_by, left_by, market_calls, market_origin, wallet_entries, wallet_origin}

@@ -4,7 +4,7 @@ ghost use Rattle.std.specs.Prelude.{◌≡◌, ◌≤◌, ℕ, List, [], true, v
 ghost use Rattle.std.specs.List.{AllZip, list_any};
 ghost use Rattle.dex_types.specs.declared.addresses.Address.{Address as AddressOf};
 ghost use Rattle.dex_types.specs.Addresses.{is_same};
-ghost use Rattle.dex_script_facts.specs.PlainScript.{PlainScript};
+ghost use Rattle.dex_script_types.specs.PlainScript.{PlainScript};
 ghost use Rattle.dex_turns.specs.Submitted.{Written};
 ghost use Rattle.dex_turns.specs.Turns.{AreInHand, HasEntry, IsWritten, StandsWhere};
 

@@ -2,7 +2,7 @@
 
 ghost use Rattle.dex_types.specs.Rows.{row_of};
 ghost use Rattle.dex_types.specs.Wallets.{row_wallets};
-ghost use Rattle.dex_script_facts.specs.Places.{IsPlaced};
+ghost use Rattle.dex_script_types.specs.Places.{IsPlaced};
 ghost use Rattle.dex_turns.specs.Inside.{call_made, written_of};
 ghost use Rattle.dex_turns.specs.Turns.{HasRowActed, MayCall};
 
@@ -12,7 +12,7 @@ use crate::stamped_record::StampedRecord;
 use crate::waiting::act_or_wait;
 use dex_io::Pace;
 use dex_journals::BankMarket;
-use dex_script_facts::place_in;
+use dex_script_types::place_in;
 use dex_stamps::Stamp;
 use dex_types::{Address, Row, RowPlaces};
 use dex_wallet::WalletCell;

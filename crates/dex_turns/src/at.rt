@@ -4,11 +4,11 @@ ghost use Rattle.std.specs.Prelude.{◌≡◌, ◌≤◌, ◌<◌, ◌+◌, [], 
 ghost use Rattle.std.specs.List.{AllZip};
 ghost use Rattle.dex_types.specs.Rows.{row_of};
 ghost use Rattle.dex_types.specs.Wallets.{row_wallets};
-ghost use Rattle.dex_script_facts.specs.Facts.{AreLegs};
-ghost use Rattle.dex_script_facts.specs.Places.{IsPlaced};
+ghost use Rattle.dex_script_types.specs.Facts.{AreLegs};
+ghost use Rattle.dex_script_types.specs.Places.{IsPlaced};
 ghost use Rattle.dex_locks.specs.Places.{front};
 ghost use Rattle.dex_history.specs.Journal.{is_held};
-ghost use Rattle.dex_fold.specs.Lists.{AllThree};
+ghost use Rattle.dex_world.specs.Lists.{AllThree};
 ghost use Rattle.dex_turns.specs.Bank.{IsBank};
 ghost use Rattle.dex_turns.specs.Inside.{call_made, written_of};
 ghost use Rattle.dex_turns.specs.Legs.{legs_written, one_made, two_made};

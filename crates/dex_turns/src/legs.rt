@@ -11,7 +11,7 @@ use crate::stamped_record::StampedRecord;
 use crate::waiting::{act_or_wait, is_refused, waits};
 use dex_io::Pace;
 use dex_journals::BankMarket;
-use dex_script_facts::place_in;
+use dex_script_types::place_in;
 use dex_stamps::Stamp;
 use dex_types::{Address, Row, RowPlaces};
 use dex_wallet::WalletCell;

@@ -4,12 +4,12 @@ ghost use Rattle.std.specs.Prelude.{◌≡◌, ◌<◌, ◌≤◌, IfOk, IfSome,
 ghost use Rattle.std.specs.List.{list_any, position};
 ghost use Rattle.dex_types.specs.Addresses.{is_same};
 ghost use Rattle.dex_types.specs.Rows.{row_of};
-ghost use Rattle.dex_script_facts.specs.Facts.{IsRowOf};
-ghost use Rattle.dex_script_facts.specs.Known.{has_market, is_known_role};
-ghost use Rattle.dex_script_facts.specs.Places.{IsPlaced, IsRolePlaced, market_place};
+ghost use Rattle.dex_script_types.specs.Facts.{IsRowOf};
+ghost use Rattle.dex_script_types.specs.Known.{has_market, is_known_role};
+ghost use Rattle.dex_script_types.specs.Places.{IsPlaced, IsRolePlaced, market_place};
 
 use dex_act::AsRow;
-use dex_script_facts::{Script, addresses_of_markets, addresses_of_wallets};
+use dex_script_types::{Script, addresses_of_markets, addresses_of_wallets};
 use dex_stage::Terms;
 use dex_stamps::Kept;
 use dex_types::{Address, NoMemory, Row, RowPlaces, is_same};
@@ -28,7 +28,7 @@ pub struct Outline {
 }
 
 impl Model for Outline {
-    ghost use Rattle.dex_script_facts.specs.PlainScript.{PlainScript};
+    ghost use Rattle.dex_script_types.specs.PlainScript.{PlainScript};
     ghost use Rattle.dex_turns.specs.Outline.{IsOutline, outlined};
 
     ghost Value = { PlainScript };

@@ -2,7 +2,7 @@
 
 ghost use Rattle.std.specs.Prelude.{◌≡◌};
 ghost use Rattle.dex_types.specs.Rows.{row_of};
-ghost use Rattle.dex_fold.specs.Items.{ShareNothing};
+ghost use Rattle.dex_world.specs.Items.{ShareNothing};
 ghost use Rattle.dex_locks.specs.Places.{StandInFront, front};
 ghost use Rattle.dex_turns.specs.Turns.{leg_markets, leg_wallets};
 

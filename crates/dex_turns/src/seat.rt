@@ -8,7 +8,7 @@ use crate::outline::Outline;
 use crate::stamped_record::StampedRecord;
 use dex_gate::Pass;
 use dex_journals::{BankMarket, BankWallet};
-use dex_script_facts::Script;
+use dex_script_types::Script;
 use dex_stamps::{Kept, Log, Stamp};
 use dex_types::{NoMemory, Row};
 use dex_wallet::WalletCell;

@@ -1,10 +1,10 @@
 //! The items of a lane, under the turns of all that they act on.
 
 ghost use Rattle.dex_types.specs.Rows.{row_of};
-ghost use Rattle.dex_script_facts.specs.Places.{IsPlaced};
+ghost use Rattle.dex_script_types.specs.Places.{IsPlaced};
 ghost use Rattle.std.specs.Prelude.{◌≡◌, IfSome};
 ghost use Rattle.std.specs.List.{All};
-ghost use Rattle.dex_fold.specs.World as world;
+ghost use Rattle.dex_world.specs.World as world;
 ghost use Rattle.dex_act.specs.Wallets.{Fits, roles_of};
 ghost use Rattle.dex_stage.specs.Parts.{world_with};
 ghost use Rattle.dex_turns.specs.Seats.{IsSeat, IsSeatOf};

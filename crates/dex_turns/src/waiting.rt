@@ -6,7 +6,7 @@ ghost use Rattle.dex_types.specs.Why.{why};
 ghost use Rattle.dex_history.specs.Journal.{request_of, row_step};
 ghost use Rattle.dex_cell.specs.CellState.{CanHold, IsFor, market_at};
 ghost use Rattle.dex_act.specs.Acted.{HaveActed};
-ghost use Rattle.dex_fold.specs.Items.{doing};
+ghost use Rattle.dex_world.specs.Items.{doing};
 ghost use Rattle.dex_journals.specs.Journals.{MayAct};
 ghost use Rattle.dex_turns.specs.Inside.{call_made};
 ghost use Rattle.dex_turns.specs.Turns.{HasCall, made_by};

@@ -7,9 +7,9 @@ use Rattle.dex_types.specs.declared.movements.Entry.{Entry}
 use Rattle.dex_types.specs.Side.{Coin, Pc}
 use Rattle.dex_types.specs.Totals.{total}
 use Rattle.dex_history.specs.Journal.{Call}
-use Rattle.dex_script_facts.specs.PlainScript.{PlainScript}
+use Rattle.dex_script_types.specs.PlainScript.{PlainScript}
 use Rattle.dex_replay.specs.EntryCalls.{call_told, calls_told, with_call}
-use Rattle.dex_tallies.proofs.SumLaws.{total-more}
+use Rattle.dex_totals.proofs.SumLaws.{total-more}
 use Rattle.dex_worth.specs.declared.amounts.Amounts.{Amounts}
 use Rattle.dex_worth.specs.declared.entries.Moved.{Moved}
 use Rattle.dex_worth.specs.Amounts.{AreSums, both}

@@ -18,8 +18,8 @@ use Rattle.dex_types.specs.Totals.{total, weighed_where}
 use Rattle.dex_types.specs.Trader.{Traders, trader_at}
 use Rattle.dex_audit_rules.specs.Books.{PlainGathered}
 use Rattle.dex_eager.specs.Worth.{free_in, held_for, own_owed}
-use Rattle.dex_tallies.specs.Sums.{capped}
-use Rattle.dex_tallies.proofs.SumLaws.{total-more}
+use Rattle.dex_totals.specs.Sums.{capped}
+use Rattle.dex_totals.proofs.SumLaws.{total-more}
 use Rattle.dex_worth.specs.declared.amounts.Amounts.{Amounts}
 use Rattle.dex_worth.specs.Amounts.{AreSums, added, both, capped_amounts, none, on_side, own}
 use Rattle.dex_worth.specs.Holdings.{free_at, held_amounts, locks_of, owed_amounts, owed_of, with_gathered}

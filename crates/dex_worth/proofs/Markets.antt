@@ -17,7 +17,7 @@ use Rattle.dex_history.specs.Journal.{Call, market_after}
 use Rattle.dex_history.proofs.PriceLaws.{calls-sound}
 use Rattle.dex_orders.specs.StandsFor.{traders_of}
 use Rattle.dex_state.specs.Outcomes.{PlainMarketJournal}
-use Rattle.dex_script_facts.specs.PlainScript.{PlainScript}
+use Rattle.dex_script_types.specs.PlainScript.{PlainScript}
 use Rattle.dex_worth.specs.declared.amounts.Amounts.{Amounts}
 use Rattle.dex_worth.specs.Amounts.{AreWithin, IsWithin}
 use Rattle.dex_worth.specs.Entries.{all_in, all_out}

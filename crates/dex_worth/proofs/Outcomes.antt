@@ -16,8 +16,8 @@ use Rattle.dex_eager.specs.Worth.{Worth, no_moves}
 use Rattle.dex_eager.proofs.DelayLaws.{deals-after, history-fills, history-market}
 use Rattle.dex_replay.specs.Lawful.{AllThree, IsLawful}
 use Rattle.dex_state.specs.Outcomes.{PlainMarketJournal, PlainOutcome}
-use Rattle.dex_script_facts.specs.PlainScript.{PlainScript}
-use Rattle.dex_script_facts.specs.Facts.{IsScript}
+use Rattle.dex_script_types.specs.PlainScript.{PlainScript}
+use Rattle.dex_script_types.specs.Facts.{IsScript}
 use Rattle.dex_replay.specs.EntryCalls.{TellsHistory, calls_told}
 use Rattle.dex_replay.specs.WorthTold.{PlainWorthRow, calls_of, row_told, rows_told, table_told, tables_told, worth_told, worths_told}
 use Rattle.dex_worth.specs.Tables.{AreToldHere, IsTold, PaysAtOnce, deals_told, worth_in_row}

@@ -5,7 +5,7 @@ use Rattle.dex_types.specs.declared.addresses.Address.{Address}
 use Rattle.dex_types.specs.declared.terms.Side.{Side}
 use Rattle.dex_types.specs.Addresses.{is_same}
 use Rattle.dex_types.specs.Side.{by_side}
-use Rattle.dex_tallies.specs.Sums.{capped}
+use Rattle.dex_totals.specs.Sums.{capped}
 use Rattle.dex_worth.specs.declared.amounts.Amounts.{Amounts}
 
 -- no amount of either token

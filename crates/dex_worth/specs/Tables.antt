@@ -9,7 +9,7 @@ use Rattle.dex_accounts.specs.Decoded.{market_in}
 use Rattle.dex_accounts.specs.StandsFor.{StandsFor}
 use Rattle.dex_history.specs.Journal.{Call, market_after}
 use Rattle.dex_state.specs.Outcomes.{PlainMarketJournal}
-use Rattle.dex_script_facts.specs.PlainScript.{PlainScript}
+use Rattle.dex_script_types.specs.PlainScript.{PlainScript}
 use Rattle.dex_replay.specs.EntryCalls.{TellsHistory, calls_told}
 use Rattle.dex_replay.specs.WorthTold.{PlainWorthRow, calls_of, rows_told}
 use Rattle.dex_eager.specs.Histories.{Deal, counted, deals, eager_end, eager_fills, eager_start, fills_of, moves_of}

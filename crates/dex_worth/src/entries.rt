@@ -10,7 +10,7 @@ ghost use Rattle.dex_history.specs.Journal.{Call, asked_of, front};
 ghost use Rattle.dex_history.specs.Mints.{debited};
 ghost use Rattle.dex_instruction.specs.Reading.{decoded};
 ghost use Rattle.dex_replay.specs.EntryCalls.{call_told, calls_told};
-ghost use Rattle.dex_script_facts.specs.PlainScript.{PlainScript};
+ghost use Rattle.dex_script_types.specs.PlainScript.{PlainScript};
 ghost use Rattle.dex_worth.specs.Amounts as tally;
 ghost use Rattle.dex_replay.specs.Debits.{debits_in};
 ghost use Rattle.dex_worth.specs.Entries as told;

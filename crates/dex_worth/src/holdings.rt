@@ -14,7 +14,7 @@ ghost use Rattle.dex_audit_rules.specs.Books.{plain_gathered};
 ghost use Rattle.dex_market.specs.MarketAccount.{market_words, sizes_of};
 ghost use Rattle.dex_orders.specs.OrdersAccount.{IsOpen, IsOrders, account_of};
 ghost use Rattle.dex_orders.specs.StandsFor.{trader_of};
-ghost use Rattle.dex_tallies.specs.Reading.{AreOrders, traders};
+ghost use Rattle.dex_totals.specs.Reading.{AreOrders, traders};
 ghost use Rattle.dex_worth.specs.declared.amounts.Amounts.{Amounts as AmountsOf};
 ghost use Rattle.dex_worth.specs.Amounts as tally;
 ghost use Rattle.dex_worth.specs.Holdings as holds;
@@ -24,7 +24,7 @@ use dex_audit_rules::{Gathered, gather};
 use dex_crank::{Kind, kind_of};
 use dex_market::MarketRef;
 use dex_orders::OrdersRef;
-use dex_tallies::{lock_of, opened};
+use dex_totals::{lock_of, opened};
 use dex_types::{
     Address, Event, Lots, MarketAccounts, NoMemory, Order, OrdersAccount, Side, is_same,
 };

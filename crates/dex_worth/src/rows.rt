@@ -4,7 +4,7 @@ ghost use Rattle.std.specs.Prelude.{◌≡◌, ◌≤◌, ◌<◌, map, length, 
 ghost use Rattle.std.specs.List.{AllPairs};
 ghost use Rattle.dex_types.specs.declared.rows.Row.{Row as RowOf};
 ghost use Rattle.dex_types.specs.Rows.{PlainRow, row_of};
-ghost use Rattle.dex_script_facts.specs.Firsts.{first_of};
+ghost use Rattle.dex_script_types.specs.Firsts.{first_of};
 ghost use Rattle.dex_replay.specs.EntryCalls.{is_row_on};
 
 use dex_types::{Address, Row, is_same};

@@ -1,5 +1,5 @@
 use Rattle.std.proofs.Common.{◌≡◌, None, drop, map}
-use Rattle.dex_fold.specs.World.{wallet_at}
+use Rattle.dex_world.specs.World.{wallet_at}
 use Rattle.dex_act.specs.Wallets.{wallet_state_of}
 use Rattle.dex_act.proofs.wallets.look_at.Given as goal
 

@@ -1,7 +1,7 @@
 use Rattle.std.proofs.Common.{◌≡◌, subst}
 use Rattle.dex_state.specs.Outcomes.{PlainOutcome, outcome_of}
-use Rattle.dex_script_facts.specs.PlainScript.{PlainScript}
-use Rattle.dex_script_facts.specs.Facts.{IsScript}
+use Rattle.dex_script_types.specs.PlainScript.{PlainScript}
+use Rattle.dex_script_types.specs.Facts.{IsScript}
 use Rattle.dex_answers.specs.Answers.{rows_told}
 use Rattle.dex_answers.proofs.PairLaws.{played}
 use Rattle.dex_answers.proofs.played.play_read.Goals as goal

@@ -4,7 +4,7 @@ use Rattle.dex_types.specs.Accounts.{PlainMarketAccounts, market_accounts_of}
 use Rattle.dex_accounts.specs.Accepted.{IsAccepted}
 use Rattle.dex_state.specs.Conserved.{amount_of}
 use Rattle.dex_audit.proofs.SupplyLaws.{all-map, here-map}
-use Rattle.dex_tallies.proofs.SumLaws.{capped-exact, capped-total}
+use Rattle.dex_totals.proofs.SumLaws.{capped-exact, capped-total}
 use Rattle.dex_audit.proofs.supplies.in_vaults.Goals as goal
 
 pub in_vaults_of-more-requires : goal.in_vaults_of-more-requires

@@ -1,6 +1,6 @@
 use Rattle.std.proofs.Common.{◌≡◌, map, take}
 use Rattle.dex_types.specs.Accounts.{market_accounts_of}
-use Rattle.dex_tallies.specs.Sums.{capped}
+use Rattle.dex_totals.specs.Sums.{capped}
 use Rattle.dex_state.specs.Conserved.{in_vaults}
 use Rattle.dex_audit.proofs.supplies.in_vaults.Given as goal
 

@@ -5,7 +5,7 @@ use Rattle.dex_types.specs.Accounts.{PlainAccount, named_of}
 use Rattle.dex_token.specs.TokenAccount.{IsWallet}
 use Rattle.dex_state.specs.Conserved.{amount_of}
 use Rattle.dex_audit.proofs.SupplyLaws.{all-map, here-map}
-use Rattle.dex_tallies.proofs.SumLaws.{capped-exact, capped-total}
+use Rattle.dex_totals.proofs.SumLaws.{capped-exact, capped-total}
 use Rattle.dex_audit.proofs.supplies.in_wallets.Goals as goal
 
 pub amount_of-more-requires : goal.amount_of-more-requires

@@ -2,7 +2,7 @@ use Rattle.std.proofs.Common.{◌≡◌, ◌<◌, ◌∷◌, [], ◌++◌, lengt
 use Rattle.std.proofs.lemmas.List.{map-append, take_more}
 use Rattle.dex_types.specs.QueuedEvent.{QueuedEvent, decoded_event}
 use Rattle.dex_ring.specs.Ring.{ring_of}
-use Rattle.dex_tallies.proofs.FinalLaws.{decoded-at}
+use Rattle.dex_totals.proofs.FinalLaws.{decoded-at}
 use Rattle.dex_audit_rules.proofs.gathered.pending_events.Goals as goal
 
 pub loop-number-preserved : goal.loop-number-preserved

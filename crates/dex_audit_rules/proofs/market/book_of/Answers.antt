@@ -5,7 +5,7 @@ use Rattle.dex_types.specs.QueuedEvent.{decoded_event}
 use Rattle.dex_accounts.specs.Decoded.{market_in}
 use Rattle.dex_market.specs.MarketAccount.{market_words, sizes_of}
 use Rattle.dex_audit_rules.specs.Books.{PlainGathered}
-use Rattle.dex_tallies.specs.Reading.{AreOrders, traders}
+use Rattle.dex_totals.specs.Reading.{AreOrders, traders}
 use Rattle.dex_audit_rules.proofs.BookLaws.{events-few, orders-accepted, side-few, sizes-by}
 use Rattle.dex_audit_rules.proofs.market.book_of.Goals as goal
 

@@ -4,7 +4,7 @@ use Rattle.dex_types.specs.Accounts.{market_accounts_of}
 use Rattle.dex_types.specs.QueuedEvent.{decoded_event}
 use Rattle.dex_accounts.specs.Decoded.{market_in}
 use Rattle.dex_market.specs.MarketAccount.{market_words}
-use Rattle.dex_tallies.specs.Reading.{traders}
+use Rattle.dex_totals.specs.Reading.{traders}
 use Rattle.dex_audit_rules.proofs.MarketLaws.{astray-one}
 use Rattle.dex_audit_rules.proofs.market.tell_events.Goals as goal
 

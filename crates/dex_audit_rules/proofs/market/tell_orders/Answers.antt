@@ -3,7 +3,7 @@ use Rattle.std.proofs.lemmas.Result.{on_ok_weaker}
 use Rattle.dex_types.specs.Accounts.{market_accounts_of}
 use Rattle.dex_accounts.specs.Decoded.{market_in}
 use Rattle.dex_market.specs.MarketAccount.{market_words}
-use Rattle.dex_tallies.specs.Reading.{traders}
+use Rattle.dex_totals.specs.Reading.{traders}
 use Rattle.dex_audit_rules.proofs.MarketLaws.{homeless-both}
 use Rattle.dex_audit_rules.proofs.market.tell_orders.Goals as goal
 

@@ -7,7 +7,7 @@ use Rattle.dex_accounts.specs.Decoded.{market_in}
 use Rattle.dex_market.specs.MarketAccount.{market_words}
 use Rattle.dex_token.specs.TokenAccount.{wallet_words}
 use Rattle.dex_audit_rules.specs.Funds.{deposited, vault_off}
-use Rattle.dex_tallies.specs.Sums.{capped}
+use Rattle.dex_totals.specs.Sums.{capped}
 use Rattle.dex_audit_rules.proofs.ListLaws.{both}
 use Rattle.dex_audit_rules.proofs.MarketLaws.{differs-one}
 use Rattle.dex_audit_rules.proofs.market.tell_vaults.Goals as goal

@@ -1,5 +1,5 @@
 use Rattle.std.proofs.Common.{◌≡◌, ◌++◌, take}
-use Rattle.dex_tallies.specs.Reading.{traders}
+use Rattle.dex_totals.specs.Reading.{traders}
 use Rattle.dex_audit_rules.specs.Slots.{each_slot, misheld}
 use Rattle.dex_audit_rules.proofs.misheld.tell_misheld.Given as goal
 

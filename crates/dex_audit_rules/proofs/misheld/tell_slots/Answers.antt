@@ -5,10 +5,10 @@ use Rattle.dex_types.specs.Trader.{Holding}
 use Rattle.dex_orders.proofs.SlotLaw.{length-slots_of}
 use Rattle.dex_orders.specs.OrdersAccount.{account_of}
 use Rattle.dex_audit_rules.specs.Lists.{numbered}
-use Rattle.dex_tallies.specs.Reading.{held_in}
+use Rattle.dex_totals.specs.Reading.{held_in}
 use Rattle.dex_audit_rules.specs.Slots.{misheld, or_else, unheld_finding, unheld_in}
 use Rattle.dex_audit_rules.proofs.ListLaws.{told-more}
-use Rattle.dex_tallies.proofs.ReadLaws.{held_in-told}
+use Rattle.dex_totals.proofs.ReadLaws.{held_in-told}
 use Rattle.dex_audit_rules.proofs.misheld.tell_slots.Goals as goal
 
 pub loop-slot-preserved : goal.loop-slot-preserved

@@ -3,9 +3,9 @@ use Rattle.std.proofs.lemmas.List.{get_or-map, length-map}
 use Rattle.dex_types.specs.declared.orders.Event.{Event}
 use Rattle.dex_types.specs.QueuedEvent.{QueuedEvent, decoded_event}
 use Rattle.dex_types.specs.Soundness.{counts_final}
-use Rattle.dex_tallies.specs.Reading.{traders}
+use Rattle.dex_totals.specs.Reading.{traders}
 use Rattle.dex_audit_rules.specs.Slots.{astray, astray_behind}
-use Rattle.dex_tallies.proofs.FinalLaws.{finals-few, finals-more}
+use Rattle.dex_totals.proofs.FinalLaws.{finals-few, finals-more}
 use Rattle.dex_audit_rules.proofs.ListLaws.{told-more}
 use Rattle.dex_audit_rules.proofs.pending.tell_astray.Goals as goal
 

@@ -1,9 +1,9 @@
 use Rattle.std.proofs.Common.{◌≡◌, ◌++◌, map, take}
 use Rattle.dex_types.specs.QueuedEvent.{decoded_event}
 use Rattle.dex_audit_rules.specs.Lists.{numbered}
-use Rattle.dex_tallies.specs.Reading.{traders}
+use Rattle.dex_totals.specs.Reading.{traders}
 use Rattle.dex_audit_rules.specs.Slots.{astray}
-use Rattle.dex_tallies.specs.Tallies.{AreFinals}
+use Rattle.dex_totals.specs.Tallies.{AreFinals}
 use Rattle.dex_audit_rules.proofs.pending.tell_astray.Given as goal
 
 abbrev pub invariant-loop-number : goal.invariant-loop-number

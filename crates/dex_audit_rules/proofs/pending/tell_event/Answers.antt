@@ -3,10 +3,10 @@ use Rattle.dex_types.specs.declared.terms.Side.{Side}
 use Rattle.dex_types.specs.QueuedEvent.{QueuedEvent, decoded_event}
 use Rattle.dex_types.specs.Soundness.{event_holding, finals_of, held_at}
 use Rattle.dex_types.specs.Trader.{Holding}
-use Rattle.dex_tallies.specs.Reading.{traders}
-use Rattle.dex_tallies.specs.Held.{id_held, is_held}
+use Rattle.dex_totals.specs.Reading.{traders}
+use Rattle.dex_totals.specs.Held.{id_held, is_held}
 use Rattle.dex_audit_rules.specs.Slots.{is_placed}
-use Rattle.dex_tallies.specs.Tallies.{times_of}
+use Rattle.dex_totals.specs.Tallies.{times_of}
 use Rattle.dex_audit_rules.proofs.pending.tell_event.Goals as goal
 
 pub returns : goal.returns

@@ -1,5 +1,5 @@
 use Rattle.std.proofs.Common.{arith}
-use Rattle.dex_tallies.specs.Reading.{traders}
+use Rattle.dex_totals.specs.Reading.{traders}
 use Rattle.dex_audit_rules.specs.Slots.{homeless}
 use Rattle.dex_audit_rules.proofs.ListLaws.{told-more}
 use Rattle.dex_audit_rules.proofs.resting.tell_homeless.Goals as goal

@@ -1,6 +1,6 @@
 use Rattle.std.proofs.Common.{◌≡◌, ◌++◌, take}
 use Rattle.dex_audit_rules.specs.Lists.{numbered}
-use Rattle.dex_tallies.specs.Reading.{traders}
+use Rattle.dex_totals.specs.Reading.{traders}
 use Rattle.dex_audit_rules.specs.Slots.{homeless}
 use Rattle.dex_audit_rules.proofs.resting.tell_homeless.Given as goal
 

@@ -2,7 +2,7 @@ use Rattle.std.proofs.Common.{◌≡◌, ℕ, [], eqb, not, take, get_or, sym, a
 use Rattle.dex_types.specs.declared.terms.Side.TheVariants.{Bid}
 use Rattle.dex_audit_rules.specs.declared.taken.Taken.{Taken}
 use Rattle.dex_audit_rules.specs.Slots.{is_number_of, number_of, repeated}
-use Rattle.dex_tallies.specs.Tallies.{times}
+use Rattle.dex_totals.specs.Tallies.{times}
 use Rattle.dex_audit_rules.proofs.ListLaws.{told-more}
 use Rattle.dex_audit_rules.proofs.MetLaws.{is_number_of-more, met-more}
 use Rattle.dex_audit_rules.proofs.slots.tell_repeated.Goals as goal

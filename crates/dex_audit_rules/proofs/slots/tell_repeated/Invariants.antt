@@ -1,7 +1,7 @@
 use Rattle.std.proofs.Common.{◌≡◌, ◌++◌, ℕ, eqb, not, take}
 use Rattle.dex_audit_rules.specs.Lists.{numbered}
 use Rattle.dex_audit_rules.specs.Slots.{is_number_of, repeated}
-use Rattle.dex_tallies.specs.Tallies.{times}
+use Rattle.dex_totals.specs.Tallies.{times}
 use Rattle.dex_audit_rules.proofs.slots.tell_repeated.Given as goal
 
 abbrev pub invariant-loop-place : goal.invariant-loop-place

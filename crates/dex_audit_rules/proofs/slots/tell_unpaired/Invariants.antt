@@ -3,7 +3,7 @@ use Rattle.std.specs.List.{flat_map}
 use Rattle.dex_types.specs.declared.orders.Order.{Order}
 use Rattle.dex_types.specs.QueuedEvent.{QueuedEvent}
 use Rattle.dex_audit_rules.specs.Slots.{unpaired}
-use Rattle.dex_tallies.specs.Tallies.{AreFinals, AreResting}
+use Rattle.dex_totals.specs.Tallies.{AreFinals, AreResting}
 use Rattle.dex_audit_rules.proofs.slots.tell_unpaired.Given as goal
 
 abbrev pub invariant-loop-place : goal.invariant-loop-place

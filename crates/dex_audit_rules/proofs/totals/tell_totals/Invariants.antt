@@ -6,7 +6,7 @@ use Rattle.dex_types.specs.Side.{Coin, Pc}
 use Rattle.dex_types.specs.Trader.{Trader}
 use Rattle.dex_audit_rules.specs.Books.{IsOf}
 use Rattle.dex_audit_rules.specs.Funds.{total_off}
-use Rattle.dex_tallies.specs.Reading.{traders}
+use Rattle.dex_totals.specs.Reading.{traders}
 use Rattle.dex_audit_rules.specs.Slots.{of_open}
 use Rattle.dex_audit_rules.proofs.totals.tell_totals.Given as goal
 

@@ -1,5 +1,5 @@
 use Rattle.std.proofs.Common.{◌≡◌, ◌≤◌, length, map, vec_len, vec_capacity}
-use Rattle.dex_fold.proofs.Common.{market_accounts_of}
+use Rattle.dex_world.proofs.Common.{market_accounts_of}
 use Rattle.dex_bank.proofs.Common.{MarketCellState, market_journal_in}
 use Rattle.dex_state.specs.Outcomes.{market_journal_of}
 use Rattle.dex_bank.proofs.closing.markets_left.Given as goal

@@ -1,5 +1,5 @@
 use Rattle.std.proofs.Common.{◌≡◌, ◌≤◌, map, vec_len, vec_capacity}
-use Rattle.dex_fold.proofs.Common.{named_of}
+use Rattle.dex_world.proofs.Common.{named_of}
 use Rattle.dex_bank.proofs.Common.{account_in, wallet_journal_in}
 use Rattle.dex_state.specs.Outcomes.{wallet_journal_of}
 use Rattle.dex_bank.proofs.closing.wallets_left.Given as goal

@@ -1,5 +1,5 @@
 use Rattle.std.proofs.Common.{map, take}
-use Rattle.dex_fold.proofs.Common.{market_accounts_of, named_of, names, row_of}
+use Rattle.dex_world.proofs.Common.{market_accounts_of, named_of, names, row_of}
 use Rattle.dex_bank.proofs.OpenRooms.{AreRowsOf, markets_at, on, wallets_at}
 use Rattle.dex_bank.proofs.counting.row_counts.Given as goal
 

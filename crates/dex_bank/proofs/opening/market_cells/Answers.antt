@@ -1,5 +1,5 @@
 use Rattle.std.proofs.Common.{rules, [], ◌∷◌, ap, arith, length, ◌∙◌}
-use Rattle.dex_fold.proofs.Common.{PlainMarketAccounts, YieldsList-from_vec, YieldsList-turn, market_accounts_of}
+use Rattle.dex_world.proofs.Common.{PlainMarketAccounts, YieldsList-from_vec, YieldsList-turn, market_accounts_of}
 use Rattle.dex_bank.proofs.Common.{market_opened, rows_on}
 use Rattle.std.proofs.lemmas.List.{length-append}
 use Rattle.dex_cell.specs.CellState.{new_cell}

@@ -1,5 +1,5 @@
 use Rattle.std.proofs.Common.{◌≡◌, List, length, map}
-use Rattle.dex_fold.proofs.Common.{PlainRow, market_accounts_of}
+use Rattle.dex_world.proofs.Common.{PlainRow, market_accounts_of}
 use Rattle.dex_bank.proofs.Common.{market_opened}
 use Rattle.dex_bank.specs.Opened.{market_rooms}
 use Rattle.dex_bank.proofs.opening.market_cells.Given as goal

@@ -1,8 +1,8 @@
 use Rattle.std.proofs.Common.{◌≡◌, ℕ, List, length, map, ap, ◌∙◌}
-use Rattle.dex_fold.proofs.Common.{PlainAccount, PlainMarketAccounts, accounts_of, length-map, market_accounts_of, named_of, row_of}
+use Rattle.dex_world.proofs.Common.{PlainAccount, PlainMarketAccounts, accounts_of, length-map, market_accounts_of, named_of, row_of}
 use Rattle.dex_bank.proofs.Common.{AreSound, IsAccepted, IsWallet, rows_naming, rows_on}
 use Rattle.dex_bank.proofs.OpenCells.{AreCells-opened}
-use Rattle.dex_fold.proofs.MappedLists.{All-unmap}
+use Rattle.dex_world.proofs.MappedLists.{All-unmap}
 use Rattle.dex_bank.proofs.opening.opened.Goals as goal
 
 pub market_cells-requires-clause-sound : goal.market_cells-requires-clause-sound

@@ -1,5 +1,5 @@
 use Rattle.std.proofs.Common.{rules, [], ◌∷◌, ◌++◌, ap, arith, length, ◌∙◌}
-use Rattle.dex_fold.proofs.Common.{All-push, PlainAccount, YieldsList-from_vec, YieldsList-turn, named_of}
+use Rattle.dex_world.proofs.Common.{All-push, PlainAccount, YieldsList-from_vec, YieldsList-turn, named_of}
 use Rattle.dex_bank.proofs.Common.{IsWalletCell, wallet_opened, rows_naming}
 use Rattle.std.proofs.lemmas.List.Elements.{All-same}
 use Rattle.std.proofs.lemmas.List.{length-append}

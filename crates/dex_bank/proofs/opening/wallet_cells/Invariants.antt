@@ -1,5 +1,5 @@
 use Rattle.std.proofs.Common.{◌≡◌, List, length, map}
-use Rattle.dex_fold.proofs.Common.{PlainRow, named_of}
+use Rattle.dex_world.proofs.Common.{PlainRow, named_of}
 use Rattle.dex_bank.proofs.Common.{IsWalletCell, wallet_opened}
 use Rattle.std.specs.List.{All}
 use Rattle.dex_bank.specs.Opened.{wallet_rooms}

@@ -1,5 +1,5 @@
 use Rattle.std.proofs.Common.{◌≡◌, ℕ, ◌<◌, true, false, drop, get_or}
-use Rattle.dex_fold.proofs.Common.{is_same}
+use Rattle.dex_world.proofs.Common.{is_same}
 use Rattle.dex_bank.proofs.Common.{MarketCellState, is_market}
 use Rattle.dex_bank.proofs.standing.place_of.Given as goal
 

@@ -1,5 +1,5 @@
 use Rattle.std.proofs.Common.{◌≡◌, List, get_or, set, sym, subst, arith}
-use Rattle.dex_fold.proofs.Common.{Seen, row_of, seen_by, with_items_is}
+use Rattle.dex_world.proofs.Common.{Seen, row_of, seen_by, with_items_is}
 use Rattle.dex_bank.proofs.Common.{AreCells, CanHold, CellState, CellsState, IsFirstAt, MarketCellState, cells_inside, world_of}
 use Rattle.std.specs.Vec.{with_items}
 use Rattle.dex_bank.specs.Stepped.{HasActedOrWaited}

@@ -1,5 +1,5 @@
 use Rattle.std.proofs.Common.{Bool, true, sym, ap, ◌∙◌, subst}
-use Rattle.dex_fold.proofs.Common.{Step, idle-step, row_of}
+use Rattle.dex_world.proofs.Common.{Step, idle-step, row_of}
 use Rattle.dex_bank.proofs.Common.{HaveActed, MarketCellState, market_state_of}
 use Rattle.dex_cell.specs.CellState.{market_at}
 use Rattle.dex_bank.specs.Stepping.{HasDone, doing}

@@ -1,5 +1,5 @@
 use Rattle.std.proofs.Common.{◌≡◌, get_or, is_some, Option, sym, ap, ◌∙◌, subst}
-use Rattle.dex_fold.proofs.Common.{Refusal, Seen, request_of, row_of, why}
+use Rattle.dex_world.proofs.Common.{Refusal, Seen, request_of, row_of, why}
 use Rattle.dex_bank.proofs.Common.{AreCells, CellsState, MarketCellState}
 use Rattle.std.specs.Result.{is_err}
 use Rattle.dex_cell.specs.CellState.{IsFor, market_at}

@@ -1,5 +1,5 @@
 use Rattle.std.proofs.Common.{Option, Some, map, sym, ap, ◌∙◌, subst}
-use Rattle.dex_fold.proofs.Common.{Address, WalletSeen, role_at}
+use Rattle.dex_world.proofs.Common.{Address, WalletSeen, role_at}
 use Rattle.dex_bank.proofs.Common.{CellState, wallet_state_of}
 use Rattle.dex_act.specs.Wallets.{IsRoleAt}
 use Rattle.dex_wallet.specs.CellState.{seen_of}

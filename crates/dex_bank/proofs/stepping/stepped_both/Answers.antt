@@ -1,5 +1,5 @@
 use Rattle.std.proofs.Common.{◌≡◌, ◌||◌, Bool, is_some, Option, sym, ap, ◌∙◌}
-use Rattle.dex_fold.proofs.Common.{PlainRow, Refusal, row_of, why_in}
+use Rattle.dex_world.proofs.Common.{PlainRow, Refusal, row_of, why_in}
 use Rattle.dex_bank.proofs.Common.{CellsState, world_of}
 use Rattle.dex_bank.proofs.Stands.{its-address, stands-still}
 use Rattle.dex_bank.proofs.StepTwo.{both-stepped, can-behind, can-wait, not-refused, why-still}

@@ -5,8 +5,8 @@ use Rattle.dex_types.specs.Accounts.{market_accounts_of}
 use Rattle.dex_types.specs.Rows.{row_of}
 use Rattle.dex_words.specs.declared.command.Command.TheVariants.{Worth}
 use Rattle.dex_state.specs.Outcomes.{PlainOutcome, outcome_of}
-use Rattle.dex_script_facts.specs.PlainScript.{PlainScript}
-use Rattle.dex_script_facts.specs.Facts.{IsScript}
+use Rattle.dex_script_types.specs.PlainScript.{PlainScript}
+use Rattle.dex_script_types.specs.Facts.{IsScript}
 use Rattle.dex_replay.specs.Runs.{IsRunOf}
 use Rattle.dex_replay.specs.WorthTold.{table_told}
 use Rattle.dex_replay.specs.WorthText.{worth_text}

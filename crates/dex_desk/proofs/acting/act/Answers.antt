@@ -6,7 +6,7 @@ use Rattle.dex_types.specs.declared.rows.Row.{Row}
 use Rattle.dex_types.specs.Rows.{row_of}
 use Rattle.dex_state.specs.declared.outcome.MarketJournal.{MarketJournal}
 use Rattle.dex_state.specs.Outcomes.{market_journal_of, outcome_of}
-use Rattle.dex_script_facts.specs.PlainScript.{PlainScript}
+use Rattle.dex_script_types.specs.PlainScript.{PlainScript}
 use Rattle.dex_script.specs.Names.{AreNames}
 use Rattle.dex_desk.specs.Replies.{answers_to}
 use Rattle.dex_desk.proofs.KeptNames.{names-kept}

@@ -4,7 +4,7 @@ use Rattle.std.proofs.lemmas.List.Elements.{All-get_or}
 use Rattle.dex_types.specs.declared.orders.Order.{Order}
 use Rattle.dex_types.specs.Meeting.{Demand, less, meet}
 use Rattle.dex_types.specs.Side.{opposite}
-use Rattle.dex_meet.specs.Taker.{taking, demand}
+use Rattle.dex_fills.specs.Taker.{taking, demand}
 use Rattle.dex_eager_market.specs.declared.foreseeing.Sums.{Sums}
 use Rattle.dex_eager_market.specs.Foreseen.{CanFill, IsModest, less_first}
 use Rattle.dex_eager_market.proofs.Ends.{foreseen-all, foreseen-ended, left-less, left-same}

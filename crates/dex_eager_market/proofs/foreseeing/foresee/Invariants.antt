@@ -1,6 +1,6 @@
 use Rattle.std.proofs.Common.{◌≡◌, ◌-◌, ◌*◌, ◌^◌, ◌≤◌, false, drop, length}
 use Rattle.dex_types.specs.Meeting.{meet}
-use Rattle.dex_meet.specs.Taker.{demand, taking}
+use Rattle.dex_fills.specs.Taker.{demand, taking}
 use Rattle.dex_eager_market.specs.Foreseen.{IsModest}
 use Rattle.dex_eager_market.proofs.Meetings.{IsCarried}
 use Rattle.dex_eager_market.proofs.foreseeing.foresee.Given as goal

@@ -1,6 +1,6 @@
 use Rattle.std.proofs.Common.{◌∙◌, ◌+◌, ◌^◌, map, sym, ap, arith}
 use Rattle.dex_eager.specs.Eager.{with_change}
-use Rattle.dex_meet.specs.Taker.{taking}
+use Rattle.dex_fills.specs.Taker.{taking}
 use Rattle.dex_eager_market.specs.declared.accounts.Change.{Change}
 use Rattle.dex_eager_market.specs.Accounts.{entry_of, worth_of}
 use Rattle.dex_eager_market.specs.Fills.{maker_change}

@@ -6,7 +6,7 @@ use Rattle.dex_types.specs.Meeting.{Demand, demand_after, less, meet, met_none}
 use Rattle.dex_types.specs.Side.{opposite}
 use Rattle.dex_eager.specs.Eager.{with_fills}
 use Rattle.dex_eager.specs.Slots.{maker_fills}
-use Rattle.dex_meet.specs.Taker.{taking, demand}
+use Rattle.dex_fills.specs.Taker.{taking, demand}
 use Rattle.dex_eager_market.specs.Accounts.{entry_of}
 use Rattle.dex_eager_market.specs.Foreseen.{CanFill, IsModest}
 use Rattle.dex_eager_market.proofs.Changes.{all-more}

@@ -3,7 +3,7 @@ use Rattle.std.specs.List.{All}
 use Rattle.dex_eager.specs.Eager.{with_fills}
 use Rattle.dex_eager.specs.Slots.{maker_fills}
 use Rattle.dex_types.specs.Meeting.{meet}
-use Rattle.dex_meet.specs.Taker.{demand, taking}
+use Rattle.dex_fills.specs.Taker.{demand, taking}
 use Rattle.dex_eager_market.specs.Accounts.{IsWithin, entry_of}
 use Rattle.dex_eager_market.specs.Foreseen.{IsModest}
 use Rattle.dex_eager_market.proofs.paying.pay_makers.Given as goal

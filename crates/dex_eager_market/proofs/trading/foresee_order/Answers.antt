@@ -4,7 +4,7 @@ use Rattle.dex_types.specs.Meeting.{Meeting, meet}
 use Rattle.dex_types.specs.NewOrder.{terms_of}
 use Rattle.dex_types.specs.Side.{opposite}
 use Rattle.dex_match.specs.OrderTerms.{meeting_with, order_of}
-use Rattle.dex_meet.specs.Taker.{demand, taking}
+use Rattle.dex_fills.specs.Taker.{demand, taking}
 use Rattle.dex_eager_market.specs.Foreseen.{CanFill}
 use Rattle.dex_eager_market.specs.Trading.{quote_too_large}
 use Rattle.dex_eager_market.proofs.Trades.{order-met, seen-as, goes-on, lock-small, modest-order, order-stops, order-too-large, quote-small}

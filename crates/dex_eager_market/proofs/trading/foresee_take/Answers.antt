@@ -5,7 +5,7 @@ use Rattle.dex_types.specs.NewOrder.{demand_of}
 use Rattle.dex_types.specs.Side.{opposite}
 use Rattle.dex_types.specs.Take.{take_terms}
 use Rattle.dex_match.specs.OrderTerms.{order_of}
-use Rattle.dex_meet.specs.Taker.{demand, taking}
+use Rattle.dex_fills.specs.Taker.{demand, taking}
 use Rattle.dex_take.specs.TakeTerms.{meeting_with, take_of}
 use Rattle.dex_eager_market.specs.Foreseen.{CanFill}
 use Rattle.dex_eager_market.specs.Trading.{quote_too_large}

@@ -9,7 +9,7 @@ use Rattle.dex_eager.specs.Eager.{Worths, with_change, with_fills}
 use Rattle.dex_eager.specs.Slots.{maker_fills}
 use Rattle.dex_eager.specs.Worth.{Worth, net}
 use Rattle.dex_match.specs.OrderTerms.{meeting_with, order_of}
-use Rattle.dex_meet.specs.Taker.{demand, taking}
+use Rattle.dex_fills.specs.Taker.{demand, taking}
 use Rattle.dex_eager_market.specs.Accounts.{entry_of, worth_of}
 use Rattle.dex_eager_market.proofs.Changes.{all-more, small-more}
 use Rattle.dex_eager_market.proofs.Trades.{seen-by, order-met, book-posted, order-left, rested-is, resting-fills, taker-worth, tier-small}

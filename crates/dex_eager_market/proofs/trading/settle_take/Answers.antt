@@ -4,7 +4,7 @@ use Rattle.dex_types.specs.Meeting.{Meeting, meet}
 use Rattle.dex_types.specs.Take.{take_fee}
 use Rattle.dex_eager.specs.Eager.{with_fills}
 use Rattle.dex_eager.specs.Slots.{maker_fills}
-use Rattle.dex_meet.specs.Taker.{demand, taking}
+use Rattle.dex_fills.specs.Taker.{demand, taking}
 use Rattle.dex_take.specs.TakeTerms.{meeting_with, take_of}
 use Rattle.dex_eager_market.specs.Accounts.{entry_of}
 use Rattle.dex_eager_market.proofs.Changes.{all-more}

@@ -3,7 +3,7 @@ use Rattle.dex_laws.proofs.SpendLaws.{spent-le}
 use Rattle.dex_types.specs.Meeting.{Demand, TakerTerms, meet}
 use Rattle.dex_types.specs.NewOrder.{terms_of}
 use Rattle.dex_match.specs.OrderTerms.{order_of}
-use Rattle.dex_meet.specs.Taker.{taking, demand}
+use Rattle.dex_fills.specs.Taker.{taking, demand}
 use Rattle.dex_match.proofs.FittingLaws.{fits-sums, order-paid}
 use Rattle.dex_match.proofs.order_outlook.outlook.Goals as goal
 

@@ -1,8 +1,8 @@
 use Rattle.std.proofs.Common.{ap, map, subst, ◌∙◌}
 use Rattle.std.proofs.lemmas.Result.{IfOk-weaker}
 use Rattle.dex_types.specs.Rows.{row_of}
-use Rattle.dex_script_facts.specs.PlainScript.{PlainScript}
-use Rattle.dex_script_facts.specs.ScriptInside.{script_inside}
+use Rattle.dex_script_types.specs.PlainScript.{PlainScript}
+use Rattle.dex_script_types.specs.ScriptInside.{script_inside}
 use Rattle.dex_parts.specs.Cuts.{AreCutBy, numbers_of}
 use Rattle.dex_parts.proofs.CutLaws.{numbers-beside, own-in-order}
 use Rattle.dex_parts.proofs.chains.chained.Goals as goal

@@ -1,5 +1,5 @@
 use Rattle.std.proofs.Common.{length, ◌++◌}
-use Rattle.dex_fold.proofs.MappedLists.{All-front}
+use Rattle.dex_world.proofs.MappedLists.{All-front}
 use Rattle.dex_parts.specs.Joins.{IsWithin, role_links}
 use Rattle.dex_parts.proofs.JoinLaws.{row-joined, within-behind}
 use Rattle.dex_parts.proofs.ListLaws.{All-behind}

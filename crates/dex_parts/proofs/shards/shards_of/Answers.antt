@@ -2,8 +2,8 @@ use Rattle.std.proofs.Common.{map, subst, sym, ◌∙◌}
 use Rattle.std.proofs.lemmas.List.{length-map}
 use Rattle.dex_types.specs.Accounts.{accounts_of, market_accounts_of, named_of}
 use Rattle.dex_types.specs.Rows.{row_of}
-use Rattle.dex_script_facts.specs.PlainScript.{PlainScript}
-use Rattle.dex_script_facts.specs.ScriptInside.{script_inside}
+use Rattle.dex_script_types.specs.PlainScript.{PlainScript}
+use Rattle.dex_script_types.specs.ScriptInside.{script_inside}
 use Rattle.dex_parts.specs.Sharded.{AreShardsOf}
 use Rattle.dex_parts.proofs.ShardedLaws.{own-on, own-shards, own-within}
 use Rattle.dex_parts.proofs.shards.shards_of.Goals as goal

@@ -4,8 +4,8 @@ use Rattle.dex_state.specs.Outcomes.{PlainOutcome, outcome_of}
 use Rattle.dex_report.specs.Report.{report_text}
 use Rattle.dex_report.specs.Telling.{FitOutcome}
 use Rattle.dex_answers.proofs.InFront.{run-told}
-use Rattle.dex_script_facts.specs.PlainScript.{PlainScript}
-use Rattle.dex_script_facts.specs.Facts.{IsScript}
+use Rattle.dex_script_types.specs.PlainScript.{PlainScript}
+use Rattle.dex_script_types.specs.Facts.{IsScript}
 use Rattle.dex_answers.specs.Answers.{rows_told}
 use Rattle.dex_answers.proofs.PairLaws.{played}
 use Rattle.dex_commands.proofs.LaneAnswerLaws.{no-batch}

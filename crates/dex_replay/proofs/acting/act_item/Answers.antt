@@ -1,4 +1,4 @@
-use Rattle.dex_fold.proofs.Common.{row_of}
+use Rattle.dex_world.proofs.Common.{row_of}
 use Rattle.dex_replay.proofs.ActedTo.{IsAlone, alone-none, alone-some, can-legs, can-row, legs-done, legs-stand, row-done, row-stands}
 use Rattle.dex_replay.proofs.acting.act_item.Goals as goal
 use Rattle.dex_replay.proofs.acting.act_item.Goals.{in-Some+else-second-row, in_default}

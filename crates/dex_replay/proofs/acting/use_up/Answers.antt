@@ -1,5 +1,5 @@
 use Rattle.std.proofs.Common.{◌≡◌, ◌-◌, ◌++◌, suc, List, [], ◌∷◌, drop, get_or, length, map, reverse, sym, ap, subst, ◌∙◌, arith, ℕ}
-use Rattle.dex_fold.proofs.Common.{Row, length-map, row_of}
+use Rattle.dex_world.proofs.Common.{Row, length-map, row_of}
 use Rattle.std.proofs.lemmas.List.{length-reverse, length-take, reverse-append, reverse-reverse}
 use Rattle.dex_bank.specs.Places.{ArePlacedIn}
 use Rattle.dex_types.specs.declared.rows.RowPlaces.{RowPlaces}

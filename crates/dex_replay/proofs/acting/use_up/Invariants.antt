@@ -1,5 +1,5 @@
 use Rattle.std.proofs.Common.{◌≡◌, length, map, reverse}
-use Rattle.dex_fold.proofs.Common.{row_of}
+use Rattle.dex_world.proofs.Common.{row_of}
 use Rattle.dex_replay.proofs.Common.{IsScript, PlainScript, opened}
 use Rattle.dex_replay.specs.Acting.{AreLeft}
 use Rattle.dex_replay.proofs.acting.use_up.Given as goal

@@ -1,5 +1,5 @@
 use Rattle.std.proofs.Common.{List, map, sym, ap, subst, ◌∙◌}
-use Rattle.dex_fold.proofs.Common.{Row, row_of}
+use Rattle.dex_world.proofs.Common.{Row, row_of}
 use Rattle.dex_bank.specs.Places.{ArePlacedIn}
 use Rattle.dex_replay.proofs.Common.{outcome_of}
 use Rattle.dex_replay.proofs.RunOf.{items-replay, replay-is-run}

@@ -1,5 +1,5 @@
 use Rattle.std.proofs.Common.{◌≡◌, [], ◌∙◌, ap, refl}
-use Rattle.dex_fold.proofs.Common.{range_with_len}
+use Rattle.dex_world.proofs.Common.{range_with_len}
 use Rattle.dex_replay.proofs.Common.{CellsState, MarketCellState, market_opened, rows_naming, rows_on, wallet_opened}
 use Rattle.dex_wallet.specs.CellState as wallet
 use Rattle.dex_run.proofs.Openings.{all-mapped}

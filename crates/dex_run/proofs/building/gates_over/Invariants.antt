@@ -1,5 +1,5 @@
 use Rattle.std.proofs.Common.{◌≡◌}
-use Rattle.dex_fold.proofs.Common.{AllZip}
+use Rattle.dex_world.proofs.Common.{AllZip}
 use Rattle.dex_turns.specs.Bank.{IsGate}
 use Rattle.dex_run.proofs.Common.{first_passes}
 use Rattle.dex_run.proofs.building.gates_over.Given as goal

@@ -1,5 +1,5 @@
 use Rattle.std.proofs.Common.{◌≡◌, ◌≤◌, ◌-◌, map}
-use Rattle.dex_fold.proofs.Common.{range_with_len}
+use Rattle.dex_world.proofs.Common.{range_with_len}
 use Rattle.dex_run.proofs.Common.{first_passes, seat_in}
 use Rattle.dex_run.proofs.building.seats_of.Given as goal
 

@@ -1,5 +1,5 @@
 use Rattle.std.proofs.Common.{◌≡◌, ◌<◌, ◌∙◌, ℕ, List, Some, length, get_or, map, ap, sym, subst, arith}
-use Rattle.dex_fold.proofs.Common.{AllZip, AllZip-long, take_all}
+use Rattle.dex_world.proofs.Common.{AllZip, AllZip-long, take_all}
 use Rattle.dex_run.proofs.Common.{GateView, PassView, next_pass, split_once}
 use Rattle.dex_run.proofs.Openings.{half, half-all, half-at, half-set, length-half, mapped-more}
 use Rattle.dex_turns.proofs.Taking.{zip-at}

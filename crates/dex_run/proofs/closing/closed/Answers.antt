@@ -1,7 +1,7 @@
 use Rattle.std.proofs.Common.{List, length, map, ap, sym, subst, ◌∙◌, arith}
-use Rattle.dex_fold.proofs.Common.{AllZip, Call, WalletEntry, named_of}
+use Rattle.dex_world.proofs.Common.{AllZip, Call, WalletEntry, named_of}
 use Rattle.dex_replay.proofs.Common.{CellsState, outcome_of}
-use Rattle.dex_order.proofs.Common.{MarketOrigin, Stamped, WalletOrigin}
+use Rattle.dex_serializable.proofs.Common.{MarketOrigin, Stamped, WalletOrigin}
 use Rattle.dex_run.proofs.Common.{AreMarketsClosed, AreWalletsClosed, CanClose, GateView}
 use Rattle.dex_bank.specs.Closed as cells
 use Rattle.dex_run.proofs.ClosingLaws.{are-cells, cells-length, closes}

@@ -1,7 +1,7 @@
 use Rattle.std.proofs.Common.{length, vec_len, sym, subst, rules, arith}
-use Rattle.dex_order.proofs.Common.{calls_on, entries_on}
+use Rattle.dex_serializable.proofs.Common.{calls_on, entries_on}
 use Rattle.dex_replay.proofs.Common.{PlainScript}
-use Rattle.dex_fold.proofs.Common.{All-push, AllZip, PlainAccount, PlainMarketAccounts, YieldsList-from_vec, YieldsList-turn}
+use Rattle.dex_world.proofs.Common.{All-push, AllZip, PlainAccount, PlainMarketAccounts, YieldsList-from_vec, YieldsList-turn}
 use Rattle.dex_run.proofs.Common.{IsMarketGate, IsMarketPass, IsMarketPassAt, IsSeat, IsSeatOf, IsWalletGate, IsWalletPass, IsWalletPassAt, SeatState}
 use Rattle.dex_run.proofs.ColumnLists.{columns-free, columns-none, columns-room}
 use Rattle.dex_run.proofs.ClosingPasses.{one-each, one-more}

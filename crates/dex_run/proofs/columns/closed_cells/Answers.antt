@@ -1,5 +1,5 @@
 use Rattle.std.proofs.Common.{◌∷◌, [], length, length-append, ap, subst, arith}
-use Rattle.dex_fold.proofs.Common.{AllZip}
+use Rattle.dex_world.proofs.Common.{AllZip}
 use Rattle.dex_run.proofs.Common.{CanClose, IsClosed}
 use Rattle.dex_run.proofs.ColumnLists.{AllZip-empty, AllZip-ends, AllZip-not_empty, IsGiven, completed, completes-more, completes-none, given-closed, none}
 use Rattle.dex_run.proofs.columns.closed_cells.Goals as goal

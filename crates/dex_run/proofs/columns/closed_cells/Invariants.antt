@@ -1,5 +1,5 @@
 use Rattle.std.proofs.Common.{◌+◌, ◌≤◌, vec_len, vec_capacity}
-use Rattle.dex_fold.proofs.Common.{AllZip}
+use Rattle.dex_world.proofs.Common.{AllZip}
 use Rattle.dex_run.proofs.Common.{CanClose, IsClosed}
 use Rattle.dex_run.proofs.ColumnLists.{Completes, IsGiven}
 use Rattle.dex_run.proofs.columns.closed_cells.Given as goal

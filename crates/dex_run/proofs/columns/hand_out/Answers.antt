@@ -1,5 +1,5 @@
 use Rattle.std.proofs.Common.{◌<◌, ◌∷◌, [], ◌∙◌, length, length-append, vec_len, vec_capacity, sym, subst, rules, arith}
-use Rattle.dex_fold.proofs.Common.{YieldsList-from_vec, YieldsList-turn}
+use Rattle.dex_world.proofs.Common.{YieldsList-from_vec, YieldsList-turn}
 use Rattle.dex_run.proofs.Common.{IsLonger}
 use Rattle.dex_run.proofs.ColumnLists.{AreLonger-behind, AreLonger-length, AreLonger-more}
 use Rattle.dex_run.proofs.columns.hand_out.Goals as goal

@@ -3,8 +3,8 @@ use Rattle.std.proofs.lemmas.Bool.{eq-eqb, eqb-true, false≢true}
 use Rattle.dex_types.specs.declared.rows.Row.{Row}
 use Rattle.dex_types.specs.declared.rows.RowPlaces.{RowPlaces}
 use Rattle.dex_types.specs.Rows.{row_of}
-use Rattle.dex_script_facts.specs.Places.{AreBeside}
-use Rattle.dex_script_facts.proofs.PlacedLaws.{nowhere}
+use Rattle.dex_script_types.specs.Places.{AreBeside}
+use Rattle.dex_script_types.proofs.PlacedLaws.{nowhere}
 use Rattle.dex_run.proofs.LaneRows.{beside-long, number-beside}
 use Rattle.dex_run.proofs.index.is_swap.Goals as goal
 

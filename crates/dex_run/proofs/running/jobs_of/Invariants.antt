@@ -1,4 +1,4 @@
-use Rattle.dex_fold.proofs.Common.{AllZip}
+use Rattle.dex_world.proofs.Common.{AllZip}
 use Rattle.dex_run.proofs.Common.{IsJobOf}
 use Rattle.dex_run.proofs.running.jobs_of.Given as goal
 

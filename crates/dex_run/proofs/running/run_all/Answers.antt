@@ -1,5 +1,5 @@
 use Rattle.std.proofs.Common.{List, map, ap, ◌∙◌, sym, subst, arith}
-use Rattle.dex_fold.proofs.Common.{AllZip, AllZip-long, take_at}
+use Rattle.dex_world.proofs.Common.{AllZip, AllZip-long, take_at}
 use Rattle.dex_run.proofs.Common.{HasRun, IsJobOf, LaneJob}
 use Rattle.std.specs.List.{All}
 use Rattle.dex_run.proofs.Jobs.{IsReady, jobs-ran, jobs-ready}

@@ -3,7 +3,7 @@ use Rattle.std.proofs.lemmas.Int.{to_z-of_z}
 use Rattle.std.proofs.lemmas.List.{append_assoc, map-append}
 use Rattle.dex_types.specs.declared.rows.Row.{Row}
 use Rattle.dex_types.specs.Rows.{PlainRow, row_of}
-use Rattle.dex_script_facts.proofs.PlacedLaws.{beside-push, placed-push}
+use Rattle.dex_script_types.proofs.PlacedLaws.{beside-push, placed-push}
 use Rattle.dex_statement.specs.Stated.{PlainInstruction}
 use Rattle.dex_script.specs.Rows.{instruction_row}
 use Rattle.dex_script.proofs.instruction.push_placed.Goals as goal

@@ -1,6 +1,6 @@
 use Rattle.std.proofs.Common.{Bool, subst, sym}
-use Rattle.dex_script_facts.specs.PlainScript.{PlainScript}
-use Rattle.dex_script_facts.specs.Facts.{HasNoSwap}
+use Rattle.dex_script_types.specs.PlainScript.{PlainScript}
+use Rattle.dex_script_types.specs.Facts.{HasNoSwap}
 use Rattle.dex_script.specs.Scripts.{Reads}
 use Rattle.dex_script.proofs.reading.read_script_by.Goals as goal
 

@@ -1,6 +1,6 @@
 use Rattle.std.proofs.Common.{◌≡◌, ◌∙◌, ◌-◌, ◌<◌, ◌^◌, ℕ, refl, sym, ap, subst, arith}
 use Rattle.dex_market.specs.MarketAccount.{market_words, sizes_of}
-use Rattle.dex_meet.specs.Taker.{demand, taking}
+use Rattle.dex_fills.specs.Taker.{demand, taking}
 use Rattle.dex_ring.specs.Appended.{appended, pushed_all}
 use Rattle.dex_ring.specs.Ring.{ring_of}
 use Rattle.dex_types.specs.declared.replies.Reply.TheVariants.{Took}

@@ -1,7 +1,7 @@
 use Rattle.std.proofs.Common.{◌≡◌, ◌∙◌, ◌*◌, ap, arith}
 use Rattle.dex_types.specs.Meeting.{Meeting, meet}
 use Rattle.dex_types.specs.Take.{take_fee}
-use Rattle.dex_meet.specs.Taker.{demand, taking}
+use Rattle.dex_fills.specs.Taker.{demand, taking}
 use Rattle.dex_take.specs.TakeTerms.{bare_take, meeting_with}
 use Rattle.dex_take.proofs.TakeAmounts.{fits-take, lock-fits, quote-fits}
 use Rattle.dex_take.proofs.outlook.outlook.Goals as goal

@@ -1,6 +1,6 @@
 use Rattle.std.proofs.Common.{rules, ◌<◌, [], ◌∷◌, arith, get_or, length, ap, ◌∙◌, sym}
 use Rattle.std.proofs.lemmas.List.{get_or_default, length-append, length-set}
-use Rattle.dex_fold.proofs.Common.{YieldsList-from_vec, YieldsList-turn}
+use Rattle.dex_world.proofs.Common.{YieldsList-from_vec, YieldsList-turn}
 use Rattle.dex_team.proofs.DealLaws.{dealt-more}
 use Rattle.dex_team.proofs.dealing.deal.Goals as goal
 

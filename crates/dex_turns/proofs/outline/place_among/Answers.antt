@@ -1,5 +1,5 @@
 use Rattle.std.proofs.Common.{sym, ◌∙◌}
-use Rattle.dex_fold.proofs.Common.{is_same}
+use Rattle.dex_world.proofs.Common.{is_same}
 use Rattle.dex_turns.proofs.Placed.{position-none}
 use Rattle.dex_turns.proofs.outline.place_among.Goals as goal
 

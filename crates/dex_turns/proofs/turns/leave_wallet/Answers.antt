@@ -1,5 +1,5 @@
 use Rattle.std.proofs.Common.{◌≡◌, ◌++◌, ◌∷◌, [], ℕ, Some, sym, ap, ◌∙◌, subst}
-use Rattle.dex_fold.proofs.Common.{WalletEntry}
+use Rattle.dex_world.proofs.Common.{WalletEntry}
 use Rattle.dex_turns.proofs.Common.{AddsOne, AwayView, BankWalletState, Extends, Idle, IsBankWallet, MayLeave, PassView, Stamped, TurnView, WalletOrigin, added, left_by, wallet_entries}
 use Rattle.dex_turns.proofs.LeavingTurns.{comes-back, has-left, put_back, wallet-adds}
 use Rattle.dex_turns.specs.Submitted.{Written}

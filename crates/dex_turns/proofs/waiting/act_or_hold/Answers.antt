@@ -1,9 +1,9 @@
 use Rattle.std.proofs.Common.{◌≡◌, ◌++◌, ◌∷◌, [], true, Bool, sym, ap, ◌∙◌, subst}
-use Rattle.dex_fold.proofs.Common.{Call, Market, PlainRow, Seen, Step, asked_of, entry_by, idle-step, row_of, row_step}
+use Rattle.dex_world.proofs.Common.{Call, Market, PlainRow, Seen, Step, asked_of, entry_by, idle-step, row_of, row_step}
 use Rattle.dex_turns.proofs.Common.{BankMarketState, HasCall, MarketCellState}
 use Rattle.dex_cell.specs.CellState.{held_made, market_at}
 use Rattle.dex_act.specs.Acted.{HaveActed}
-use Rattle.dex_fold.specs.Items.{doing}
+use Rattle.dex_world.specs.Items.{doing}
 use Rattle.dex_turns.specs.Turns.{made_by}
 use Rattle.dex_turns.proofs.waiting.act_or_hold.Goals as goal
 

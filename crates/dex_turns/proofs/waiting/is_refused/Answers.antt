@@ -1,5 +1,5 @@
 use Rattle.std.proofs.Common.{ap, is_some, ◌∙◌}
-use Rattle.dex_fold.proofs.Common.{request_of, row_of, why}
+use Rattle.dex_world.proofs.Common.{request_of, row_of, why}
 use Rattle.dex_turns.proofs.Common.{MarketCellState}
 use Rattle.std.specs.Result.{is_err}
 use Rattle.dex_cell.specs.CellState.{market_at}

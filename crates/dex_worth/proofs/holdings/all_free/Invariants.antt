@@ -1,5 +1,5 @@
 use Rattle.std.proofs.Common.{take}
-use Rattle.dex_tallies.specs.Reading.{traders}
+use Rattle.dex_totals.specs.Reading.{traders}
 use Rattle.dex_worth.specs.Amounts.{AreSums}
 use Rattle.dex_worth.specs.Holdings.{free_at}
 use Rattle.dex_worth.proofs.holdings.all_free.Given as goal

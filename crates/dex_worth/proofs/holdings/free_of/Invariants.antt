@@ -1,6 +1,6 @@
 use Rattle.std.proofs.Common.{◌≡◌, drop}
 use Rattle.dex_types.specs.Trader.{trader_at}
-use Rattle.dex_tallies.specs.Reading.{traders}
+use Rattle.dex_totals.specs.Reading.{traders}
 use Rattle.dex_worth.proofs.holdings.free_of.Given as goal
 
 abbrev pub invariant-loop-account : goal.invariant-loop-account

@@ -3,7 +3,7 @@ use Rattle.dex_types.specs.Accounts.{market_accounts_of}
 use Rattle.dex_accounts.specs.Decoded.{market_in}
 use Rattle.dex_audit_rules.specs.Books.{PlainGathered, gathered_in, plain_gathered}
 use Rattle.dex_audit_rules.proofs.BookLaws.{orders-accepted}
-use Rattle.dex_tallies.specs.Reading.{AreOrders, traders}
+use Rattle.dex_totals.specs.Reading.{AreOrders, traders}
 use Rattle.dex_worth.specs.Holdings.{free_at, held_amounts, with_gathered}
 use Rattle.dex_worth.proofs.Holding.{held-are}
 use Rattle.dex_worth.proofs.Sums.{sums-agree}

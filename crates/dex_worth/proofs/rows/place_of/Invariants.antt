@@ -1,6 +1,6 @@
 use Rattle.std.proofs.Common.{◌≡◌, drop, map}
 use Rattle.dex_types.specs.Rows.{PlainRow, row_of}
-use Rattle.dex_script_facts.specs.Firsts.{first_of}
+use Rattle.dex_script_types.specs.Firsts.{first_of}
 use Rattle.dex_replay.specs.EntryCalls.{is_row_on}
 use Rattle.dex_worth.proofs.rows.place_of.Given as goal
 

@@ -2,7 +2,7 @@ use Rattle.std.proofs.Common.{◌≡◌, map, take}
 use Rattle.dex_types.specs.Accounts.{market_accounts_of}
 use Rattle.dex_types.specs.Rows.{row_of}
 use Rattle.dex_state.specs.Outcomes.{market_journal_of}
-use Rattle.dex_script_facts.specs.PlainScript.{PlainScript}
+use Rattle.dex_script_types.specs.PlainScript.{PlainScript}
 use Rattle.dex_worth.specs.Rows.{plain_row}
 use Rattle.dex_replay.specs.WorthTold.{tables_told}
 use Rattle.dex_worth.specs.Tables.{AreToldHere}

@@ -1,5 +1,5 @@
 use Rattle.std.proofs.Common.{map, sym, subst}
-use Rattle.dex_fold.proofs.Common.{accounts_of, row_of}
+use Rattle.dex_world.proofs.Common.{accounts_of, row_of}
 use Rattle.dex_bank.proofs.Common.{CellsState}
 use Rattle.dex_bank.specs.Places.{ArePlacedIn}
 use Rattle.dex_bank.proofs.Stands.{placed-stand}

@@ -1,5 +1,5 @@
 use Rattle.std.proofs.Common.{subst}
-use Rattle.dex_script_facts.specs.Facts.{IsScript}
+use Rattle.dex_script_types.specs.Facts.{IsScript}
 use Rattle.dex_desk.specs.BlockInside.{block_inside}
 use Rattle.dex_desk.specs.Blocks.{PlainBlock}
 use Rattle.dex_desk.proofs.BlockLaws.{is-script}

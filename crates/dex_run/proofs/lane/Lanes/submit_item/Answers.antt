@@ -1,5 +1,5 @@
 use Rattle.std.proofs.Common.{◌+◌, ◌∷◌, [], ◌∙◌, ap, arith, length, length-append, sym}
-use Rattle.dex_fold.proofs.Common.{Row}
+use Rattle.dex_world.proofs.Common.{Row}
 use Rattle.dex_replay.proofs.Common.{PlainScript}
 use Rattle.dex_run.proofs.LaneItems.{rest-behind}
 use Rattle.dex_run.proofs.LaneRows.{are-legs, begins-alone, higher-behind, lower-before, next-both, next-own, one-number, places-long, row-placed}

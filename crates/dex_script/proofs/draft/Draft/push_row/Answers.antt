@@ -1,7 +1,7 @@
 use Rattle.std.proofs.Common.{◌∙◌, List, map, subst, sym}
 use Rattle.std.proofs.lemmas.List.{map-append}
 use Rattle.dex_types.specs.Rows.{PlainRow, row_of}
-use Rattle.dex_script_facts.specs.Places.{AreBeside, ArePlaced}
+use Rattle.dex_script_types.specs.Places.{AreBeside, ArePlaced}
 use Rattle.dex_script.specs.Telling.{start_of}
 use Rattle.dex_script.proofs.FaultLaws.{differ}
 use Rattle.dex_script.proofs.draft.Draft.push_row.Goals as goal

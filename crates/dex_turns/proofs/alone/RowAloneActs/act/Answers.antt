@@ -1,5 +1,5 @@
 use Rattle.std.proofs.Common.{false, refl, sym, ap, ◌∙◌, subst, arith}
-use Rattle.dex_fold.proofs.Common.{AllZip, false≢true, row_of, row_wallets}
+use Rattle.dex_world.proofs.Common.{AllZip, false≢true, row_of, row_wallets}
 use Rattle.dex_turns.proofs.Common.{HasEntry, Stamped}
 use Rattle.dex_cell.specs.CellState.{market_at}
 use Rattle.dex_history.specs.Journal.{Call, is_held}

@@ -1,12 +1,12 @@
 use Rattle.std.proofs.Common.{◌≡◌, ℕ, ◌+◌, [], ◌∷◌, ◌++◌, List, Some, get_or, length, set, sym, ap, ◌∙◌, subst, arith}
-use Rattle.dex_fold.proofs.Common.{Address, AllZip, AllZip-long, le-max_left}
+use Rattle.dex_world.proofs.Common.{Address, AllZip, AllZip-long, le-max_left}
 use Rattle.dex_turns.proofs.Common.{AreInHand, AreReady, CellState, HasEntry, HaveGrown, MayDraw, left_by, wallet_entries}
 use Rattle.std.proofs.lemmas.List.{length-append}
 use Rattle.std.proofs.Math.Nat.{le-max_right}
 use Rattle.dex_locks.specs.Places.{front}
-use Rattle.dex_fold.proofs.MappedLists.{AllZip-last}
+use Rattle.dex_world.proofs.MappedLists.{AllZip-last}
 use Rattle.dex_turns.proofs.Taking.{Facts, facts-grown, facts-hand, facts-leave, facts-mid, facts-number, facts-of, facts-ready, front-none, front-some, grown-none, rest-long, rest_of}
-use Rattle.dex_script_facts.proofs.PlacedLaws.{wallet-placed}
+use Rattle.dex_script_types.proofs.PlacedLaws.{wallet-placed}
 use Rattle.dex_turns.proofs.Taking as taking
 use Rattle.dex_turns.specs.Submitted.{Written}
 use Rattle.dex_turns.proofs.at.At.+with_wallets.Given as given

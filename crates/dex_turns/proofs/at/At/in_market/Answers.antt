@@ -1,5 +1,5 @@
 use Rattle.std.proofs.Common.{◌≡◌, ◌++◌, Some, sym, ap, ◌∙◌, subst, refl}
-use Rattle.dex_fold.proofs.Common.{Call, row_of}
+use Rattle.dex_world.proofs.Common.{Call, row_of}
 use Rattle.dex_turns.proofs.Common.{AddsOne, AwayView, BankMarketState, Extends, Idle, MarketOrigin, Stamped, TurnView, added, call_made, market_calls}
 use Rattle.dex_turns.proofs.Entering.{MarketPass, adds, called, may-call}
 use Rattle.dex_turns.proofs.at.At.in_market.Goals as goal

@@ -1,5 +1,5 @@
 use Rattle.std.proofs.Common.{◌≡◌, true, refl, sym, subst}
-use Rattle.dex_fold.proofs.Common.{Address, row_of}
+use Rattle.dex_world.proofs.Common.{Address, row_of}
 use Rattle.dex_types.specs.Wallets.{is_lower}
 use Rattle.dex_turns.specs.Legs.{one_made, two_made}
 use Rattle.dex_turns.specs.Submitted.{Where}

@@ -1,8 +1,8 @@
 use Rattle.std.proofs.Common.{sym, subst}
 use Rattle.std.specs.Prelude.{IfSome}
 use Rattle.dex_types.specs.declared.rows.Row.{Row}
-use Rattle.dex_fold.proofs.Common.{row_of}
-use Rattle.dex_script_facts.specs.Places.{IsPlaced}
+use Rattle.dex_world.proofs.Common.{row_of}
+use Rattle.dex_script_types.specs.Places.{IsPlaced}
 use Rattle.dex_turns.proofs.Common.{BankState, HasSubmitted, IsBank, IsNext, IsRowOf}
 use Rattle.dex_turns.specs.Inside.{bank_inside}
 use Rattle.dex_turns.proofs.SeatAfter.{next-ahead, row-fits}

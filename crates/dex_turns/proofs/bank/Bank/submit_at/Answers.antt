@@ -1,9 +1,9 @@
 use Rattle.std.proofs.Common.{[], ◌∷◌, map, set, refl, sym, ap, ◌∙◌, subst, arith}
-use Rattle.dex_fold.proofs.Common.{row_of}
+use Rattle.dex_world.proofs.Common.{row_of}
 use Rattle.dex_turns.proofs.Common.{HasSubmitted, IsBank, IsNext, IsSeatOf, call_made}
 use Rattle.std.proofs.lemmas.List.{map-append}
 use Rattle.dex_turns.specs.Inside.{seat_inside}
-use Rattle.dex_script_facts.proofs.PlacedLaws.{market-placed}
+use Rattle.dex_script_types.proofs.PlacedLaws.{market-placed}
 use Rattle.dex_turns.proofs.SeatAfter.{IsAfter, enters, is-after, names-own, next-ahead, ready, within-gates, within-passes}
 use Rattle.dex_turns.proofs.bank.Bank.submit_at.Given as given
 use Rattle.dex_turns.proofs.bank.Bank.submit_at.Goals.{After-and-seat-inside}

@@ -1,14 +1,14 @@
 use Rattle.std.proofs.Common.{◌≡◌, [], ◌∷◌, ◌++◌, List, map, refl, sym, ap, ◌∙◌, subst, arith}
-use Rattle.dex_fold.proofs.Common.{AllZip-long, Row, row_of}
+use Rattle.dex_world.proofs.Common.{AllZip-long, Row, row_of}
 use Rattle.dex_turns.proofs.Common.{AreNext, HaveSubmitted, IsBank, IsMarketPass, IsSeatOf, Idle, call_made}
 use Rattle.std.proofs.lemmas.List.{append_assoc, map-append}
 use Rattle.dex_turns.specs.Inside.{seat_inside}
 use Rattle.dex_turns.specs.declared.stamped_record.StampedRecord.{StampedRecord}
-use Rattle.dex_fold.proofs.MappedLists.{All-second}
+use Rattle.dex_world.proofs.MappedLists.{All-second}
 use Rattle.dex_turns.proofs.LegSeat as legs
 use Rattle.dex_turns.proofs.LegNames.{legs-name}
 use Rattle.dex_turns.proofs.LegReady.{legs-ready}
-use Rattle.dex_script_facts.proofs.PlacedLaws.{market-placed}
+use Rattle.dex_script_types.proofs.PlacedLaws.{market-placed}
 use Rattle.dex_turns.proofs.SeatAfter.{IsAfter, enters-at, first-ahead, passes-kept, row-fits, second-ahead}
 use Rattle.dex_turns.proofs.bank.Bank.submit_legs.Given as given
 use Rattle.dex_turns.proofs.bank.Bank.submit_legs.Goals.{After-and-seat-inside}

@@ -1,5 +1,5 @@
 use Rattle.std.proofs.Common.{ℕ, Bool, ◌&&◌, not, List, refl, sym, ap, ◌∙◌, subst, arith}
-use Rattle.dex_fold.proofs.Common.{AllZip, Call, Market, Seen, is_same, is_same-refl, row_of}
+use Rattle.dex_world.proofs.Common.{AllZip, Call, Market, Seen, is_same, is_same-refl, row_of}
 use Rattle.dex_turns.proofs.Common.{CellState, HasEntry, Stamped, call_made}
 use Rattle.dex_cell.specs.CellState.{market_at}
 use Rattle.dex_history.specs.Journal.{is_done, is_held, is_refused, is_took}

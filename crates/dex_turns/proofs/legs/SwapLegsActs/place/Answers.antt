@@ -1,5 +1,5 @@
 use Rattle.std.proofs.Common.{Bool, ◌||◌, sym, ap, ◌∙◌}
-use Rattle.dex_fold.proofs.Common.{false≢true, names, row_of}
+use Rattle.dex_world.proofs.Common.{false≢true, names, row_of}
 use Rattle.dex_turns.proofs.LegNames.{named-is}
 use Rattle.dex_turns.proofs.legs.SwapLegsActs.place.Goals as goal
 

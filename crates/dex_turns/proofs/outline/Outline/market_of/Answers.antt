@@ -1,9 +1,9 @@
 use Rattle.std.proofs.Common.{◌≡◌, true, List, sym, ap, ◌∙◌, subst}
 use Rattle.std.specs.List.{position}
-use Rattle.dex_fold.proofs.Common.{Address, PlainMarketAccounts, is_same, list_any}
+use Rattle.dex_world.proofs.Common.{Address, PlainMarketAccounts, is_same, list_any}
 use Rattle.dex_turns.proofs.Common.{list_any-map}
-use Rattle.dex_script_facts.specs.Places.{market_addresses}
-use Rattle.dex_script_facts.proofs.PlacedLaws.{position-map}
+use Rattle.dex_script_types.specs.Places.{market_addresses}
+use Rattle.dex_script_types.proofs.PlacedLaws.{position-map}
 use Rattle.dex_turns.proofs.outline.Outline.market_of.Goals as goal
 
 pub place_among-requires-clause-known : goal.place_among-requires-clause-known

@@ -3,8 +3,8 @@ use Rattle.std.specs.Prelude.{IfSome}
 use Rattle.dex_types.specs.declared.rows.Row.{Row}
 use Rattle.dex_types.specs.declared.rows.RowPlaces.{RowPlaces}
 use Rattle.dex_types.specs.Rows.{row_of}
-use Rattle.dex_script_facts.specs.Facts.{IsRowOf}
-use Rattle.dex_script_facts.specs.Places.{IsPlaced}
+use Rattle.dex_script_types.specs.Facts.{IsRowOf}
+use Rattle.dex_script_types.specs.Places.{IsPlaced}
 use Rattle.dex_turns.proofs.outline.Outline.places_of.Goals as goal
 
 pub returns-in-Some : goal.returns-in-Some

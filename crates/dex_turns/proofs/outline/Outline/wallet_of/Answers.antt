@@ -1,10 +1,10 @@
 use Rattle.std.proofs.Common.{◌≡◌, true, List, Option, sym, ap, ◌∙◌, subst}
 use Rattle.std.specs.List.{position}
-use Rattle.dex_fold.proofs.Common.{Address, PlainAccount, is_same, list_any}
-use Rattle.dex_script_facts.specs.Known.{is_known_role}
-use Rattle.dex_script_facts.specs.Places.{IsRolePlaced, wallet_addresses}
+use Rattle.dex_world.proofs.Common.{Address, PlainAccount, is_same, list_any}
+use Rattle.dex_script_types.specs.Known.{is_known_role}
+use Rattle.dex_script_types.specs.Places.{IsRolePlaced, wallet_addresses}
 use Rattle.dex_turns.proofs.Common.{list_any-map}
-use Rattle.dex_script_facts.proofs.PlacedLaws.{position-map}
+use Rattle.dex_script_types.proofs.PlacedLaws.{position-map}
 use Rattle.dex_turns.proofs.outline.Outline.wallet_of.Goals as goal
 
 pub place_among-requires-clause-known : goal.place_among-requires-clause-known

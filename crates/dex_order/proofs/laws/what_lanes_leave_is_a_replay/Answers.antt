@@ -1,5 +1,0 @@
-use Rattle.dex_order.proofs.Ends.{one-order}
-use Rattle.dex_order.proofs.laws.what_lanes_leave_is_a_replay.Goals as goal
-
-pub returns : goal.returns
-returns c = one-order

@@ -1,0 +1,97 @@
+-- How many items rows are, counted from the front by the numbers beside them.
+use Rattle.std.proofs.Common.{◌≡◌, ◌∙◌, ◌+◌, ◌<◌, ℕ, suc, Bool, true, false, cond, eqb, not, List, [], ◌∷◌, Option, Some, None, length, map, slice_index_or, drop, refl, ap, sym, arith}
+use Rattle.std.specs.Option.{option_eq}
+use Rattle.std.proofs.Math.Seq.{drop-cons}
+use Rattle.std.proofs.lemmas.List.{length-map}
+use Rattle.dex_types.specs.declared.rows.RowPlaces.{RowPlaces}
+use Rattle.dex_types.specs.Rows.{PlainRow}
+use Rattle.dex_world.specs.Groups.{Group, alone, grouped, joined, map_group, members}
+use Rattle.dex_world.specs.Items.{items_of}
+use Rattle.dex_world.proofs.GroupLaws.{grouped-map}
+use Rattle.dex_script_types.specs.Places.{AreBeside, items_at}
+
+-- an element of this number goes with what stands before it
+abbrev pub goes_with : Option ℕ → ℕ → Bool
+goes_with None number = false
+goes_with (Some last) number = eqb last number
+
+-- how many items begin at places that stand after a row of this number
+abbrev pub begun : Option ℕ → List RowPlaces → ℕ
+begun last [] = 0
+begun last (at ∷ places) = cond (goes_with last at.number) 0 1 + begun (Some at.number) places
+
+-- one, where this is so
+abbrev one_where : Bool → ℕ
+one_where so = cond so 1 0
+
+-- an item begins where the row before has another number
+begins : (last : Option ℕ) (number : ℕ) (differs : Bool) → differs ≡ not (option_eq eqb last (Some number)) → cond (goes_with last number) 0 1 ≡ one_where differs
+begins None number differs is = ap one_where (sym is)
+begins (Some last) number differs is = turned (eqb last number) ∙ ap one_where (sym is)
+  where
+    turned : (b : Bool) → cond b 0 1 ≡ one_where (not b)
+    turned true = refl
+    turned false = refl
+
+-- from a place to those after it
+pub begun-more : (places : List RowPlaces) (place : ℕ) (at : RowPlaces) (last : Option ℕ) (differs : Bool) → place < length places → at ≡ slice_index_or places place at
+    → differs ≡ not (option_eq eqb last (Some at.number))
+    → begun last (drop place places) ≡ one_where differs + begun (Some at.number) (drop (place + 1) places)
+begun-more places place at last differs within here is =
+    let next : suc place ≡ place + 1 = omega arith in
+    ap (begun last)
+    (drop-cons places place at within ∙ ap (λ (one : RowPlaces). one ∷ drop (suc place) places) (sym here) ∙ ap (λ (n : ℕ). at ∷ drop n places) next)
+    ∙ ap (λ (n : ℕ). n + begun (Some at.number) (drop (place + 1) places)) (begins last at.number differs is)
+
+module _ {A : Type 0} (key : A → ℕ) where
+  length-joined : (y x : A) (groups : List (Group A)) → length (joined key y (joined key x groups)) ≡ cond (eqb (key y) (key x)) 0 1 + length (joined key x groups)
+  length-joined y x [] = one (eqb (key y) (key x))
+    where
+      one : (b : Bool) → length (cond b (record { first = y; others = members (alone x) } ∷ []) (alone y ∷ alone x ∷ [])) ≡ cond b 0 1 + 1
+      one true = omega (arith)
+      one false = omega (arith)
+  length-joined y x (group ∷ groups) = two (eqb (key x) (key group.first))
+    where
+      on : (b : Bool) (head : Group A) (rest : List (Group A)) → length (cond b (record { first = y; others = members head } ∷ rest) (alone y ∷ head ∷ rest)) ≡ cond b 0 1 + length (head ∷ rest)
+      on true head rest = omega (arith)
+      on false head rest = omega (arith)
+
+      two : (b : Bool) → length (joined key y (cond b (record { first = x; others = members group } ∷ groups) (alone x ∷ group ∷ groups)))
+          ≡ cond (eqb (key y) (key x)) 0 1 + length (cond b (record { first = x; others = members group } ∷ groups) (alone x ∷ group ∷ groups))
+      two true = on (eqb (key y) (key x)) (record { first = x; others = members group }) groups
+      two false = on (eqb (key y) (key x)) (alone x) (group ∷ groups)
+
+-- the number beside a row
+abbrev number_at : RowPlaces → ℕ
+number_at at = at.number
+
+begun-behind : (at : RowPlaces) (places : List RowPlaces) → 1 + begun (Some at.number) places ≡ length (grouped number_at (at ∷ places))
+begun-behind at [] = refl
+begun-behind at (next ∷ places) =
+    let first = cond (eqb at.number next.number) 0 1 in
+    let moved : 1 + (first + begun (Some next.number) places) ≡ first + (1 + begun (Some next.number) places) = omega (arith) in
+    moved ∙ ap (λ (n : ℕ). first + n) (begun-behind next places) ∙ sym (length-joined number_at at next (grouped number_at places))
+
+-- at the front just the items of all rows begin
+pub begun-all : (places : List RowPlaces) → begun None places ≡ items_at places
+begun-all [] = refl
+begun-all (at ∷ places) = begun-behind at places
+
+-- ---- the numbers beside rows are theirs
+
+numbers : (rows : List PlainRow) (places : List RowPlaces) → AreBeside rows places → map number_at places ≡ map (λ (row : PlainRow). row.number) rows
+numbers [] [] are = refl
+numbers [] (at ∷ places) are = absurd are
+numbers (row ∷ rows) [] are = absurd are
+numbers (row ∷ rows) (at ∷ places) (is, are) =
+    ap (λ (n : ℕ). n ∷ map number_at places) is.number ∙ ap (λ (rest : List ℕ). row.number ∷ rest) (numbers rows places are)
+
+by-numbers : {A : Type 0} (key : A → ℕ) (xs : List A) → length (grouped key xs) ≡ length (grouped (λ (n : ℕ). n) (map key xs))
+by-numbers key xs = sym (ap length (grouped-map (λ (n : ℕ). n) key xs) ∙ length-map (grouped key xs) (map_group key))
+
+-- so as many items are at the places as the rows are
+pub items-beside : (rows : List PlainRow) (places : List RowPlaces) → AreBeside rows places → items_at places ≡ length (items_of rows)
+items-beside rows places are =
+    by-numbers number_at places
+    ∙ ap (λ (all : List ℕ). length (grouped (λ (n : ℕ). n) all)) (numbers rows places are)
+    ∙ sym (by-numbers (λ (row : PlainRow). row.number) rows)

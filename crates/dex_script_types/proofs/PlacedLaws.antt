@@ -1,0 +1,115 @@
+-- Places of rows, read off a list of them.
+use Rattle.std.proofs.Common.{◌≡◌, ℕ, ◌+◌, ◌<◌, zero, suc, cond, List, [], ◌∷◌, ◌++◌, Option, None, Some, get_or, length, map, arith, refl, sym, ap, subst, ◌∙◌}
+use Rattle.std.specs.List.{AllZip, position, position_from}
+use Rattle.std.proofs.lemmas.Iterator.Adapters.{position_from-zero}
+use Rattle.std.proofs.lemmas.List.{get_or-map, length-map}
+use Rattle.std.proofs.lemmas.List.Quantifiers.{position-Some}
+use Rattle.std.proofs.lemmas.Slice.Zip.{AllZip-long, all_zipped_more}
+use Rattle.dex_types.specs.declared.addresses.Address.{Address}
+use Rattle.dex_types.specs.declared.rows.Row.{Row}
+use Rattle.dex_types.specs.declared.rows.RowPlaces.{RowPlaces}
+use Rattle.dex_types.specs.Accounts.{PlainAccount, PlainAccounts, PlainMarketAccounts}
+use Rattle.dex_types.specs.Addresses.{is_same}
+use Rattle.dex_types.specs.Rows.{PlainRow, row_of}
+use Rattle.dex_laws.proofs.TraderLaws.{is_same-true}
+use Rattle.dex_script_types.specs.PlainScript.{PlainScript}
+use Rattle.dex_script_types.specs.Places.{AreBeside, ArePlaced, IsBeside, IsPlace, IsPlaced, market_addresses, market_place, wallet_addresses, wallet_place}
+
+-- each row has places
+pub placed-long : (start : PlainAccounts) (rows : List PlainRow) (places : List RowPlaces) → ArePlaced start rows places
+    → length places ≡ length rows
+placed-long start rows places are = AllZip-long (IsPlaced start) rows places are
+
+-- what holds of each two of two lists side by side holds at one index
+zipped-at : {A B : Type 0} (R : A → B → Type 0) (xs : List A) (ys : List B) → AllZip R xs ys → (index : ℕ) (x : A) (y : B) → index < length xs
+    → R (get_or xs index x) (get_or ys index y)
+zipped-at R [] [] are index x y within = absurd (omega (arith, within))
+zipped-at R [] (next ∷ ys) are index x y within = absurd are
+zipped-at R (first ∷ xs) [] are index x y within = absurd are
+zipped-at R (first ∷ xs) (next ∷ ys) are zero x y within = are.0
+zipped-at R (first ∷ xs) (next ∷ ys) are (suc index) x y within = zipped-at R xs ys are.1 index x y (omega (arith, within))
+
+-- so it does of a row and what stands beside it
+pub row-at : (R : PlainRow → RowPlaces → Type 0) (rows : List Row) (places : List RowPlaces) → AllZip R (map row_of rows) places
+    → (index : ℕ) (row : Row) (at : RowPlaces) → index < length rows → R (row_of (get_or rows index row)) (get_or places index at)
+row-at R rows places are index row at within =
+    subst (λ (one : PlainRow). R one (get_or places index at)) (get_or-map row_of rows index row (row_of row) within)
+    (zipped-at R (map row_of rows) places are index (row_of row) at (omega (arith, within, length-map rows row_of)))
+
+-- what stands beside no row
+abbrev pub nowhere : RowPlaces
+nowhere = record { number = 0; lane = 0; market = 0; coin = 0; pc = 0; discount = 0; referrer = 0 }
+
+-- what stands at a place that is within
+pub item_at : {A : Type 0} (items : List A) (place : ℕ) → place < length items → A
+item_at [] place within = absurd (omega (arith, within))
+item_at (item ∷ items) zero within = item
+item_at (item ∷ items) (suc place) within = item_at items place (omega (arith, within))
+
+pub item-at : {A : Type 0} (items : List A) (place : ℕ) (within : place < length items)
+    → item_at items place within ≡ get_or items place (item_at items place within)
+unfolding item_at
+item-at [] place within = absurd (omega (arith, within))
+item-at (item ∷ items) zero within = refl
+item-at (item ∷ items) (suc place) within = item-at items place (omega (arith, within))
+
+-- one row more, with its places
+pub placed-push : (start : PlainAccounts) (rows : List PlainRow) (places : List RowPlaces) (row : PlainRow) (at : RowPlaces)
+    → ArePlaced start rows places → IsPlaced start row at → ArePlaced start (rows ++ row ∷ []) (places ++ at ∷ [])
+placed-push start rows places row at are is = all_zipped_more (IsPlaced start) rows places row at are is
+
+-- and with what stands beside it
+pub beside-push : (rows : List PlainRow) (places : List RowPlaces) (row : PlainRow) (at : RowPlaces)
+    → AreBeside rows places → IsBeside row at → AreBeside (rows ++ row ∷ []) (places ++ at ∷ [])
+beside-push rows places row at are is = all_zipped_more IsBeside rows places row at are is
+
+-- a market stands at its place
+pub market-within : (address : Address) (markets : List PlainMarketAccounts) (place : ℕ) → market_place address markets ≡ Some place
+    → place < length markets
+market-within address [] place is = absurd (differ place is)
+  where
+    differ : (place : ℕ) → ◌≡◌ {A = Option ℕ} None (Some place) → ⊥
+    differ place e = cc
+market-within address (market ∷ markets) place is =
+    (position-Some (λ (m : PlainMarketAccounts). is_same address m.address) (market ∷ markets) place market is).0
+
+pub market-here : (address : Address) (markets : List PlainMarketAccounts) (place : ℕ) (default : PlainMarketAccounts)
+    → market_place address markets ≡ Some place → (get_or markets place default).address ≡ address
+market-here address markets place default is =
+    sym (is_same-true address (get_or markets place default).address
+    (position-Some (λ (m : PlainMarketAccounts). is_same address m.address) markets place default is).1)
+
+-- a wallet stands at its place
+pub wallet-within : (address : Address) (wallets : List PlainAccount) (place : ℕ) → wallet_place address wallets ≡ Some place
+    → place < length wallets
+wallet-within address wallets place is =
+    (position-Some (λ (w : PlainAccount). is_same address w.address) wallets place (record { address = address; bytes = [] }) is).0
+
+pub wallet-here : (address : Address) (wallets : List PlainAccount) (place : ℕ) (default : PlainAccount)
+    → wallet_place address wallets ≡ Some place → (get_or wallets place default).address ≡ address
+wallet-here address wallets place default is =
+    sym (is_same-true address (get_or wallets place default).address
+    (position-Some (λ (w : PlainAccount). is_same address w.address) wallets place default is).1)
+
+-- ---- places among addresses
+
+module _ {A : Type 0} (key : A → Address) (address : Address) where
+  from-map : (i : ℕ) (xs : List A) → position_from (is_same address) i (map key xs) ≡ position_from (λ x. is_same address (key x)) i xs
+  from-map i [] = refl
+  from-map i (x ∷ xs) = ap (λ (found : Option ℕ). cond (is_same address (key x)) (Some i) found) (from-map (i + 1) xs)
+
+  pub position-map : (xs : List A) → position (is_same address) (map key xs) ≡ position (λ x. is_same address (key x)) xs
+  position-map xs = position_from-zero (is_same address) (map key xs) ∙ from-map 0 xs ∙ sym (position_from-zero (λ x. is_same address (key x)) xs)
+
+  placed : (xs : List A) (place : ℕ) → position (λ x. is_same address (key x)) xs ≡ Some place → IsPlace address (map key xs) place
+  placed xs place is =
+      let at = λ (d : Address). position-Some (is_same address) (map key xs) place d (position-map xs ∙ is) in
+      record { within = (at address).0; here = λ default. sym (is_same-true address _ (at default).1) }
+
+pub market-placed : (script : PlainScript) (address : Address) (place : ℕ) → market_place address script.start.markets ≡ Some place
+    → IsPlace address (market_addresses script) place
+market-placed script address place is = placed (λ (accounts : PlainMarketAccounts). accounts.address) address script.start.markets place is
+
+pub wallet-placed : (script : PlainScript) (address : Address) (place : ℕ) → wallet_place address script.start.wallets ≡ Some place
+    → IsPlace address (wallet_addresses script) place
+wallet-placed script address place is = placed (λ (account : PlainAccount). account.address) address script.start.wallets place is

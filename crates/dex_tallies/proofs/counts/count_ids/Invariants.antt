@@ -1,6 +1,0 @@
-use Rattle.std.proofs.Common.{take}
-use Rattle.dex_tallies.specs.Tallies.{AreIds}
-use Rattle.dex_tallies.proofs.counts.count_ids.Given as goal
-
-abbrev pub invariant-loop-place : goal.invariant-loop-place
-invariant-loop-place l = AreIds l.ids (take l.place l.orders)
