@@ -5,7 +5,7 @@ use Rattle.dex_slab.specs.Path.{Root, shared_bits}
 use Rattle.dex_slab.specs.Walks.{tree_at}
 use Rattle.dex_slab.proofs.NodeWrites.{node_within}
 use Rattle.dex_slab.proofs.WalkLaw.{rooted, way-below, way-key, way-prefix, way-step, way-stops}
-use Rattle.dex_slab.proofs.walks.place_for.Goals as goal
+use Rattle.dex_slab.proofs.walks.insertion_point.Goals as goal
 
 pub loop-child-init : goal.loop-child-init
 loop-child-init c =
@@ -41,8 +41,8 @@ loop-child-preserved c =
     let fits : c.args.id < 2 ^ 128 = search rules in
     (way-step c.args.bytes.now r c.args.id c.loop-child.node c.in-Some.child are fits c.loop-child.invariant (sym c.in-Some.ensures)).way
 
-pub returns-clause-place : goal.returns-clause-place
-returns-clause-place c =
+pub returns-clause-point : goal.returns-clause-point
+returns-clause-point c =
     let bytes = c.args.bytes.now in
     let r = rooted bytes c.requires.slab c.requires.some in
     let way = c.loop-child.invariant in
