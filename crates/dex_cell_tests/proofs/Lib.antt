@@ -1,4 +1,0 @@
-pub mod CallLaws
-pub mod DoneLaws
-pub mod MadeLaws
-pub mod SetLaws
