@@ -1,0 +1,4 @@
+pub mod CallLaws
+pub mod DoneLaws
+pub mod MadeLaws
+pub mod SetLaws
