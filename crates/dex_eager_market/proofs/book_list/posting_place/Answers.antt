@@ -3,7 +3,7 @@ use Rattle.std.proofs.lemmas.List.{drop_all}
 use Rattle.dex_laws.specs.Posted.{place_of}
 use Rattle.dex_eager_market.proofs.Lists.{place-here, place-more}
 use Rattle.dex_eager_market.proofs.Meetings.{no_order}
-use Rattle.dex_eager_market.proofs.book_list.place_of.Goals as goal
+use Rattle.dex_eager_market.proofs.book_list.posting_place.Goals as goal
 
 pub returns-then-not-precedes-clause-place : goal.returns-then-not-precedes-clause-place
 returns-then-not-precedes-clause-place c =

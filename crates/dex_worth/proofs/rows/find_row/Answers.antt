@@ -6,7 +6,7 @@ use Rattle.dex_types.specs.Rows.{PlainRow, row_of}
 use Rattle.dex_replay.specs.EntryCalls.{is_row_on}
 use Rattle.dex_worth.proofs.Lists.{first-here, first-later}
 use Rattle.dex_worth.proofs.Rising.{found-behind, is_before, parted-rising}
-use Rattle.dex_worth.proofs.rows.place_of.Goals as goal
+use Rattle.dex_worth.proofs.rows.find_row.Goals as goal
 
 pub loop-place-init : goal.loop-place-init
 loop-place-init c =

@@ -2,7 +2,7 @@ use Rattle.std.proofs.Common.{◌≡◌, drop, map}
 use Rattle.dex_types.specs.Rows.{PlainRow, row_of}
 use Rattle.dex_script_types.specs.Firsts.{first_of}
 use Rattle.dex_replay.specs.EntryCalls.{is_row_on}
-use Rattle.dex_worth.proofs.rows.place_of.Given as goal
+use Rattle.dex_worth.proofs.rows.find_row.Given as goal
 
 abbrev pub invariant-loop-place : goal.invariant-loop-place
 invariant-loop-place l =
