@@ -1,7 +1,7 @@
 use Rattle.std.proofs.Common.{rules}
 use Rattle.std.proofs.lemmas.List.Sorted.{IsPartitionPoint-from_clause}
 use Rattle.dex_book.proofs.PlaceLaws.{is_before, IsPartitionedBy-sorted, place_of-point}
-use Rattle.dex_book.proofs.places.place_of.Goals as goal
+use Rattle.dex_book.proofs.places.place_in_book.Goals as goal
 
 pub returns-clause-place : goal.returns-clause-place
 returns-clause-place c =
