@@ -115,7 +115,7 @@ class Build:
                 self.built.add(name)
 
     def left(self):
-        """The crates that are not proved, and how long a quick machine takes: for a chain, or for all by all processors."""
+        """The crates that are not proved, and for how long on a quick machine: a chain, or all by all processors."""
         names = [it for it in self.uses if it not in self.built]
         return names, max([sum(self.seconds[it] for it in names) // self.most, *(self.chains[it] for it in names)])
 
@@ -245,9 +245,9 @@ class Build:
         return is_old(f"{out_of(self.top)}/begun", self.uses)
 
     def prove_all(self):
-        """Proves all crates but the top one, as many at once as there are processors. Once one is not proved, or a source
-        changes, no other is begun. Those that stand on no other share the processors that are free; the others, which
-        load many libraries, gain nothing by further jobs."""
+        """Proves all crates but the top one, as many at once as there are processors. Once one is not proved, or a
+        source changes, no other is begun. Those that stand on no other share the processors that are free; the others,
+        which load many libraries, gain nothing by further jobs."""
         graph = TopologicalSorter({it: set(self.uses[it]) - self.built for it in self.left()[0] if it != self.top})
         graph.prepare()
         ready, is_open = [], True
@@ -318,8 +318,9 @@ class Build:
 
     def ends_of(self, does):
         """Does a build, and ends with status 70, or that of a signal, where it comes to nothing; it says why."""
-        is_dex = self.name == "dex"
-        command, nothing = "./dex" if is_dex else "library/build", "nothing was run" if is_dex else f"{self.what} is not built"
+        command, nothing = "library/build", f"{self.what} is not built"
+        if self.name == "dex":
+            command, nothing = "./dex", "nothing was run"
         try:
             try:
                 return does()
