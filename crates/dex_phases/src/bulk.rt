@@ -2,7 +2,6 @@
 
 ghost use Rattle.std.specs.Prelude.{◌≤◌};
 ghost use Rattle.dex_state.specs.Outcomes.{outcome_of};
-ghost use Rattle.dex_state.specs.Accepted.{AreAccepted};
 
 use crate::watch::{ROUNDS, Watch};
 use anyhow::{Error, bail};
@@ -102,7 +101,6 @@ pub fn time_rounds<R: Clock + AllocGlobal>(rt: &R, rows: u32) -> Result<(Phases,
 
 /// The summary of the made script of number 1.
 fn summary_of(alloc: Global, rows: u32, outcome: &Outcome) -> Result<Vec<u8>, Error>
-    requires { AreAccepted (outcome_of outcome.now).accounts }
 {
     if !is_of_made(outcome) {
         bail!("the markets are not those of a made script");
