@@ -16,7 +16,8 @@ use Rattle.dex_world.specs.Items.{doing}
 use Rattle.dex_world.proofs.ItemLaws.{not-refused}
 use Rattle.dex_script_types.specs.Facts.{IsLeg}
 use Rattle.dex_turns.specs.Submitted.{written_by}
-use Rattle.dex_turns.specs.Turns.{IsTold, made_by}
+use Rattle.dex_act.specs.Steps.{HasWallets, IsTakeOrRefused, made_by}
+use Rattle.dex_turns.specs.Turns.{IsTold}
 use Rattle.dex_turns.proofs.InHand.{HasHands, cells-named, have-entries, moves-each, sees-asked, sees-hand, sight}
 
 -- ---- what it sees of the cells in hand

@@ -10,7 +10,7 @@ use Rattle.dex_act.specs.Wallets.{is_among}
 use Rattle.dex_act.specs.Acted.{HaveActed}
 use Rattle.dex_world.specs.Items.{doing}
 use Rattle.dex_turns.specs.Submitted.{written_by, written_by_two}
-use Rattle.dex_turns.specs.Turns.{made_by}
+use Rattle.dex_act.specs.Steps.{made_by}
 use Rattle.dex_turns.proofs.Rising.{AreOnce}
 use Rattle.dex_turns.proofs.Counts.{entries-one}
 use Rattle.dex_turns.proofs.InHand.{HasHands, IsUsable, has-entry, moves-each}
