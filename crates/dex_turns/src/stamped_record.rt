@@ -21,8 +21,8 @@ impl StampedRecord {
     /// What is recorded of what a row did.
     pub(crate) fn of(done: RowDone, stamp: Stamp) -> StampedRecord
         requires { done.reply ≡ done.entry.value.reply }
-        ensures seen { result.seen ≡ done.seen }
-        ensures entry { result.entry ≡ done.entry }
+        ensures seen { result.seen.value ≡ done.seen.value }
+        ensures entry { result.entry.value ≡ done.entry.value }
         ensures stamp { result.stamp ≡ stamp }
     {
         let RowDone { seen, entry, reply } = done;
