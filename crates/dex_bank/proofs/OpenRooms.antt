@@ -14,7 +14,7 @@ use Rattle.dex_script_types.specs.Facts.{IsStart}
 use Rattle.dex_script_types.specs.Places.{IsBeside, IsMarked, IsPlaced, IsRolePlaced}
 use Rattle.dex_script_types.proofs.Apart.{AreDistinct, markets-distinct, wallets-distinct}
 use Rattle.dex_script_types.proofs.PlacedLaws.{position-map}
-use Rattle.dex_bank.proofs.Stands.{some-of}
+use Rattle.dex_act.proofs.BehindLaws.{some-of}
 use Rattle.dex_bank.specs.Counts.{AreCounted, HaveSpare, is_told, one, wallets_told}
 
 -- ---- the place of an address

@@ -20,6 +20,7 @@ ghost use Rattle.dex_bank.specs.Opened as first;
 
 use crate::cells::Cells;
 use crate::counting::row_counts;
+use dex_act::Terms;
 use dex_cell::MarketCell;
 use dex_script_types::RowList;
 use dex_token::WalletRef;
@@ -127,12 +128,15 @@ pub(crate) fn opened(
     } = start;
     let markets = market_cells(alloc, markets, &rooms.markets)?;
     let wallets = wallet_cells(alloc, wallets, &rooms.wallets)?;
-    Ok(Cells {
-        mints,
+    let terms = Terms {
         srm,
         msrm,
+        program,
+    };
+    Ok(Cells {
+        mints,
+        terms,
         markets,
         wallets,
-        program,
     })
 }

@@ -1,10 +1,11 @@
 use Rattle.std.proofs.Common.{Option, Some, map, sym, ap, ◌∙◌, subst}
-use Rattle.dex_world.proofs.Common.{Address, WalletSeen, role_at}
-use Rattle.dex_bank.proofs.Common.{CellState, wallet_state_of}
-use Rattle.dex_act.specs.Wallets.{IsRoleAt}
-use Rattle.dex_wallet.specs.CellState.{seen_of}
-use Rattle.dex_bank.proofs.Stands.{found-there}
-use Rattle.dex_bank.proofs.stepping.look.Goals as goal
+use Rattle.dex_types.specs.declared.addresses.Address.{Address}
+use Rattle.dex_types.specs.declared.rows.WalletSeen.{WalletSeen}
+use Rattle.dex_wallet.specs.CellState.{CellState, seen_of}
+use Rattle.dex_world.specs.World.{role_at}
+use Rattle.dex_act.specs.Wallets.{IsRoleAt, wallet_state_of}
+use Rattle.dex_act.proofs.Seeing.{found-there}
+use Rattle.dex_act.proofs.sight.look.Goals as goal
 
 pub returns-in-Some-clause-seen : goal.returns-in-Some-clause-seen
 returns-in-Some-clause-seen c =
