@@ -29,8 +29,8 @@ fn accept(market: &mut MarketCell, wallets: &mut [WalletCell], asked: &Asked, pl
     ensures wallets { wallets.new ≡ cells_paid asked.now.row.now asked.now.seen.now market.old wallets.old }
 {
     let amounts = amounts_of(plan);
-    let (coin, pc) = debits(wallets, asked, &amounts);
-    let payouts = market.carry_out(asked.row, asked.seen, plan, coin, pc);
+    let deposits = debits(wallets, asked, &amounts);
+    let payouts = market.carry_out(asked.row, asked.seen, plan, &amounts, deposits);
     credits(wallets, asked, payouts);
 }
 
@@ -52,7 +52,7 @@ fn answer(market: &mut MarketCell, wallets: &mut [WalletCell], asked: &Asked)
 /// deposits and payouts move as parcels, and it looks at each other wallet that it names. It takes no memory.
 ///
 /// Where the row is refused, nothing moves: the journals say that it was refused and that it looked at its wallets.
-pub fn act(
+pub(crate) fn act(
     market: &mut MarketCell,
     wallets: &mut [WalletCell],
     row: &Row,
@@ -84,7 +84,7 @@ pub fn act(
 
 /// A take is held back, for a row whose item is refused elsewhere: its market writes down that nothing was to do, and
 /// it looks at the wallets that it names. No account changes.
-pub fn hold(
+pub(crate) fn hold(
     market: &mut MarketCell,
     wallets: &mut [WalletCell],
     row: &Row,

@@ -98,7 +98,7 @@ pub fn a_script_that_is_cut_is_a_chain()
     ensures { (most : ℕ) (counts : List ℕ) (script : PlainScript) (parts : List PlainScript)
         → (outcomes : List PlainOutcome) → AreCutBy most counts (numbers_of script.rows)
         → map (λ (part : PlainScript). part.rows) parts ≡ parts_by counts script.rows
-        → AreLinked script.program script.start parts outcomes → IsChainOf script parts outcomes }
+        → AreLinked script.limits script.program script.start parts outcomes → IsChainOf script parts outcomes }
 {}
 
 /// What an audit finds of markets, by each of its rules, it finds in their shards; and what it compares a mint's supply with is what

@@ -19,7 +19,7 @@ impl Draft {
     fn is_full(&self, number: u32) -> bool
         ensures { result ≡ spec.is_full (draft_of self.now) number }
     {
-        100_000 <= self.items || number == u32::MAX
+        self.limits.items <= self.items || number == u32::MAX
     }
 
     /// Adds an instruction row of this number, whose market and wallets stand at these places.

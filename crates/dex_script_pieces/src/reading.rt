@@ -2,6 +2,7 @@
 
 ghost use denote.Param.Send.{IsSync};
 ghost use Rattle.std.specs.Prelude.{◌≡◌, ◌≤◌, All, IfOk, OnOk, true};
+ghost use Rattle.dex_state.specs.declared.limits.TheConstants.{STANDARD as standard};
 ghost use Rattle.dex_script_types.specs.Facts.{HasNoSwap};
 ghost use Rattle.dex_script.specs.Pieces.{IsUnderway, number_after};
 ghost use Rattle.dex_script.specs.Scripts.{draft_after};
@@ -14,6 +15,7 @@ use crate::piece::{Piece, read_behind};
 use dex_rows::plain::PlainRows;
 use dex_rows::records::Rows;
 use dex_script::{ReadRows, Reader, Script, ScriptError, read_rows, read_script_by};
+use dex_state::STANDARD;
 use std::alloc::{AllocError, Global};
 use std::marker::Sync;
 use std::thread::Threads;
@@ -34,10 +36,10 @@ pub fn read_script<R: Threads + Sync>(
     batch: bool,
     threads: usize,
 ) -> Result<Script, ScriptError>
-    ensures told { TellsScript result batch bytes.now }
+    ensures told { TellsScript standard result batch bytes.now }
     ensures apart { IfOk result (λ script. batch ≡ true → HasNoSwap script.rows) }
 {
-    read_script_by(alloc, bytes, batch, &InPieces { rt, threads })
+    read_script_by(alloc, bytes, batch, &STANDARD, &InPieces { rt, threads })
 }
 
 // Rows are read in pieces, at most twice as many as these threads, while markets are made, on threads of this runtime.
