@@ -1,6 +1,6 @@
-"""Proves crates side by side, those with the longest chain above them first. Each is proved in a room of its own, which has
-further names of its files and of what is built below it, since a command of the toolchain keeps others out of all folders that
-it reads."""
+"""Proves crates side by side, those with the longest chain above them first. Each is proved in a room of its own, which
+has further names of its files and of what is built below it, since a command of the toolchain keeps others out of all
+folders that it reads."""
 
 import contextlib
 import fcntl
@@ -16,7 +16,7 @@ from graphlib import TopologicalSorter
 from build_tools.crates import ROOT, UNKNOWN, chains, is_old, read_lines, read_rows, read_uses, time_of
 
 ROOMS = f"{ROOT}/crates/dex_program/out/rooms"
-TURN = f"{ROOT}/crates/dex_program/out/turn"  # who has the turn of this folder: the command's process, and those of its proofs
+TURN = f"{ROOT}/crates/dex_program/out/turn"  # the processes that have the turn of this folder, the command's first
 SECONDS = f"{ROOT}/tests/data/first_seconds"  # what the first proof of each crate took on a quick machine
 SPELL = 0.0348  # what one spell of `pace` takes where dex_types takes 118 processor seconds
 SIGNALS = signal.SIGINT, signal.SIGTERM, signal.SIGHUP
@@ -24,10 +24,6 @@ SIGNALS = signal.SIGINT, signal.SIGTERM, signal.SIGHUP
 
 class Failure(Exception):
     """Why a build ends without a program, and, where there is one, the log of which the last lines tell more."""
-
-
-class Stopped(Exception):
-    """The signal that came."""
 
 
 def out_of(name):
@@ -78,13 +74,19 @@ def pace():
     return min(spells) / SPELL
 
 
+def without_keys():
+    for it in (signal.SIGINT, signal.SIGQUIT):
+        signal.signal(it, signal.SIG_IGN)
+
+
 def told_holders():
     """Who has the turn of this folder, and how to go on without it, in words."""
-    own, *proofs = [it for it in read(TURN).split() if os.path.exists(f"/proc/{it}")] or [""]
-    if own and own == read(TURN).split()[0]:
+    own, *proofs = read(TURN).split() or ["none"]
+    if os.path.exists(f"/proc/{own}"):
         return f" (process {own})"
-    left = " ".join([own, *proofs])
-    return f" (it was killed, and its proofs go on: processes {left}; what they prove is kept; kill {left} ends them)" if own else ""
+    left = " ".join(it for it in proofs if os.path.exists(f"/proc/{it}"))
+    told = f"its proofs go on: processes {left}; what they prove is kept; kill {left} ends them"
+    return f" (it was killed, and {told})" if left else ""
 
 
 class Build:
@@ -95,7 +97,8 @@ class Build:
         told = read_rows(SECONDS)
         self.seconds = {it: int(told[it][0]) if it in told else UNKNOWN for it in self.uses}
         self.chains = chains(self.uses, self.seconds)
-        self.built, self.work, self.failed, self.waits, self.turn = set(), {}, None, set(), None
+        self.built, self.work, self.waits = set(), {}, set()
+        self.failed = self.signal = self.turn = None
 
     def tell(self, text, when=""):
         say(f"{self.name}: {time.strftime(when)}{text}")
@@ -112,9 +115,9 @@ class Build:
                 self.built.add(name)
 
     def left(self):
-        """The crates that are not proved, and their seconds on a quick machine: of the longest chain, or of all by all processors."""
+        """The crates that are not proved, and for how long on a quick machine: a chain, or all by all processors."""
         names = [it for it in self.uses if it not in self.built]
-        return names, max(max((self.chains[it] for it in names), default=0), sum(self.seconds[it] for it in names) // self.most)
+        return names, max([sum(self.seconds[it] for it in names) // self.most, *(self.chains[it] for it in names)])
 
     def told_left(self):
         """How long what is left may take, at the pace that was seen up to now."""
@@ -151,7 +154,7 @@ class Build:
         self.leave_rooms()
 
     def make_room(self, name):
-        """Makes a crate's room, with the crates that are proved, and moves into it what the crate keeps for its next proof."""
+        """Makes a crate's room, with the crates that are proved; what it keeps for its next proof is moved into it."""
         room, names, lines = f"{ROOMS}/{name}", [it for it in self.uses if it in self.built or it == name], read_lines()
         os.makedirs(room)
         write(f"{room}/kit", f"{self.kit}\n")
@@ -172,13 +175,15 @@ class Build:
         with self.alone_in(name) as own:
             move(f"{own}/incremental", f"{room}/crates/{name}/out/incremental")
 
-    def leave_room(self, name):
+    def leave_room(self, name, is_kits=False):
         """Moves what a crate's room holds of its proof to the crate, and ends the room."""
         room, out = f"{ROOMS}/{name}", f"{ROOMS}/{name}/crates/{name}/out"
         if os.path.isdir(out_of(name)):
             with self.alone_in(name) as own:
-                if time_of(f"{out}/rlib/stamp") > time_of(f"{own}/rlib/stamp"):
+                is_newer = time_of(f"{out}/rlib/stamp") > time_of(f"{own}/rlib/stamp")
+                if is_newer:
                     move(f"{out}/rlib", f"{own}/rlib")
+                if is_newer or is_kits:
                     move(f"{room}/kit", f"{own}/kit")
                 move(f"{out}/incremental", f"{own}/incremental")
         shutil.rmtree(room)
@@ -190,14 +195,24 @@ class Build:
     # The proofs
 
     def run(self, words, name, jobs, folder, log):
-        """Begins a command, which has the turn too, and which no key of the terminal ends but through this process. A signal that comes
-        meanwhile is heard behind it."""
-        with open(log, "wb") as said, held_back():
-            how = {"cwd": folder, "stdin": subprocess.DEVNULL, "stdout": said, "stderr": subprocess.STDOUT}
-            process = subprocess.Popen([*words, "--jobs", str(jobs)], **how, pass_fds=[self.turn], preexec_fn=without_keys)
-            self.work[name] = process, jobs, time.monotonic()
+        """Begins a command, which has the turn too, and which no key of the terminal ends but through this process."""
+        how = {"cwd": folder, "stdin": subprocess.DEVNULL, "stderr": subprocess.STDOUT, "preexec_fn": without_keys}
+        with open(log, "wb") as said:
+            process = subprocess.Popen([*words, "--jobs", str(jobs)], stdout=said, pass_fds=[self.turn], **how)
+        self.work[name] = process, jobs, time.monotonic()
         write(TURN, f"{process.pid}\n", "a")
         return process
+
+    def wait(self):
+        """Waits a moment. A signal that came ends the build."""
+        time.sleep(0.1)
+        if self.signal:
+            raise Failure("stopped")
+
+    def hear(self, number, _):
+        """Takes note of a signal. A second one ends this process."""
+        signal.signal(number, signal.SIG_DFL)
+        self.signal = number
 
     def begin(self, name, jobs):
         self.make_room(name)
@@ -206,16 +221,14 @@ class Build:
     def end(self, name):
         """Takes note of a crate whose proof ended."""
         process, _, begun = self.work.pop(name)
-        stamp = f"{ROOMS}/{name}/crates/{name}/out/rlib/stamp"
-        is_proved = process.returncode == 0 and os.path.isfile(stamp)
-        if is_proved and time_of(stamp) <= time_of(f"{out_of(name)}/rlib/stamp"):
-            move(f"{ROOMS}/{name}/kit", f"{out_of(name)}/kit")  # rt found the library as it should be
-        self.leave_room(name)
+        is_proved = process.returncode == 0 and os.path.isfile(f"{ROOMS}/{name}/crates/{name}/out/rlib/stamp")
+        self.leave_room(name, is_proved)
         if is_proved:
             self.built.add(name)
             if re.search(r"^logic=proved", read(f"{out_of(name)}/build.log"), re.M):
                 write(f"{out_of(self.top)}/seconds", f"{name} {round(time.monotonic() - begun)}\n", "a")
-                self.tell(f"{name} is proved; {len(self.left()[0])} of {len(self.uses)} left, {self.told_left()}", "%T ")
+                left = f"{len(self.left()[0])} of {len(self.uses)} left, {self.told_left()}"
+                self.tell(f"{name} is proved; {left}", "%T ")
             return
         self.failed = self.failed or name
         if self.work:
@@ -232,9 +245,9 @@ class Build:
         return is_old(f"{out_of(self.top)}/begun", self.uses)
 
     def prove_all(self):
-        """Proves all crates but the top one, as many at once as there are processors. Once one is not proved, or a source changes,
-        no other is begun. Those that stand on no other share the processors that are free; the others, which load many libraries,
-        gain nothing by further jobs."""
+        """Proves all crates but the top one, as many at once as there are processors. Once one is not proved, or a
+        source changes, no other is begun. Those that stand on no other share the processors that are free; the others,
+        which load many libraries, gain nothing by further jobs."""
         graph = TopologicalSorter({it: set(self.uses[it]) - self.built for it in self.left()[0] if it != self.top})
         graph.prepare()
         ready, is_open = [], True
@@ -246,7 +259,7 @@ class Build:
                     free = self.most - sum(jobs for _, jobs, _ in self.work.values())
                     self.begin(ready[0], 1 if self.uses[ready[0]] else max(1, free // len(ready)))
                     del ready[0]
-            time.sleep(0.1)
+            self.wait()
             for name in list(self.work):
                 self.tell_wait(name)
                 if self.work[name][0].poll() is not None:
@@ -261,17 +274,17 @@ class Build:
             raise Failure("a source changed while it was proved, so begin again")
 
     def build(self, finish):
-        """Proves what is not proved of the crates below, and has the top crate built. It raises Failure, Stopped or OSError."""
+        """Proves what is not proved of the crates below, and has the top crate built. It raises Failure or OSError."""
         if not shutil.which("rt"):
             raise Failure("there is no command rt: it comes with the Rattle toolchain whose version README.md names; "
                           "put its folder bin on PATH")
         for it in SIGNALS:
-            signal.signal(it, stopped)
+            signal.signal(it, self.hear)
         os.makedirs(out_of(self.top), exist_ok=True)
         write(f"{out_of(self.top)}/begun", "")
         self.kit = told_of(["rt", "version"])
-        memory = re.search(r"^MemAvailable: *(\d+) kB$", read("/proc/meminfo"), re.M)
-        self.most = max(1, min(int(told_of(["nproc"])), int(memory[1] if memory else 4_000_000) // 2_000_000))  # 2 GB for each
+        memory = re.findall(r"^MemAvailable: *(\d+) kB$", read("/proc/meminfo"), re.M) or [4_000_000]
+        self.most = max(1, min(int(told_of(["nproc"])), int(memory[0]) // 2_000_000))  # 2 GB for each
         self.start, self.pace = time.monotonic(), pace()
         self.guess_built()
         names, self.whole = self.left()
@@ -287,14 +300,14 @@ class Build:
 
     def build_top(self, words, log):
         """Has the toolchain prove and build the top crate in its own folder, by all processors."""
-        status = self.run(words, self.top, self.most, f"{ROOT}/crates/{self.top}", log).wait()
+        process = self.run(words, self.top, self.most, f"{ROOT}/crates/{self.top}", log)
+        while process.poll() is None:
+            self.wait()
         self.work.clear()
-        return status
+        return process.returncode
 
     def stop(self):
-        """Ends all that is at work. A second signal ends this too."""
-        for it in SIGNALS:
-            signal.signal(it, signal.SIG_DFL)
+        """Ends all that is at work."""
         for process, *_ in self.work.values():
             process.terminate()
         for process, *_ in self.work.values():
@@ -305,17 +318,15 @@ class Build:
 
     def ends_of(self, does):
         """Does a build, and ends with status 70, or that of a signal, where it comes to nothing; it says why."""
-        nothing = "nothing was run" if self.name == "dex" else f"{self.what} is not built"
+        command, nothing = "library/build", f"{self.what} is not built"
+        if self.name == "dex":
+            command, nothing = "./dex", "nothing was run"
         try:
             try:
                 return does()
-            except (Failure, Stopped, OSError):
+            except (Failure, OSError):
                 self.stop()
                 raise
-        except Stopped as signalled:
-            command = "./dex" if self.name == "dex" else "library/build"
-            self.tell(f"stopped, and {nothing}; what is proved is kept, and the next {command} goes on from there")
-            raise SystemExit(128 + signalled.args[0]) from None
         except Failure as failure:
             why, *log = failure.args
             for it in log:
@@ -324,7 +335,11 @@ class Build:
             if shutil.disk_usage(ROOT).free < 1_000_000:
                 self.tell("the disk is full")
         except OSError as error:
-            why = f"{os.path.relpath(os.fsdecode(error.filename), ROOT) if error.filename else 'this folder'}: {error.strerror}"
+            where = os.path.relpath(os.fsdecode(error.filename), ROOT) if error.filename else "this folder"
+            why = f"{where}: {error.strerror}"
+        if self.signal:
+            self.tell(f"stopped, and {nothing}; what is proved is kept, and the next {command} goes on from there")
+            raise SystemExit(128 + self.signal)
         self.tell(f"{why}; {nothing}")
         raise SystemExit(70)
 
@@ -332,33 +347,13 @@ class Build:
         """Removes what all crates keep for their next proofs, where what they are for is built."""
         self.take_turn()
         if not is_built():
-            raise Failure("nothing was removed: the program is not built, and what the crates keep makes its build shorter")
+            raise Failure("nothing was removed: the program is not built, and what the crates keep shortens its build")
         freed = 0
         for name in read_lines():
             if os.path.isdir(f"{out_of(name)}/incremental"):
                 with self.alone_in(name) as own:
-                    freed += sum(os.lstat(f"{at}/{it}").st_blocks for at, _, files in os.walk(f"{own}/incremental") for it in files)
+                    walk = os.walk(f"{own}/incremental")
+                    freed += sum(os.lstat(f"{at}/{it}").st_blocks for at, _, files in walk for it in files)
                     shutil.rmtree(f"{own}/incremental")
-        self.tell(f"removed {freed * 512 // 1_048_576} MB: what the crates kept of their proofs (crates/*/out/incremental)")
+        self.tell(f"removed {freed * 512 // 2**20} MB: what the crates kept of their proofs (crates/*/out/incremental)")
         self.tell("the program and the libraries stay; a crate that changes is proved from nothing the next time")
-
-
-@contextlib.contextmanager
-def held_back():
-    """No signal is heard meanwhile."""
-    signal.pthread_sigmask(signal.SIG_BLOCK, SIGNALS)
-    try:
-        yield
-    finally:
-        signal.pthread_sigmask(signal.SIG_UNBLOCK, SIGNALS)
-
-
-def without_keys():
-    """A command hears signals, but none of a key."""
-    for it in (signal.SIGINT, signal.SIGQUIT):
-        signal.signal(it, signal.SIG_IGN)
-    signal.pthread_sigmask(signal.SIG_UNBLOCK, SIGNALS)
-
-
-def stopped(number, _):
-    raise Stopped(number)

@@ -1,6 +1,6 @@
 #!/usr/bin/env python3
-"""The crates of crates.txt: what each uses, how long each takes, and what it is made from. build_tools/crates.py NAME prints
-the crates that a crate stands on and itself, the lowest first."""
+"""The crates of crates.txt: what each uses, how long each takes, and what it is made from. build_tools/crates.py NAME
+prints the crates that a crate stands on and itself, the lowest first."""
 
 import os
 import sys
