@@ -12,7 +12,7 @@ use Rattle.dex_audit_rules.specs.declared.finding.Finding.{Finding}
 use Rattle.dex_audit_rules.specs.declared.market.Rule.{Rule}
 use Rattle.dex_state.specs.Conserved.{held_of}
 use Rattle.dex_token.specs.MintAccount.{mint_words}
-use Rattle.dex_parts.specs.Audits.{IsFoundIn}
+use Rattle.dex_shard_laws.specs.Audits.{IsFoundIn}
 use Rattle.dex_parts.specs.Shards.{Sharding, accounts_in, sum_over}
 use Rattle.dex_parts.proofs.ShardSums.{held-over}
 

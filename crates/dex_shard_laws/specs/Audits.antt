@@ -9,4 +9,5 @@ use Rattle.dex_parts.specs.Shards.{Sharding, markets_in}
 
 -- one of the first so many shards has the finding, of its markets alone
 abbrev pub IsFoundIn : Sharding → ℕ → Rule → List PlainMarketAccounts → Finding → Type 0
-IsFoundIn sharding count rule markets finding = (shard : ℕ) × (shard < count) × Contains (told rule (markets_in sharding shard markets)) finding
+IsFoundIn sharding count rule markets finding =
+    (shard : ℕ) × (shard < count) × Contains (told rule (markets_in sharding shard markets)) finding

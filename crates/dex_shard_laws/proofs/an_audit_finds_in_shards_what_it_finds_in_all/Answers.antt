@@ -1,5 +1,5 @@
-use Rattle.dex_parts.proofs.AuditLaws.{found-in-shards, supplies-of-shards}
-use Rattle.dex_parts.proofs.laws.an_audit_finds_in_shards_what_it_finds_in_all.Goals as goal
+use Rattle.dex_shard_laws.proofs.AuditLaws.{found-in-shards, supplies-of-shards}
+use Rattle.dex_shard_laws.proofs.an_audit_finds_in_shards_what_it_finds_in_all.Goals as goal
 
 pub returns-clause-markets : goal.returns-clause-markets
 returns-clause-markets c = found-in-shards
