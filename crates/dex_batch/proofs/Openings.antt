@@ -31,9 +31,9 @@ use Rattle.dex_script_types.specs.Known.{has_account}
 use Rattle.dex_script_types.specs.Starts.{market_state, wallet_state}
 use Rattle.dex_script_types.proofs.Apart.{markets-distinct, wallets-distinct}
 use Rattle.dex_script_types.proofs.Roles.{roles-all}
-use Rattle.dex_team.specs.Acting.{AreDistinct, AreDistinctCells, CanAllAct, HaveActed, IsHere, market_addresses, wallet_addresses}
-use Rattle.dex_team.specs.Rooms.{MarketRoom, WalletRoom}
-use Rattle.dex_team.proofs.RoomLaws.{listing-address, market_room, wallet_room}
+use Rattle.dex_batch.specs.Acting.{AreDistinct, AreDistinctCells, CanAllAct, HaveActed, IsHere, market_addresses, wallet_addresses}
+use Rattle.dex_batch.specs.Rooms.{MarketRoom, WalletRoom}
+use Rattle.dex_batch.proofs.RoomLaws.{listing-address, market_room, wallet_room}
 
 module _ (script : PlainScript) (is : IsScript script) where
   abbrev first : CellsState

@@ -114,8 +114,14 @@ impl<'a, P: Pace> Acts for SwapLegs<'a, P> {
         let one_stamp = stamp.next();
         let two_stamp = stamp.next();
         let TwoMarkets { first, second } = markets;
-        let (one, two) =
-            BankMarket::step_two(first, second, hands, bank.terms(), &legs, &one_stamp);
+        let (one, two) = BankMarket::step_two(
+            first,
+            second,
+            hands,
+            bank.terms(),
+            &legs,
+            &one_stamp,
+        );
         TwoRecords {
             first: StampedRecord::of(one, one_stamp),
             second: StampedRecord::of(two, two_stamp),
