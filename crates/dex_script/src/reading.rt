@@ -204,6 +204,7 @@ fn bytes_left(rows: &Rows<'_>) -> usize {
 }
 
 /// The dump at the start, whose accounts have no findings.
+#[tactic(auto, using(dex_state::proofs::TheLimits::widened))]
 fn read_dump(
     alloc: Global,
     rows: &mut Rows<'_>,
