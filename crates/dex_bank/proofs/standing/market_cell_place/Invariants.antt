@@ -1,7 +1,7 @@
 use Rattle.std.proofs.Common.{◌≡◌, ℕ, ◌<◌, true, false, drop, get_or}
 use Rattle.dex_world.proofs.Common.{is_same}
 use Rattle.dex_bank.proofs.Common.{MarketCellState, is_market}
-use Rattle.dex_bank.proofs.standing.place_of.Given as goal
+use Rattle.dex_bank.proofs.standing.market_cell_place.Given as goal
 
 -- it is none of those that were passed, and so one of the others
 abbrev pub invariant-loop-place : goal.invariant-loop-place
