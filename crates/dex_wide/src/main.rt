@@ -7,7 +7,7 @@ ghost use Rattle.dex_words.specs.Threads.{of_plain};
 use dex_answers::{Status, StatusText};
 use dex_commands::{Stop, answer_within, written, written_each};
 use dex_io::{StdSink, StdSource, read_all};
-use dex_state::WIDE;
+use dex_types::WIDE;
 use dex_words::{PlainCommand, WordsError, read_words};
 use std::alloc::Global;
 use std::env;
