@@ -78,6 +78,7 @@ impl Cells {
             places,
             lanes: _,
             program,
+            limits: _,
         } = script;
         let cells = opened(alloc, start, &rows, &places, program)?;
         Ok((cells, rows, places))

@@ -111,7 +111,7 @@ module _ (script : PlainScript) (is : IsScript script) where
       is-left script left (are-of-script script left (so.kept ∙ opened-opened script first refl)) are (items_of script.rows) is.start.accepted
       (so.acted ∙ ap (fold script.rows) (opened-world script) ∙ sym (script-acts script single))
 
-  -- the same of cells and rows that are these
+  -- cells and rows that are these can all act
   pub can-cells : (cells : CellsState) → cells ≡ first → (rows : List PlainRow) → rows ≡ script.rows → (places : List RowPlaces) → ArePlacedIn cells rows places
       → CanAllAct rows places cells
   can-cells cells made rows same places placed =

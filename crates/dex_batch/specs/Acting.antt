@@ -39,7 +39,8 @@ pub record AreDistinctCells (cells : CellsState) : Type 0 where
 abbrev pub HaveTheirAddress : CellsState → Type 0
 HaveTheirAddress cells = All (λ (cell : MarketCellState). cell.accounts.address ≡ cell.start.address) cells.markets
 
--- all these rows can act on the cells: what they name is here, at these places and no other, with room for their entries
+-- all these rows can act on the cells: what they name is here, at these places and no other, with room for their
+-- entries
 pub record CanAllAct (rows : List PlainRow) (places : List RowPlaces) (bank : CellsState) : Type 0 where
   pub their : HaveTheirAddress bank
   pub apart : AreDistinctCells bank

@@ -110,6 +110,7 @@ pub(crate) fn gather<T: Drop>(
         let number = numbers[place];
         match take_from(&mut piles, number) {
             Some(item) => add(&mut items, item)?,
+            // A pile has as many items as its number stands here.
             None => unreachable!(),
         }
     }

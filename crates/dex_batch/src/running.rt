@@ -66,7 +66,7 @@ pub fn run_batch_with_rows<R: Threads + Sync, P: Pace + Sync>(
     }
 }
 
-/// The same without the rows.
+/// Runs a batch and answers the outcome alone.
 pub fn run_batch<R: Threads + Sync, P: Pace + Sync>(
     rt: &R,
     alloc: Global,

@@ -39,7 +39,8 @@ pub record IsBlock (block : PlainBlock) : Type 0 where
   pub clock : ℤ
   pub rows : List Fields
   pub small : first ≤ 2 ^ 32 - 1
-  pub read : draft_after (no_rows_of block.draft.script.start block.draft.script.program clock) first rows ≡ Ok block.draft
+  pub read :
+      draft_after (no_rows_of block.draft.script.start block.draft.script.program clock) first rows ≡ Ok block.draft
   pub next : block.number ≡ number_after first rows
   pub start : IsStart block.draft.script.start
 

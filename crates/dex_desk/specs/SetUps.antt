@@ -25,7 +25,8 @@ time_stated before _ = before
 
 -- the clock behind a row
 abbrev pub clock_behind : ℤ → Fields → ℤ
-clock_behind before row = if bytes_eq (field_at row 0) (codes "clock") then time_stated before (statement_of row) else before
+clock_behind before row =
+    if bytes_eq (field_at row 0) (codes "clock") then time_stated before (statement_of row) else before
 
 -- the clock behind rows
 abbrev pub clock_after : ℤ → List Fields → ℤ

@@ -1,6 +1,7 @@
 //! Rows that were accepted and have not acted yet, with the accounts on which they are to act.
 
-ghost use Rattle.std.specs.Prelude.{◌≡◌, ◌==◌, ◌||◌, ◌^◌, ◌-◌, nat_le, IfOk, IfSome, Ok, length, option_copied, option_map};
+ghost use Rattle.std.specs.Prelude.{◌≡◌, ◌==◌, ◌||◌, ◌^◌, ◌-◌, nat_le, IfOk, IfSome, Ok, length};
+ghost use Rattle.std.specs.Prelude.{option_copied, option_map};
 ghost use Rattle.std.specs.List.{position};
 ghost use Rattle.dex_types.specs.declared.account_bytes.MarketAccounts.{MarketAccounts as AccountsOf};
 ghost use Rattle.dex_types.specs.Accounts.{accounts_of, market_accounts_of};
@@ -264,8 +265,8 @@ fn exceeds_swap(
     first: &InstructionWords,
     second: &InstructionWords,
 ) -> bool
-    ensures { result
-        ≡ (nat_le 100000 items || (number == 2 ^ 32 - 1) || rules.exceeds_row first.now || rules.exceeds_row second.now) }
+    ensures { result ≡ (nat_le 100000 items || (number == 2 ^ 32 - 1)
+        || rules.exceeds_row first.now || rules.exceeds_row second.now) }
 {
     is_full(items, number) || exceeds_row(first) || exceeds_row(second)
 }

@@ -88,6 +88,7 @@ impl<'a, P: Pace> Acts for SwapLegs<'a, P> {
             Some(place) => place,
             None => match place_in(self.second, self.second_places, address) {
                 Some(place) => place,
+                // Only wallets that a leg names are asked for.
                 None => unreachable!(),
             },
         }

@@ -125,11 +125,12 @@ impl Outline {
 /// The place of an address that is among these.
 fn place_among(addresses: &[Address], address: Address) -> u16
     requires known { list_any (is_same address) addresses.now ≡ true }
-    requires few { length addresses.now ≤ 256 }
+    requires few { length addresses.now ≤ 65535 }
     ensures { position (is_same address) addresses.now ≡ Some result }
 {
     match find(addresses, address) {
         Some(place) => place as u16,
+        // By the condition it is among them.
         None => unreachable!(),
     }
 }

@@ -11,7 +11,7 @@ use Rattle.dex_batch.proofs.shares.act_apart.Goals as goal
 are-parts : {A : Type 0} (told numbers : List ℕ) (items whole : List A) (parts : List (List A)) → told ≡ numbers → items ≡ whole → AreParts A told items parts → AreParts A numbers whole parts
 are-parts {A} told numbers items whole parts same also are = subst (λ (ns : List ℕ). AreParts A ns whole parts) same (subst (λ (xs : List A). AreParts A told xs parts) also are)
 
--- the same of what is gathered
+-- items are parts of what is gathered
 are-home : {A : Type 0} (told numbers : List ℕ) (whole : List A) (piles parts : List (List A)) → told ≡ numbers → piles ≡ parts → AreParts A told whole piles → AreParts A numbers whole parts
 are-home {A} told numbers whole piles parts same also are =
     subst (λ (ns : List ℕ). AreParts A ns whole parts) same (subst (AreParts A told whole) also are)
