@@ -60,6 +60,15 @@ uint8_t dex_make(uint64_t number, uint32_t rows, uint8_t *room, size_t room_size
 /* The summary of what that script leaves. */
 uint8_t dex_bulk(uint64_t number, uint32_t rows, uint8_t *room, size_t room_size, size_t *size);
 
+/* The same within the widest limits: 65,535 open-orders accounts of a market, 65,535 wallets, 256 mints, 256 markets and 2^32 - 1
+ * instruction rows. */
+uint8_t dex_replay_wide(const uint8_t *script, size_t length, uint8_t *room, size_t room_size, size_t *size);
+uint8_t dex_dump_wide(const uint8_t *script, size_t length, uint8_t *room, size_t room_size, size_t *size);
+uint8_t dex_audit_wide(const uint8_t *dump, size_t length, uint8_t *room, size_t room_size, size_t *size);
+uint8_t dex_worth_wide(const uint8_t *script, size_t length, uint8_t *room, size_t room_size, size_t *size);
+uint8_t dex_migrate_wide(uint32_t nodes, uint32_t events, const uint8_t *dump, size_t length, uint8_t *room, size_t room_size,
+                         size_t *size);
+
 /* Where a script may be cut into shards, which share no market and no wallet: lines `market SHARD` for each market and `wallet SHARD` for each
  * wallet, in declared order, `row SHARD` for each instruction row in its order (two for a swap), and `end`. A shard's number is below
  * that of markets, or 0. A wallet that no row names is of shard 0. */
@@ -69,9 +78,13 @@ uint8_t dex_shards(const uint8_t *script, size_t length, uint8_t *room, size_t r
  * swap, which counts two and is never parted): lines `part COUNT`, and `end`. DEX_USAGE where it is 0. */
 uint8_t dex_chained(uint32_t rows, const uint8_t *script, size_t length, uint8_t *room, size_t room_size, size_t *size);
 
+/* Both within the widest limits. */
+uint8_t dex_shards_wide(const uint8_t *script, size_t length, uint8_t *room, size_t room_size, size_t *size);
+uint8_t dex_chained_wide(uint32_t rows, const uint8_t *script, size_t length, uint8_t *room, size_t room_size, size_t *size);
+
 /* ---- with memory from malloc: nothing below is proved */
 
-/* A function of bytes alone: dex_replay, dex_dump, dex_audit, dex_worth or dex_shards. */
+/* A function of bytes alone: dex_replay, dex_dump, dex_audit, dex_worth or dex_shards, or one of them within the widest limits. */
 typedef uint8_t dex_command(const uint8_t *bytes, size_t length, uint8_t *room, size_t room_size, size_t *size);
 
 /* Room that is enough for most texts of so many bytes of input. */

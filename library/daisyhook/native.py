@@ -19,6 +19,8 @@ FRONTS = {
     'dex_migrate': SIZES + INPUT, 'dex_make': MADE, 'dex_bulk': MADE,
     'dex_shards': INPUT, 'dex_chained': ROWS + INPUT,
 }
+# The same within the widest limits.
+FRONTS.update({f'{name}_wide': front for name, front in list(FRONTS.items()) if front is not MADE})
 ROOM = (ctypes.POINTER(ctypes.c_char), SIZE, ctypes.POINTER(SIZE))
 
 # What a first room has beside five times the input: enough for the accounts of a small script.

@@ -10,4 +10,4 @@ mod payouts;
 pub use amounts::amounts_of;
 pub use dex_decide::{Deposit, Plan};
 pub use market_cell::MarketCell;
-pub use payouts::Payouts;
+pub use payouts::{Deposits, Payouts};

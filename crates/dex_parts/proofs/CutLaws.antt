@@ -283,7 +283,7 @@ parts-cut most (count ∷ counts) rows (part ∷ parts) cut same =
     )
 
 pub is-chain : (most : ℕ) (counts : List ℕ) (script : PlainScript) (parts : List PlainScript) (outcomes : List PlainOutcome) → AreCutBy most counts (numbers_of script.rows)
-    → map (λ (part : PlainScript). part.rows) parts ≡ parts_by counts script.rows → AreLinked script.program script.start parts outcomes → IsChainOf script parts outcomes
+    → map (λ (part : PlainScript). part.rows) parts ≡ parts_by counts script.rows → AreLinked script.limits script.program script.start parts outcomes → IsChainOf script parts outcomes
 is-chain most counts script parts outcomes cut same links =
     let are = parts-cut most counts script.rows parts cut same in
     record { rows = are.0; cut = are.1; links = links }

@@ -87,7 +87,7 @@ pub fn a_script_that_is_cut_is_a_chain()
     ensures chain { (most : ℕ) (counts : List ℕ) (script : PlainScript) (parts : List PlainScript)
         → (outcomes : List PlainOutcome) → AreCutBy most counts (numbers_of script.rows)
         → map (λ (part : PlainScript). part.rows) parts ≡ parts_by counts script.rows
-        → AreLinked script.program script.start parts outcomes → IsChainOf script parts outcomes }
+        → AreLinked script.limits script.program script.start parts outcomes → IsChainOf script parts outcomes }
     ensures one { (most : ℕ) (counts others numbers : List ℕ) → 0 < most → AreCutBy most counts numbers
         → AreCutBy most others numbers → counts ≡ others }
 {}

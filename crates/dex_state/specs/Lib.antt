@@ -1,3 +1,4 @@
+pub mod Limits
 pub mod Addresses
 pub mod Accepted
 pub mod Held

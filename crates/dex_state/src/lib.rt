@@ -2,6 +2,8 @@
 //! No text.
 #![tactic(auto)]
 
+mod limits;
 mod outcome;
 
+pub use limits::{Limits, STANDARD, WIDE};
 pub use outcome::{MarketJournal, Outcome, WalletJournal};
