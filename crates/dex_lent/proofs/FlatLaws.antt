@@ -1,13 +1,15 @@
 -- Accounts one after another in one list of bytes: the one at a place, and what other data in it leave.
-use Rattle.std.proofs.Common.{◌≡◌, ℕ, zero, suc, ◌+◌, ◌-◌, ◌*◌, ◌/◌, ◌<◌, ◌≤◌, List, [], ◌∷◌, ◌++◌, take, drop, length, set, get_or, Some, refl, sym, ap, ◌∙◌, arith}
-use Rattle.std.proofs.lemmas.List.{append_assoc, drop_at, length-append, length-drop, length-take-le, take-append-drop, take-take, take_at}
+use Rattle.std.proofs.Common.{◌≡◌, ℕ, zero, suc, ◌+◌, ◌-◌, ◌*◌, ◌/◌, ◌<◌, ◌≤◌, List, [], ◌∷◌, ◌++◌, take, drop, length, set, get_or, Some, true, false, ⊎_elim, refl, sym, ap, ◌∙◌, arith}
+use Rattle.std.proofs.lemmas.List.{append_assoc, drop_at, length-append, length-drop, drop-drop, length-take-le, take-append-drop, take-take, take_at}
+use Rattle.std.proofs.lemmas.Bool.{cases_Bool, cond-false, cond-true}
 use Rattle.std.proofs.Math.Seq.{drop-append-add, take-append-add}
+use borrow.Rule.Slice.PartMut.{put_mid}
 use Rattle.dex_types.specs.Accounts.{PlainAccount}
 use Rattle.dex_types.specs.declared.addresses.Address.{Address}
 use Rattle.dex_fields.specs.Bytes.{bytes_in}
 use Rattle.dex_types.specs.Addresses.{is_same}
 use Rattle.dex_lent.specs.declared.flat.TheConstants.{ADDRESS}
-use Rattle.dex_accounts.specs.Owners.{IsFirst}
+use Rattle.dex_accounts.specs.Owners.{IsFirst, bytes_at, changed_at}
 use Rattle.dex_accounts.proofs.OwnerLaws.{bytes_at-first, changed_at-first}
 use Rattle.dex_lent.specs.Flat.{IsDataAt, account_in, accounts_from, accounts_in, record_in, with_data}
 
@@ -153,3 +155,46 @@ address-in address place bytes lies got default lt is read =
     ap (λ (a : PlainAccount). is_same address a.address) (account-in place bytes default lt)
     ∙ ap (λ (l : List ℕ). is_same address (record { 0 = take 32 l })) (sym is)
     ∙ ap (λ (l : List ℕ). is_same address (record { 0 = l })) (sym read)
+
+-- ---- what a write into the data of an account leaves, as the check writes it down
+
+-- the bytes that are written to are that account's
+pub here-data : (address : Address) (bytes old : List ℕ) (at k : ℕ) → IsDataAt address bytes at → bytes_at address (accounts_in bytes) ≡ Some old → k ≡ 3228
+    → old ≡ take k (drop at bytes)
+here-data address bytes old at k is found size =
+    let same : Some old ≡ Some (take 3228 (drop at bytes)) = sym found ∙ is.found in
+    let e : old ≡ take 3228 (drop at bytes) = cc in
+    e ∙ ap (λ (k : ℕ). take k (drop at bytes)) (sym size)
+
+-- there are as many afterwards
+pub long-data : (address : Address) (bytes written : List ℕ) (at k : ℕ) → IsDataAt address bytes at → k ≡ 3228 → length written ≡ length (take k (drop at bytes)) → length written ≡ 3228
+long-data address bytes written at k is size len =
+    let within = is.within in
+    omega (arith, length-take-le k (drop at bytes) (omega (arith, length-drop at bytes)))
+
+pub here-written : (address : Address) (bytes written : List ℕ) (at k : ℕ) → IsDataAt address bytes at → k ≡ 3228 → length written ≡ length (take k (drop at bytes))
+    → accounts_in (put_mid at k bytes written) ≡ changed_at address (λ old. written) (accounts_in bytes)
+here-written address bytes written at k is size len =
+    ap (λ (rest : List ℕ). accounts_in (take at bytes ++ (written ++ rest))) (drop-drop k at bytes)
+    ∙ ap (λ (k : ℕ). accounts_in (take at bytes ++ (written ++ drop (at + k) bytes))) size
+    ∙ is.changed written (long-data address bytes written at k is size len)
+
+-- a change to what was changed is the change
+pub changed-as : (address : Address) (change : List ℕ → List ℕ) (accounts : List PlainAccount) (bytes : List ℕ) → bytes_at address accounts ≡ Some bytes
+    → changed_at address (λ old. change bytes) accounts ≡ changed_at address change accounts
+changed-as address change [] bytes found = refl
+changed-as address change (first ∷ others) bytes found =
+    ⊎_elim
+    (λ (same : is_same address first.address ≡ true).
+    let at : bytes_at address (first ∷ others) ≡ Some first.bytes = cond-true _ _ _ same in
+    let is : Some first.bytes ≡ Some bytes = sym at ∙ found in
+    let e : first.bytes ≡ bytes = cc in
+    let now : changed_at address change (first ∷ others) ≡ with_written (change first.bytes) first ∷ others = cond-true _ _ _ same in
+    let written : changed_at address (λ old. change bytes) (first ∷ others) ≡ with_written (change bytes) first ∷ others = cond-true _ _ _ same in
+    written ∙ ap (λ (b : List ℕ). with_written (change b) first ∷ others) (sym e) ∙ sym now)
+    (λ (apart : is_same address first.address ≡ false).
+    let past : bytes_at address (first ∷ others) ≡ bytes_at address others = cond-false _ _ _ apart in
+    let now : changed_at address change (first ∷ others) ≡ first ∷ changed_at address change others = cond-false _ _ _ apart in
+    let written : changed_at address (λ old. change bytes) (first ∷ others) ≡ first ∷ changed_at address (λ old. change bytes) others = cond-false _ _ _ apart in
+    written ∙ ap (λ (l : List PlainAccount). first ∷ l) (changed-as address change others bytes (sym past ∙ found)) ∙ sym now)
+    (cases_Bool (is_same address first.address))
