@@ -1,8 +1,9 @@
 """Rows by `Market.process`, beside a replay of the same rows.
 
-acting.py ROOT plays each script of examples/ and tests/cases that is a script without swaps, row by row, on the bytes of its markets: the
+acting.py ROOT [FOLDER] plays each script of examples/ and tests/cases that is a script without swaps, row by row, on the bytes of its markets: the
 replies, the accounts and the wallets are those of the replay, byte by byte, and a refusal changes nothing. Then made scripts, and random rows
-with all instructions. Prints 'N passed, M failed'.
+with all instructions. Where a FOLDER is named, the rows of each market that is alone are written there for acting.c. Prints
+'N passed, M failed'.
 """
 
 import random
@@ -11,10 +12,13 @@ import sys
 from pathlib import Path
 
 root = Path(sys.argv[1])
+folder = Path(sys.argv[2]) if len(sys.argv) > 2 else None
 sys.path.insert(0, str(root / 'library'))
 import daisyhook
 from daisyhook import data, rows
 from daisyhook.accounts import address_of, rows_of
+from daisyhook.entries import reply_of
+from daisyhook.market import address_bytes
 from base64 import b64decode
 
 passed = failed = 0
@@ -43,18 +47,58 @@ def state_of(markets: dict[str, daisyhook.Market]) -> list[bytes]:
         bytes(held) for held in some.wallets.values()]
 
 
+def sized(data: bytes) -> bytes:
+    """Bytes behind their length."""
+    return len(data).to_bytes(8, 'little') + data
+
+
+class Steps:
+    """The accounts of a market, its rows with what each is answered, and the accounts that they leave, as acting.c reads them."""
+
+    def __init__(self, market: daisyhook.Market) -> None:
+        self.market, self.steps = market, []
+        self.text = market._market[:64] + self.accounts()
+        self.program, *self.has, self.srm, self.msrm = market._end
+
+    def accounts(self) -> bytes:
+        """All accounts as they are, and the wallets with their addresses."""
+        held = b''.join(map(sized, (*self.market.parts.values(), self.market.orders)))
+        wallets = b''.join(address_bytes(word) + data for word, data in self.market.wallets.items())
+        return held + sized(wallets)
+
+    def add(self, signer: str, names: tuple[str, ...], data: bytes, roles: tuple[str | None, ...]) -> None:
+        """One more row."""
+        places = list(self.market.wallets)
+        numbers = bytes(255 if word is None else places.index(word) for word in roles)
+        self.steps.append(address_bytes(signer) + sized(b''.join(map(address_bytes, names))) + sized(data) + self.market.clock.to_bytes(8, 'little')
+                          + numbers + bytes([self.program, *self.has]) + self.srm + self.msrm)
+
+    def write(self, path: Path, replies: list[str]) -> None:
+        """Writes them, with what each row is answered."""
+        steps = b''.join(step + sized(reply.encode()) for step, reply in zip(self.steps, replies, strict=True))
+        path.write_bytes(self.text + len(self.steps).to_bytes(8, 'little') + steps + self.accounts())
+
+
+def told_in(report: bytes) -> list[str]:
+    """What each entry of the report of one market says that it was answered."""
+    lines = [line.split(' ') for line in report.decode().splitlines() if line.startswith('entry ')]
+    return [' '.join(words[3:reply_of(words)[1]]) for words in lines]
+
+
 def word_of(field: str) -> str | None:
     """The wallet of a role."""
     return None if field == '-' else address_of(field)
 
 
-def act(markets: dict[str, daisyhook.Market], row: list[str]) -> tuple[str, daisyhook.Reply]:
+def act(markets: dict[str, daisyhook.Market], row: list[str], steps: Steps | None) -> tuple[str, daisyhook.Reply]:
     """Lets a row act: its market, and its reply."""
     kind, _, market, signer, named, *roles, said = row
     instruction = data.of_words(said) if kind == 'do' else b64decode(said)
     names = () if named == '-' else tuple(map(address_of, named.split(' ')))
     coin, pc, discount, referrer = map(word_of, roles)
     address = address_of(market)
+    if steps:
+        steps.add(address_of(signer), names, instruction, (coin, pc, discount, referrer))
     return address, markets[address].process(address_of(signer), instruction, named=names, coin=coin, pc=pc, discount=discount, referrer=referrer)
 
 
@@ -70,6 +114,7 @@ def play(name: str, script: str) -> None:
     for address in whole.markets:
         shared = next(iter(markets.values())).wallets if markets else None
         markets[address] = daisyhook.Market(start, address, program=program, wallets=shared)
+    steps = Steps(next(iter(markets.values()))) if folder and len(markets) == 1 else None
     replies: dict[str, list[daisyhook.Reply]] = {address: [] for address in markets}
     for row in all_rows[first:]:
         if row[0] == 'clock':
@@ -77,10 +122,12 @@ def play(name: str, script: str) -> None:
                 one.clock = int(row[1])
             continue
         before = state_of(markets)
-        address, reply = act(markets, row)
+        address, reply = act(markets, row, steps)
         replies[address].append(reply)
         if isinstance(reply, daisyhook.Refused):
             same(f'{name}: {row} changes nothing', state_of(markets) == before, True)
+    if steps:
+        steps.write(folder / (re.sub('[^a-z0-9]', '_', name) + '.steps'), told_in(whole.text))
     same(f'{name}: replies', replies, {address: [entry.reply for entry in one.journal] for address, one in whole.markets.items()})
     last = daisyhook.accounts(whole.dump)
     for address, one in markets.items():
