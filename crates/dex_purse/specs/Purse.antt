@@ -85,11 +85,11 @@ abbrev pub brought_at : Slot → Roles → Transfers → ℕ
 brought_at slot roles t =
     amount_for slot roles.coin t.coin_out + amount_for slot roles.pc t.pc_out + amount_for slot roles.referrer t.referrer_out
 
--- nothing moves, or the bytes are a wallet that has what is taken, and its balance stays below 2^64
+-- nothing moves, or the bytes are a wallet that has what is taken, and its balance with what is brought stays below 2^64
 abbrev pub CanMove : ℕ → ℕ → List ℕ → Type 0
 CanMove taken brought bytes =
     ((taken ≡ 0) × (brought ≡ 0))
-    ⊎ (IsWallet bytes × (taken ≤ (wallet_words bytes).amount) × ((wallet_words bytes).amount + brought < 2 ^ 64))
+    ⊎ (IsWallet bytes × (taken ≤ (wallet_words bytes).amount) × ((brought ≡ 0) ⊎ ((wallet_words bytes).amount + brought < 2 ^ 64)))
 
 -- a wallet after it
 abbrev pub moved : ℕ → ℕ → List ℕ → List ℕ
@@ -111,3 +111,32 @@ moved_by roles t purse = record {
   third = moved_at Third roles t purse.third;
   fourth = moved_at Fourth roles t purse.fourth;
 }
+
+-- ---- beside what a row sees
+
+-- a role names a place
+abbrev pub names : Slot → Option Slot → Bool
+names slot None = false
+names slot (Some other) = is_slot slot other
+
+-- a place is named under some role
+abbrev pub IsNamed : Slot → Roles → Type 0
+IsNamed slot roles =
+    (names slot roles.coin ≡ true)
+    ⊎ ((names slot roles.pc ≡ true) ⊎ ((names slot roles.discount ≡ true) ⊎ (names slot roles.referrer ≡ true)))
+
+-- an instruction sees the wallets that it names
+pub record Sees (roles : Roles) (purse : Purse) (seen : Seen) : Type 0 where
+  pub coin : seen.coin ≡ seen_as roles.coin purse
+  pub pc : seen.pc ≡ seen_as roles.pc purse
+  pub discount : seen.discount ≡ seen_as roles.discount purse
+  pub referrer : seen.referrer ≡ seen_as roles.referrer purse
+
+-- no two of the wallets that are named have one address
+abbrev pub AreApart : Roles → Purse → Type 0
+AreApart roles purse = (one other : Slot) → IsNamed one roles → IsNamed other roles
+    → is_same (wallet_at one purse).address (wallet_at other purse).address ≡ is_slot one other
+
+-- each place that is named has a wallet
+abbrev pub AreWallets : Roles → Purse → Type 0
+AreWallets roles purse = (slot : Slot) → IsNamed slot roles → IsWallet (wallet_at slot purse).bytes
