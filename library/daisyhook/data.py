@@ -2,16 +2,27 @@
 
 from __future__ import annotations
 
-from .rows import MOST_16, ORDER_TYPES, SELF_TRADES, SIDES, number, one_of
-from .rows import take_data as take_text
+import struct
 from base64 import b64decode
 
-CONSUME, SETTLE, DISABLE, SWEEP, NEW, CANCEL, CANCEL_CLIENT, CLOSE, INIT, PRUNE, CANCEL_CLIENTS, MATCH = 3, 5, 7, 8, 10, 11, 12, 14, 15, 16, 18, 2
+from .rows import MOST_16, ORDER_TYPES, SELF_TRADES, SIDES, number
+from .rows import take_data as take_text
+
+MATCH, CONSUME, SETTLE, DISABLE, SWEEP, NEW, CANCEL, CANCEL_CLIENT, TAKE, CLOSE, INIT, PRUNE, CANCEL_CLIENTS = 2, 3, 5, 7, 8, 10, 11, 12, 13, 14, 15, 16, 18
+ORDER, LATEST = struct.Struct('<BIIQQQIIQH'), struct.Struct('<q')
+SELF_TRADE_NUMBERS, ORDER_TYPE_NUMBERS = ({word: at for at, word in enumerate(words)} for words in (SELF_TRADES, ORDER_TYPES))
 
 
 def data_of(tag: int, *fields: tuple[int, int]) -> bytes:
-    """The data of a tag, and numbers of so many bytes each."""
+    """The data of a tag, and numbers of so many bytes each. Raises ValueError where a number has no place in its field."""
     return b'\0' + b''.join(number(value, 'a number', 0, 256**length - 1).to_bytes(length, 'little') for value, length in ((tag, 4), *fields))
+
+
+def numbered(words: dict[str, int], word: str, what: str) -> int:
+    """The number of a word, where it is one of these."""
+    if word not in words:
+        raise ValueError(f'{what} is {word!r}, and one of {", ".join(words)} is wanted')
+    return words[word]
 
 
 def new_order(*, side: str, price: int, lots: int, pc: int | None = None, self_trade: str = 'decrement', order_type: str = 'limit',
@@ -19,10 +30,14 @@ def new_order(*, side: str, price: int, lots: int, pc: int | None = None, self_t
     """NewOrderV3, with the numbers of `rows.new_order`."""
     if pc is None and side == 'bid':
         raise ValueError('a bid names the most native quote that it may use: pc')
-    fields = [(SIDES[one_of(side, SIDES, 'side')], 4), (number(price, 'price', 1), 8), (number(lots, 'lots', 1), 8),
-              (number(1 if pc is None else pc, 'pc', 1), 8), (SELF_TRADES.index(one_of(self_trade, SELF_TRADES, 'self_trade')), 4),
-              (ORDER_TYPES.index(one_of(order_type, ORDER_TYPES, 'order_type')), 4), (client, 8), (limit, 2)]
-    return data_of(NEW, *fields, *([] if latest is None else [(number(latest, 'latest', 0, 2**63 - 1), 8)]))
+    if 0 in (price, lots, pc):
+        raise ValueError('price, lots and pc are 1 at least')
+    try:
+        made = ORDER.pack(0, NEW, numbered(SIDES, side, 'side'), price, lots, 1 if pc is None else pc,
+                          numbered(SELF_TRADE_NUMBERS, self_trade, 'self_trade'), numbered(ORDER_TYPE_NUMBERS, order_type, 'order_type'), client, limit)
+        return made if latest is None else made + LATEST.pack(latest)
+    except struct.error as error:
+        raise ValueError(f'a number has no place in its field: {error}') from None
 
 
 def take(side: str, price: int, lots: int, pc: int, least_lots: int = 0, least_pc: int = 0, limit: int = MOST_16) -> bytes:
@@ -33,7 +48,7 @@ def take(side: str, price: int, lots: int, pc: int, least_lots: int = 0, least_p
 def cancel(*clients: int, side: str | None = None, order: int | None = None) -> bytes:
     """Cancels orders by their client ids, one to eight; or one order by its side and id."""
     if order is not None:
-        return data_of(CANCEL, (SIDES[one_of(side or '', SIDES, 'side')], 4), (order, 16))
+        return data_of(CANCEL, (numbered(SIDES, side or '', 'side'), 4), (order, 16))
     if len(clients) == 1:
         return data_of(CANCEL_CLIENT, (clients[0], 8))
     number(len(clients), 'client ids', 1, 8)
@@ -78,7 +93,7 @@ def disable() -> bytes:
 # Of each verb of a row that is numbers behind words: its tag, and how many bytes each number has.
 NUMBERED = {
     'init': (INIT,), 'close': (CLOSE,), 'settle': (SETTLE,), 'sweep': (SWEEP,), 'disable': (DISABLE,), 'consume': (CONSUME, 2),
-    'prune': (PRUNE, 2), 'match': (MATCH, 2), 'new': (NEW, 4, 8, 8, 8, 4, 4, 8, 2, 8), 'take': (13, 4, 8, 8, 8, 8, 8, 2),
+    'prune': (PRUNE, 2), 'match': (MATCH, 2), 'new': (NEW, 4, 8, 8, 8, 4, 4, 8, 2, 8), 'take': (TAKE, 4, 8, 8, 8, 8, 8, 2),
     'cancel': (CANCEL, 4, 16), 'cancelc': (CANCEL_CLIENT, 8), 'cancels': (CANCEL_CLIENTS, *[8] * 8),
 }
 
