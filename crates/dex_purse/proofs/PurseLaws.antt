@@ -9,14 +9,17 @@ use Rattle.dex_types.specs.declared.rows.Seen.{Seen}
 use Rattle.dex_types.specs.declared.rows.WalletSeen.{WalletSeen}
 use Rattle.dex_types.specs.Addresses.{is_same}
 use Rattle.dex_types.specs.Transfers.{Transfers}
-use Rattle.dex_types.specs.Wallets.{amount_at, balance_in, balance_seen, brought_to, movement_by, taken_from}
+use Rattle.dex_types.specs.Wallets.{address_seen, amount_at, balance_in, balance_seen, brought_to, movement_by, taken_from}
 use Rattle.dex_types.specs.WalletJournal.{CanMove as CanMoveBy}
 use Rattle.dex_token.specs.TokenAccount.{IsWallet, wallet_words}
+use Rattle.dex_history.specs.Journal.{Agree, Asked}
+use Rattle.dex_history.specs.Journal.{Sees as RowSees}
 use Rattle.dex_history.specs.Moves.{Moves}
+use Rattle.dex_laws.proofs.TraderLaws.{is_same-refl}
 use Rattle.dex_purse.specs.declared.lent_wallets.Roles.{Roles}
 use Rattle.dex_purse.specs.declared.lent_wallets.Slot.{Slot}
 use Rattle.dex_purse.specs.declared.lent_wallets.Slot.TheVariants.{First, Second, Third, Fourth}
-use Rattle.dex_purse.specs.Purse.{AreApart, AreWallets, CanMove, CanMoveEach, IsNamed, Purse, Sees, amount_for, brought_at, is_slot, names, seen_as, seen_in, taken_at, wallet_at}
+use Rattle.dex_purse.specs.Purse.{AreApart, AreWallets, CanMove, CanMoveEach, IsNamed, Names, Purse, Sees, address_as, amount_for, brought_at, is_slot, names, seen_as, seen_in, taken_at, wallet_at}
 
 -- ---- places
 
@@ -221,3 +224,54 @@ module _ (roles : Roles) (purse : Purse) (seen : Seen) (t : Transfers) (sees : S
       (cases_Bool (names slot roles.referrer)))
       (cases_Bool (names slot roles.pc)))
       (cases_Bool (names slot roles.coin))
+
+-- ---- what a row sees
+
+address-as : (role : Option Slot) (purse : Purse) → address_seen (seen_as role purse) ≡ address_as role purse
+address-as None purse = refl
+address-as (Some slot) purse = refl
+
+agree : (one other : Option Slot) (roles : Roles) (purse : Purse) → own roles one → own roles other → AreApart roles purse
+    → Agree (seen_as one purse) (seen_as other purse)
+agree None other roles purse owns owns_other apart = tt
+agree (Some slot) None roles purse owns owns_other apart = tt
+agree (Some slot) (Some another) roles purse owns owns_other apart =
+    λ (same : (wallet_at slot purse).address ≡ (wallet_at another purse).address).
+    let alike : is_same (wallet_at slot purse).address (wallet_at another purse).address ≡ true
+        = subst (λ (a : Address). is_same (wallet_at slot purse).address a ≡ true) same (is_same-refl (wallet_at slot purse).address) in
+    let one : is_slot slot another ≡ true = sym (apart slot another (owns slot (is_slot-refl slot)) (owns_other another (is_slot-refl another))) ∙ alike in
+    ap (λ (s : Slot). seen_in (wallet_at s purse)) (is_slot-true slot another one)
+
+module _ (asked : Asked) (roles : Roles) (purse : Purse) (seen : Seen) (named : Names asked roles purse) (sees : Sees roles purse seen)
+    (apart : AreApart roles purse) where
+  by_coin : own roles roles.coin
+  by_coin other is = inl is
+
+  by_pc : own roles roles.pc
+  by_pc other is = inr (inl is)
+
+  by_discount : own roles roles.discount
+  by_discount other is = inr (inr (inl is))
+
+  by_referrer : own roles roles.referrer
+  by_referrer other is = inr (inr (inr is))
+
+  both : (one other : Option Slot) (first second : Option WalletSeen) → own roles one → own roles other → first ≡ seen_as one purse → second ≡ seen_as other purse
+      → Agree first second
+  both one other first second owns owns_other is_first is_second =
+      subst (λ (f : Option WalletSeen). Agree f second) (sym is_first)
+      (subst (λ (s : Option WalletSeen). Agree (seen_as one purse) s) (sym is_second) (agree one other roles purse owns owns_other apart))
+
+  pub seen-by : RowSees asked seen
+  seen-by = record {
+    coin = ap address_seen sees.coin ∙ address-as roles.coin purse ∙ sym named.coin;
+    pc = ap address_seen sees.pc ∙ address-as roles.pc purse ∙ sym named.pc;
+    discount = ap address_seen sees.discount ∙ address-as roles.discount purse ∙ sym named.discount;
+    referrer = ap address_seen sees.referrer ∙ address-as roles.referrer purse ∙ sym named.referrer;
+    coin_pc = both roles.coin roles.pc seen.coin seen.pc by_coin by_pc sees.coin sees.pc;
+    coin_discount = both roles.coin roles.discount seen.coin seen.discount by_coin by_discount sees.coin sees.discount;
+    coin_referrer = both roles.coin roles.referrer seen.coin seen.referrer by_coin by_referrer sees.coin sees.referrer;
+    pc_discount = both roles.pc roles.discount seen.pc seen.discount by_pc by_discount sees.pc sees.discount;
+    pc_referrer = both roles.pc roles.referrer seen.pc seen.referrer by_pc by_referrer sees.pc sees.referrer;
+    discount_referrer = both roles.discount roles.referrer seen.discount seen.referrer by_discount by_referrer sees.discount sees.referrer;
+  }

@@ -1,6 +1,8 @@
 -- The wallets that an instruction names: what it sees of them, and how it moves them.
 use Rattle.std.specs.Prelude.{ℕ, ◌+◌, ◌-◌, ◌<◌, ◌≤◌, ◌^◌, ◌≡◌, ◌⊎◌, ◌==◌, ◌&&◌, Bool, true, false, if◌then◌else◌, List, Option, Some, None}
 use Rattle.dex_token.specs.TokenAccount.{IsWallet, wallet_words, with_amount}
+use Rattle.dex_history.specs.Journal.{Asked}
+use Rattle.dex_types.specs.declared.addresses.Address.{Address}
 use Rattle.dex_types.specs.declared.rows.Seen.{Seen}
 use Rattle.dex_types.specs.declared.rows.WalletSeen.{WalletSeen}
 use Rattle.dex_types.specs.Accounts.{PlainAccount}
@@ -140,3 +142,15 @@ AreApart roles purse = (one other : Slot) → IsNamed one roles → IsNamed othe
 -- each place that is named has a wallet
 abbrev pub AreWallets : Roles → Purse → Type 0
 AreWallets roles purse = (slot : Slot) → IsNamed slot roles → IsWallet (wallet_at slot purse).bytes
+
+-- the address that a role names
+abbrev pub address_as : Option Slot → Purse → Option Address
+address_as None purse = None
+address_as (Some slot) purse = Some (wallet_at slot purse).address
+
+-- what was asked for names the wallets of these roles
+pub record Names (asked : Asked) (roles : Roles) (purse : Purse) : Type 0 where
+  pub coin : asked.coin ≡ address_as roles.coin purse
+  pub pc : asked.pc ≡ address_as roles.pc purse
+  pub discount : asked.discount ≡ address_as roles.discount purse
+  pub referrer : asked.referrer ≡ address_as roles.referrer purse

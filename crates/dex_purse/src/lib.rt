@@ -6,7 +6,7 @@ mod lent_wallets;
 mod moving;
 mod seeing;
 
-pub use laws::wallets_move_as_their_row_says;
+pub use laws::{wallets_are_seen_as_a_row_sees_them, wallets_move_as_their_row_says};
 pub use lent_wallets::{LentWallets, Roles, Slot};
 pub use moving::move_wallets;
 pub use seeing::seen_as;
