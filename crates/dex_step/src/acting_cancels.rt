@@ -7,25 +7,28 @@ ghost use Rattle.dex_market.specs.MarketAccount.{IsMarket, market_words, sizes_o
 ghost use Rattle.dex_ring.specs.PendingFills.{pending_fills_of};
 ghost use Rattle.dex_step.specs.Acting.{HasStepped};
 ghost use Rattle.dex_step.specs.CancelActs.{CanCancel, HasCancelled, IsCancelDecided, cancel_bytes, cancel_step};
-ghost use Rattle.dex_types.specs.Accounts.{market_accounts_of, orders_account_of};
-ghost use Rattle.std.specs.Prelude.{◌≡◌, IsSome, Some, map};
+ghost use Rattle.dex_lent.specs.Lent.{KeepsPlaces, lent_of};
+ghost use Rattle.std.specs.Prelude.{◌≡◌, IsSome, Some};
 
-use dex_accounts::place_of;
+use crate::steps_orders::StepsOrders;
 use dex_cancel::CancelWhat;
 use dex_cancel_slots::{Owner, apply_cancel_by_slots};
+use dex_lent::{LentMarket, OrdersAccounts};
 use dex_market::MarketRef;
 use dex_orders::OrdersRef;
 use dex_ring::RingView;
 use dex_slab::SlabView;
-use dex_types::{Address, Lots, MarketAccounts, OrdersAccount, Reply, Side};
+use dex_types::{Address, Lots, Reply, Side};
 
 /// The bytes of the account of an address that is among these.
-fn bytes_of(accounts: &[OrdersAccount], address: Address) -> &[u8]
-    requires { IsSome (bytes_at address (map orders_account_of accounts.now)) }
-    ensures { bytes_at address (map orders_account_of accounts.now) ≡ Some result.now }
+fn bytes_of<O: OrdersAccounts>(accounts: &O, address: Address) -> &[u8]
+    requires { IsSome (bytes_at address (O.held accounts.now)) }
+    ensures { bytes_at address (O.held accounts.now) ≡ Some result.now }
 {
-    let place = place_of(accounts, address);
-    &accounts[place].bytes
+    match accounts.find(address) {
+        Some(bytes) => bytes,
+        None => unreachable!(),
+    }
 }
 
 /// A cancel, on the bytes of its accounts. It answers how many orders it took.
@@ -60,15 +63,20 @@ fn cancel_on_bytes(
 
 /// Orders of an owner taken off the book, as it was decided: an out of each waits for it, and it is answered how many
 /// there were. What makers' fills are still to take off totals stays.
-pub(crate) fn cancel_row(accounts: &mut MarketAccounts, owner: Address, what: &CancelWhat) -> Reply
-    requires sound { AreSound (market_accounts_of accounts.old) }
-    requires decided { IsCancelDecided (named_by what.now) owner (market_in (market_accounts_of accounts.old)) }
-    ensures { let m = market_in (market_accounts_of accounts.old) in
-        HasStepped (market_accounts_of accounts.old) (market_accounts_of accounts.new) result
+pub(crate) fn cancel_row<O: StepsOrders>(
+    accounts: &mut LentMarket<'_, O>,
+    owner: Address,
+    what: &CancelWhat,
+) -> Reply
+    requires sound { AreSound (lent_of O.held accounts.old) }
+    requires decided { IsCancelDecided (named_by what.now) owner (market_in (lent_of O.held accounts.old)) }
+    ensures stepped { let m = market_in (lent_of O.held accounts.old) in
+        HasStepped (lent_of O.held accounts.old) (lent_of O.held accounts.new) result
         (pending_fills_of m.events) (cancel_step (named_by what.entry.now) owner m) }
+    ensures places { KeepsPlaces O.place accounts.old accounts.new }
 {
     let market = MarketRef {
-        bytes: &accounts.market,
+        bytes: accounts.market,
     };
     let sizes = market.sizes();
     let held = bytes_of(&accounts.orders, owner);
@@ -80,9 +88,9 @@ pub(crate) fn cancel_row(accounts: &mut MarketAccounts, owner: Address, what: &C
         what,
         owner,
         sizes,
-        &mut accounts.bids,
-        &mut accounts.asks,
-        &mut accounts.events,
+        accounts.bids,
+        accounts.asks,
+        accounts.events,
     );
     Reply::Cancelled(count)
 }

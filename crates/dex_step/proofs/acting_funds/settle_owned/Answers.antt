@@ -5,7 +5,7 @@ use Rattle.dex_accounts.specs.Owners.{changed_at}
 use Rattle.dex_accounts.proofs.OwnerLaws.{changed_at-here}
 use Rattle.dex_step.specs.FundBytes.{CanSettle, HasSettled}
 use Rattle.dex_step.proofs.FundLaws.{here-can, here-changed}
-use Rattle.dex_step.proofs.acting_funds.settle_among.Goals as goal
+use Rattle.dex_step.proofs.acting_funds.settle_owned.Goals as goal
 
 pub settle_on_bytes-requires : goal.settle_on_bytes-requires
 settle_on_bytes-requires c =

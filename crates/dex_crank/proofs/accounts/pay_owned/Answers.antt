@@ -5,7 +5,7 @@ use Rattle.dex_types.specs.QueuedEvent.{decoded_event}
 use Rattle.dex_accounts.specs.Owners.{changed_at}
 use Rattle.dex_crank.specs.PaidBytes.{CanTake, paid_in}
 use Rattle.dex_accounts.proofs.OwnerLaws.{changed_at-first, owned_here, with_change, with_some}
-use Rattle.dex_crank.proofs.accounts.pay_owner.Goals as goal
+use Rattle.dex_crank.proofs.accounts.pay_owned.Goals as goal
 
 pub pay_at-requires-clause-can_take : goal.pay_at-requires-clause-can_take
 pay_at-requires-clause-can_take c = λ default.
