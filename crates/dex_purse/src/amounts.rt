@@ -6,8 +6,8 @@ ghost use Rattle.dex_types.specs.Transfers.{exchange};
 ghost use Rattle.dex_movements.specs.Amounts.{transfers_of};
 ghost use Rattle.dex_plan.specs.Owing.{plan_transfers};
 
-use dex_decide::Plan;
 use dex_movements::Amounts;
+use dex_plan::Plan;
 use dex_types::Side;
 
 /// A payment of one token and a payout of the other, by the side of the order.
