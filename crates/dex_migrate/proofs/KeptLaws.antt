@@ -44,7 +44,7 @@ module _ (nodes events : ℕ) where
         named = kept.named;
       }
 
-  -- the same of all markets
+  -- what migrating keeps of one market it keeps of all
   each-migrated : (P Q : PlainMarketAccounts → Type 0) → ((old new : PlainMarketAccounts) → IsMigrated nodes events old new → P old → Q new)
       → (olds news : List PlainMarketAccounts) → AllZip (IsMigrated nodes events) olds news → All P olds → All Q news
   each-migrated P Q keeps [] [] are all = All-nil Q

@@ -1,4 +1,5 @@
--- A script in parts, one after the other: each further part starts with the accounts that the one before left, under the same program.
+-- A script in parts, one after the other: each further part starts with the accounts that the one before left, under
+-- the same program.
 use Rattle.std.specs.Prelude.{◌≡◌, ◌==◌, ◌++◌, false, List, [], ◌∷◌, All}
 use Rattle.std.specs.List.{flat_map}
 use Rattle.dex_types.specs.declared.terms.Program.{Program}
@@ -39,8 +40,9 @@ outcomes_behind before (outcome ∷ outcomes) = outcomes_behind (outcome_behind 
 abbrev pub IsCut : List PlainRow → List PlainRow → Type 0
 IsCut done later = All (λ (one : PlainRow). All (λ (other : PlainRow). (one.number == other.number) ≡ false) later) done
 
--- a script is two others, one behind the other: its rows are those of both, cut where no swap is parted; the first starts as it does,
--- and the second with the accounts that this outcome of the first has; and all have one program and the same limits
+-- a script is two others, one behind the other: its rows are those of both, cut where no swap is parted; the first
+-- starts as it does, and the second with the accounts that this outcome of the first has; and all have one program and
+-- the same limits
 pub record AreTwoParts (script first : PlainScript) (left : PlainOutcome) (second : PlainScript) : Type 0 where
   pub rows : script.rows ≡ first.rows ++ second.rows
   pub cut : IsCut first.rows second.rows
@@ -62,8 +64,8 @@ abbrev pub AreCut : List PlainScript → Type 0
 AreCut [] = Unit {0}
 AreCut (part ∷ parts) = IsCut part.rows (rows_of_parts parts) × AreCut parts
 
--- each part starts with the accounts that the one before left, the first with these, and all have this program and these limits; and
--- the outcome of each is a replay of it
+-- each part starts with the accounts that the one before left, the first with these, and all have this program and
+-- these limits; and the outcome of each is a replay of it
 abbrev pub AreLinked : Limits → Program → PlainAccounts → List PlainScript → List PlainOutcome → Type 0
 AreLinked limits program start [] [] = Unit {0}
 AreLinked limits program start (part ∷ parts) (outcome ∷ outcomes) =

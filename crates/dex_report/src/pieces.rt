@@ -10,7 +10,7 @@ ghost use Rattle.dex_report.specs.Parts.{FitPart, part_lines};
 ghost use Rattle.dex_report.specs.declared.part.Part.TheVariants as part;
 
 use crate::lines::write_head;
-use crate::part::{Part, size_of};
+use crate::part::Part;
 use crate::writing::{text_of, texts_of};
 use dex_dump::{Piece, write_front};
 use dex_state::{MarketJournal, Outcome};
@@ -44,10 +44,7 @@ fn pieces_of(alloc: Global, outcome: Outcome, rows: u32) -> Result<Vec<Piece>, A
         flat_map piece_text pieces.items ≡ report_text (outcome_of outcome) rows) }
 {
     let parts = parts_of(alloc, outcome, rows, Vec::new(alloc))?;
-    // Room for the first quarter. The text of a small report then begins where the buffers of rows were, which are let
-    // go by now, and comes to a place of its own when some journals are let go too. A large one grows without a copy.
-    let room = size_of(&parts) / 4;
-    text_of(alloc, parts, room)
+    text_of(alloc, parts)
 }
 
 /// Like `pieces_of`, written on threads of their own: each market's journal, the journals of all wallets and each

@@ -14,8 +14,12 @@ use std::marker::Sync;
 use std::mem;
 use std::thread::Threads;
 
-/// The first piece of a text has room for this many bytes at most, until it needs more.
-const MOST_ROOM: usize = 16_777_216;
+/// The first piece of a text begins with room for this many bytes at most.
+const FIRST: usize = 1_048_576;
+
+/// A part whose text has more bytes is written where the last piece is: blocks of that size grow without a copy, where
+/// the allocator moves pages.
+const MOST: usize = 4_194_304;
 
 /// Parts that follow each other, until they are written, and then their text in pieces.
 #[derive(Drop)]
@@ -32,35 +36,46 @@ impl Job for Writing {
 
     fn run(&mut self) {
         let parts = mem::replace(&mut self.parts, Vec::new(self.alloc));
-        let room = size_of(&parts).min(MOST_ROOM);
-        self.text = text_of(self.alloc, parts, room);
+        self.text = text_of(self.alloc, parts);
     }
 }
 
-/// The text of parts, each of which is let go when it is written. Its first piece begins with so much room.
-pub(crate) fn text_of(
-    alloc: Global,
-    parts: Vec<Part>,
-    room: usize,
-) -> Result<Vec<Piece>, AllocError>
+/// The text of parts, each of which is let go when it is written.
+pub(crate) fn text_of(alloc: Global, parts: Vec<Part>) -> Result<Vec<Piece>, AllocError>
     ensures fits { IfOk result (λ pieces. All FitPart parts.items) }
     ensures text { IfOk result (λ pieces. whole pieces.items ≡ flat_map part_lines parts.items) }
 {
-    let mut text = Pieces::with_capacity(alloc, room)?;
-    take_parts(&mut text, parts)?;
+    let mut text = Pieces::with_capacity(alloc, size_of(&parts).min(FIRST))?;
+    take_parts(alloc, &mut text, parts)?;
     let pieces = text.into_pieces()?;
     Ok(pieces)
 }
 
 /// Writes parts after a text.
-fn take_parts(text: &mut Pieces, parts: Vec<Part>) -> Result<(), AllocError>
+fn take_parts(alloc: Global, text: &mut Pieces, parts: Vec<Part>) -> Result<(), AllocError>
     ensures fits { OnOk result (All FitPart parts.items) }
     ensures text { OnOk result (text_in text.new ≡ text_in text.old ++ flat_map part_lines parts.items) }
 {
     let mut line = [0; LINE];
     for part in parts {
+        make_room(alloc, text, part.size())?;
         take_part(text, &mut line, part)?;
     }
+    Ok(())
+}
+
+/// Begins a piece for a part of about so many bytes, where the last has too little room left: a text that grew would be
+/// copied, and a new piece may stand where rows and journals lay.
+fn make_room(alloc: Global, text: &mut Pieces, room: usize) -> Result<(), AllocError>
+    ensures { OnOk result (text_in text.new ≡ text_in text.old) }
+{
+    let left = text.last.capacity() - text.last.len();
+    if room <= left || MOST < room {
+        return Ok(());
+    }
+    let next = Vec::with_capacity(alloc, room)?;
+    let last = mem::replace(&mut text.last, next);
+    text.done.push(Piece::Bytes(last))?;
     Ok(())
 }
 
