@@ -296,6 +296,7 @@ class Build:
             self.prove_all()
             self.tell(f"now {self.what} itself is proved and built, two or three minutes", "%T ")
         finish()
+        self.wait()
         self.stop_on_change()
 
     def build_top(self, words, log):

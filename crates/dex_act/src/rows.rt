@@ -59,15 +59,20 @@ pub(crate) fn act(
     seen: &Seen,
     places: &WalletPlaces,
 ) -> Reply
+    // The row may act on these cells.
     requires row { IsFor row.now seen.now market.old }
     requires market { IsMarketCell market.old }
     requires spare { HasSpare market.old }
     requires wallets { SeesCells seen.now wallets.old }
     requires places { ArePlacesAmong wallets.old (row_of row.now) places.now }
+
+    // The market does what its step says, and refuses as it says.
     ensures reply { result ≡ (step_on row.entry.now seen.now market.old).reply }
     ensures acted { HasActed row.entry.now seen.now market.old market.new }
     ensures refused { is_refusal result ≡ true → market.new ≡ refused_on row.entry.now seen.now market.old }
     ensures cell { IsMarketCell market.new }
+
+    // The wallets have moved as the step says; each is kept, and stands where it stood.
     ensures wallets { wallets.new ≡ cells_acted row.entry.now seen.now market.old wallets.old }
     ensures states { map wallet_state_of wallets.new
         ≡ states_acted row.entry.now seen.now market.old (map wallet_state_of wallets.old) }
@@ -91,15 +96,20 @@ pub(crate) fn hold(
     seen: &Seen,
     places: &WalletPlaces,
 ) -> Reply
+    // The take may act on these cells, and is held back.
     requires row { IsFor row.now seen.now market.old }
     requires market { IsMarketCell market.old }
     requires held { CanHold row.now seen.now market.old }
     requires spare { HasSpare market.old }
     requires wallets { SeesCells seen.now wallets.old }
     requires places { ArePlacesAmong wallets.old (row_of row.now) places.now }
+
+    // The market takes note of it and does nothing else.
     ensures reply { result ≡ Done }
     ensures held { market.new ≡ held_on row.entry.now seen.now market.old }
     ensures cell { IsMarketCell market.new }
+
+    // The wallets have taken note of it too; each is kept, and stands where it stood.
     ensures states { map wallet_state_of wallets.new
         ≡ map (wallet_acted (row_of row.entry.now) seen.now no_transfers) (map wallet_state_of wallets.old) }
     ensures kept { All IsWalletCell wallets.new }

@@ -53,9 +53,9 @@ Replayed limits bytes told text =
     (script : PlainScript) × (outcome : PlainOutcome) × ReadsWithin limits false bytes script × IsPlayed script outcome
     × (text ≡ told script outcome)
 
--- the bytes are a script within these limits (one for a batch, where so told), this is what is left when all its items have acted, and the
--- text is its report. The values of the outcome fit and its movements stand from the front, so no other such outcome
--- has this report
+-- the bytes are a script within these limits (one for a batch, where so told), this is what is left when all its items
+-- have acted, and the text is its report. The values of the outcome fit and its movements stand from the front, so no
+-- other such outcome has this report
 abbrev pub Reported : Limits → Bool → List ℕ → List ℕ → Type 0
 Reported limits batch bytes text =
     (script : PlainScript) × (outcome : PlainOutcome) × ReadsWithin limits batch bytes script × IsPlayed script outcome
@@ -69,8 +69,8 @@ IsClean limits bytes accounts = AnswersText limits bytes (Ok accounts) × (findi
 abbrev pub row_line : ℕ → FaultKind → List ℕ
 row_line row kind = lines.script_refused (record { row = row; kind = kind_number kind; code = code_of kind })
 
--- the bytes are no script within these limits (none for a batch, where so told): the text names the first faulty row, or
--- it tells the fault or the findings of the dump at its start
+-- the bytes are no script within these limits (none for a batch, where so told): the text names the first faulty row,
+-- or it tells the fault or the findings of the dump at its start
 abbrev pub IsNoScript : Limits → Bool → List ℕ → Status → List ℕ → Type 0
 IsNoScript limits batch bytes status.ScriptRefused text =
     (row : ℕ) × (kind : FaultKind) × IsRefusedWithin limits batch bytes (AtRow row kind) × (text ≡ row_line row kind)
@@ -80,7 +80,8 @@ IsNoScript limits batch bytes status.AuditFailed text =
     (found : List Finding) × IsRefusedWithin limits batch bytes (InAudit found) × ¬ (found ≡ []) × (text ≡ lines.audit_failed found)
 IsNoScript limits batch bytes _ text = ⊥
 
--- the bytes are no dump within these limits of accounts without findings: the text names the first faulty row, or it tells the findings
+-- the bytes are no dump within these limits of accounts without findings: the text names the first faulty row, or it
+-- tells the findings
 abbrev pub IsNotClean : Limits → List ℕ → Status → List ℕ → Type 0
 IsNotClean limits bytes status.DumpRefused text =
     (fault : DumpFault) × AnswersText limits bytes (Err fault) × (text ≡ lines.dump_refused fault)
@@ -89,8 +90,8 @@ IsNotClean limits bytes status.AuditFailed text =
     × (text ≡ lines.audit_failed (findings accounts))
 IsNotClean limits bytes _ text = ⊥
 
--- what a command on one thread answers to bytes within these limits: the status and the text. `make` and `bulk` look at no
--- bytes, and `run` and `batch` act on several threads
+-- what a command on one thread answers to bytes within these limits: the status and the text. `make` and `bulk` look at
+-- no bytes, and `run` and `batch` act on several threads
 abbrev pub AnswersWithin : Limits → Command → List ℕ → Status → List ℕ → Type 0
 AnswersWithin limits Replay bytes status.Ok text = Reported limits false bytes text
 AnswersWithin limits Replay bytes stood text = IsNoScript limits false bytes stood text
@@ -118,6 +119,6 @@ AnswersWithin limits (Migrate nodes events) bytes status.MigrateRefused text =
     × (first_fault nodes events accounts.markets ≡ Some fault) × (text ≡ lines.migrate_refused fault)
 AnswersWithin limits (Migrate nodes events) bytes stood text = IsNotClean limits bytes stood text
 
--- the same within the program's limits
+-- what a command answers within the program's limits
 abbrev pub Answers : Command → List ℕ → Status → List ℕ → Type 0
 Answers command bytes stood text = AnswersWithin STANDARD command bytes stood text

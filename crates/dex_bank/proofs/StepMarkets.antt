@@ -80,7 +80,7 @@ set-parts (z ∷ xs) zero (suc two) x y lower within = ap (λ (l : List _). x �
 set-parts (z ∷ xs) (suc one) (suc two) x y lower within =
     ap (λ (l : List _). z ∷ l) (set-parts xs one two x y (omega (arith, lower)) (omega (arith, within)))
 
--- the same where the other one is put first
+-- one behind, and the other in front of it
 pub set-parts-back : {A : Type 0} (xs : List A) (one two : ℕ) (x y : A) → two < one → one < length xs
     → set (take one xs) two y ++ set (drop one xs) 0 x ≡ set (set xs one x) two y
 set-parts-back [] one two x y lower within = absurd (omega (arith, within))

@@ -128,11 +128,7 @@ pub(crate) fn opened(
     } = start;
     let markets = market_cells(alloc, markets, &rooms.markets)?;
     let wallets = wallet_cells(alloc, wallets, &rooms.wallets)?;
-    let terms = Terms {
-        srm,
-        msrm,
-        program,
-    };
+    let terms = Terms { srm, msrm, program };
     Ok(Cells {
         mints,
         terms,

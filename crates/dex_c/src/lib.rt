@@ -1,4 +1,5 @@
-//! The commands on one thread for C, and for all that can call C. Each function calls that of `dex_call` and says its clause again.
+//! The commands on one thread for C, and for all that can call C. Each function calls that of `dex_call` and says its
+//! clause again.
 #![tactic(auto)]
 
 ghost use Rattle.std.specs.Prelude.{◌≡◌, ◌<◌, ◌⊎◌, []};
@@ -160,7 +161,8 @@ pub extern "C" fn dex_worth_wide(
     dex_call::worth_wide(alloc, script, room, size)
 }
 
-/// The dump of the same accounts, within the widest limits, with sides of so many nodes and event queues for so many events.
+/// The dump of the same accounts, within the widest limits, with sides of so many nodes and event queues for so many
+/// events.
 #[unsafe(no_mangle)]
 pub extern "C" fn dex_migrate_wide(
     alloc: Global,

@@ -13,7 +13,8 @@ use Rattle.dex_answers.specs.declared.told.StatusText.{StatusText}
 use Rattle.dex_answers.specs.declared.status.Status.{Status}
 use Rattle.dex_answers.specs.declared.status.Status.TheVariants as status
 
--- a text was written into a room: where it fits, to its front, and what stood behind is as it was; else all is as it was
+-- a text was written into a room: where it fits, to its front, and what stood behind is as it was; else all is as it
+-- was
 pub record IsWritten (text before after : List ℕ) : Type 0 where
   pub fits : length text ≤ length before → after ≡ text ++ drop (length text) before
   pub large : length before < length text → after ≡ before

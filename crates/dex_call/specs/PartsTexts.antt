@@ -53,8 +53,8 @@ pub record TellsShards (limits : Limits) (bytes text : List ℕ) : Type 0 where
   pub shards : AreShardsOf script markets wallets rows
   pub text_is : text ≡ shards_text markets wallets rows
 
--- the bytes are a script within these limits, and the text tells how many rows each part of a chain has, for parts of at
--- most so many
+-- the bytes are a script within these limits, and the text tells how many rows each part of a chain has, for parts of
+-- at most so many
 pub record TellsParts (limits : Limits) (most : ℕ) (bytes text : List ℕ) : Type 0 where
   pub script : PlainScript
   pub reads : ReadsWithin limits false bytes script

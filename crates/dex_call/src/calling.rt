@@ -11,7 +11,8 @@ use dex_types::NoMemory;
 use dex_words::PlainCommand;
 use std::alloc::Global;
 
-/// Answers a command to bytes within these limits: writes the text into the room where it fits, tells its length, and gives the number of its status.
+/// Answers a command to bytes within these limits: writes the text into the room where it fits, tells its length, and
+/// gives the number of its status.
 pub(crate) fn call(
     alloc: Global,
     command: PlainCommand,

@@ -1,6 +1,7 @@
-//! One function for each command on one thread. Of each the answer is the number of a status, as the program's exit status:
-//! 7 where memory was wanting, 1 where a number is not within its limits. `size` is set to the length of the text in bytes, 0
-//! in these two cases; the text is written to the front of `room` where it fits, and else `room` stays as it is.
+//! One function for each command on one thread. Of each the answer is the number of a status, as the program's exit
+//! status: 7 where memory was wanting, 1 where a number is not within its limits. `size` is set to the length of the
+//! text in bytes, 0 in these two cases; the text is written to the front of `room` where it fits, and else `room` stays
+//! as it is.
 
 ghost use Rattle.std.specs.Prelude.{[]};
 ghost use Rattle.dex_words.specs.declared.command.PlainCommand.TheVariants.{Audit, Bulk, Dump, Make, Migrate, Replay, Worth};
@@ -58,12 +59,26 @@ pub fn migrate(
 pub fn make(alloc: Global, number: u64, rows: u32, room: &mut [u8], size: &mut usize) -> u8
     ensures { Ends (Make number rows) [] (done room.old room.new result size.new) }
 {
-    call(alloc, PlainCommand::Make { number, rows }, &[], &STANDARD, room, size)
+    call(
+        alloc,
+        PlainCommand::Make { number, rows },
+        &[],
+        &STANDARD,
+        room,
+        size,
+    )
 }
 
 /// The summary of what that script leaves.
 pub fn bulk(alloc: Global, number: u64, rows: u32, room: &mut [u8], size: &mut usize) -> u8
     ensures { Ends (Bulk number rows) [] (done room.old room.new result size.new) }
 {
-    call(alloc, PlainCommand::Bulk { number, rows }, &[], &STANDARD, room, size)
+    call(
+        alloc,
+        PlainCommand::Bulk { number, rows },
+        &[],
+        &STANDARD,
+        room,
+        size,
+    )
 }

@@ -55,8 +55,8 @@ fn write_parts(text: &mut String, counts: &[usize]) -> Result<(), AllocError>
     Ok(())
 }
 
-/// The lines of shards: `market SHARD` for each market and `wallet SHARD` for each wallet, in declared order, `row SHARD` for each row, in
-/// its order, and `end`.
+/// The lines of shards: `market SHARD` for each market and `wallet SHARD` for each wallet, in declared order,
+/// `row SHARD` for each row, in its order, and `end`.
 fn shards_text(alloc: Global, shards: &Shards) -> Result<String, AllocError>
     ensures { IfOk result (λ text. string_bytes text
         ≡ texts.shards_text shards.now.markets.items shards.now.wallets.items shards.now.rows.items) }

@@ -12,16 +12,17 @@ use dex_answers::Status;
 use dex_state::{STANDARD, WIDE};
 use std::alloc::Global;
 
-/// The shard of each market, each wallet and each row of a script: lines `market SHARD` and `wallet SHARD` in declared order, `row SHARD` for
-/// each row in its order (two for a swap), and `end`. Rows of two shards share no market and no wallet.
+/// The shard of each market, each wallet and each row of a script: lines `market SHARD` and `wallet SHARD` in declared
+/// order, `row SHARD` for each row in its order (two for a swap), and `end`. Rows of two shards share no market and no
+/// wallet.
 pub fn shards(alloc: Global, script: &[u8], room: &mut [u8], size: &mut usize) -> u8
     ensures { EndsWith (SaysShards standard script.now) (done room.old room.new result size.new) }
 {
     tell(shards_answer(alloc, script, &STANDARD), room, size)
 }
 
-/// How many rows each part of a chain has, for parts of at most `rows` rows (two where that is one): lines `part COUNT`, and `end`. A swap is
-/// two rows and never parted. 1 where `rows` is 0.
+/// How many rows each part of a chain has, for parts of at most `rows` rows (two where that is one): lines
+/// `part COUNT`, and `end`. A swap is two rows and never parted. 1 where `rows` is 0.
 pub fn chained(alloc: Global, rows: u32, script: &[u8], room: &mut [u8], size: &mut usize) -> u8
     ensures { ((0 < rows) × EndsWith (SaysParts standard rows script.now) (done room.old room.new result size.new))
         ⊎ ((rows ≡ 0) × HasStopped status.Usage (done room.old room.new result size.new)) }
@@ -30,7 +31,11 @@ pub fn chained(alloc: Global, rows: u32, script: &[u8], room: &mut [u8], size: &
         *size = 0;
         return Status::Usage.code();
     }
-    tell(parts_answer(alloc, script, rows as usize, &STANDARD), room, size)
+    tell(
+        parts_answer(alloc, script, rows as usize, &STANDARD),
+        room,
+        size,
+    )
 }
 
 /// Like `shards`, within the widest limits.
@@ -41,7 +46,13 @@ pub fn shards_wide(alloc: Global, script: &[u8], room: &mut [u8], size: &mut usi
 }
 
 /// Like `chained`, within the widest limits.
-pub fn chained_wide(alloc: Global, rows: u32, script: &[u8], room: &mut [u8], size: &mut usize) -> u8
+pub fn chained_wide(
+    alloc: Global,
+    rows: u32,
+    script: &[u8],
+    room: &mut [u8],
+    size: &mut usize,
+) -> u8
     ensures { ((0 < rows) × EndsWith (SaysParts wide rows script.now) (done room.old room.new result size.new))
         ⊎ ((rows ≡ 0) × HasStopped status.Usage (done room.old room.new result size.new)) }
 {
@@ -49,5 +60,9 @@ pub fn chained_wide(alloc: Global, rows: u32, script: &[u8], room: &mut [u8], si
         *size = 0;
         return Status::Usage.code();
     }
-    tell(parts_answer(alloc, script, rows as usize, &WIDE), room, size)
+    tell(
+        parts_answer(alloc, script, rows as usize, &WIDE),
+        room,
+        size,
+    )
 }

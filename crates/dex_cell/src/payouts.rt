@@ -6,8 +6,8 @@ ghost use Rattle.dex_cell.specs.Paying.{CanMoveShare, moved_share, parcel_of};
 use dex_movements::Amounts;
 use dex_wallet::Parcel;
 
-/// The parcels that a row's wallets pay in, each None exactly where it pays nothing: the `coin` wallet's in the market's
-/// base mint, the `pc` wallet's in its quote mint.
+/// The parcels that a row's wallets pay in, each None exactly where it pays nothing: the `coin` wallet's in the base
+/// mint of the market, the `pc` wallet's in its quote mint.
 #[derive(Debug)]
 pub struct Deposits {
     pub coin: Option<Parcel>,

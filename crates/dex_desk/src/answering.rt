@@ -118,7 +118,7 @@ fn take_instruction(alloc: Global, block: Block, buffers: &mut Buffers) -> Resul
     }
 }
 
-/// The same block where there is room for more rows, or what is left when its rows acted.
+/// The block as it is where there is room for more rows, or what is left when its rows acted.
 fn with_room(alloc: Global, block: Block, buffers: &mut Buffers) -> Result<Block, NoMemory>
     ensures { IfOk result (λ after. Went [] block after buffers.old.text.items buffers.new.text.items) }
 {

@@ -74,7 +74,7 @@ none-here address account markets place market changed within here found grown r
     ∙ ap (λ (m : PlainMarketAccounts). map market_accounts_of (take place markets) ++ (m ∷ map market_accounts_of (drop (place + 1) markets))) grown
     ∙ sym (rest ∙ ap (λ (ms : List PlainMarketAccounts). map market_accounts_of (take place markets) ++ ms) step)
 
--- the same, of the list as it was read and written
+-- an account is added to a market of the list as it was read and written
 pub added : (address : Address) (account : OrdersAccount) (markets first : List MarketAccounts) (place : ℕ) (d e changed : MarketAccounts)
     → markets ≡ first → place < length markets → is_same address (get_or markets place d).address ≡ true
     → changed ≡ record (get_or markets place e) { orders = changed.orders }

@@ -11,7 +11,7 @@ use Rattle.dex_dump.specs.DumpText.{account_rows, behind_first, dump_text, first
 use Rattle.dex_dump.proofs.BackLaws.{text-read}
 use Rattle.dex_dump.proofs.TextLaws.{lines_text-append, lines_text-one}
 
--- the same accounts without markets
+-- accounts without their markets
 abbrev pub front_of : PlainAccounts → PlainAccounts
 front_of accounts = record accounts { markets = [] }
 

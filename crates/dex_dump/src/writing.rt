@@ -271,6 +271,7 @@ fn write_piece(text: &mut Vec<u8>, symbols: &mut [u8; 1024], piece: &[u8]) -> Re
     }
     match STANDARD.encode_slice(piece, symbols) {
         Ok(length) => text.extend_from_slice(&symbols[..length]),
+        // A piece gives at most as many symbols as there is room for.
         Err(_) => unreachable!(),
     }
 }

@@ -58,8 +58,8 @@ pub record IsBankMarket (market : BankMarketState) : Type 0 where
   pub lanes : (lane : ℕ)
       → calls_by lane market.cell.calls ≤ length (rows_of_market lane market.cell.start.address market.script.rows)
 
--- a row may act on the market under a stamp, and on the wallets in hand, which stand at these places: its lane has a row
--- left on the market, and the stamp is above all of its journal's
+-- a row may act on the market under a stamp, and on the wallets in hand, which stand at these places: its lane has a
+-- row left on the market, and the stamp is above all of its journal's
 pub record MayStep (row : PlainRow) (places : WalletPlaces) (stamp : ℕ) (market : BankMarketState) (cells : List CellState)
     : Type 0 where
   pub on : row.market ≡ market.cell.accounts.address

@@ -15,8 +15,8 @@ use dex_types::Accounts;
 use std::alloc::Global;
 
 /// The accounts with sides of this many nodes and event queues for this many events, from 1 to 65,536 and from 1 to
-/// 65,535; every order and every pending event stays, and all other accounts are as they were. They are accepted again, within
-/// the same limits.
+/// 65,535; every order and every pending event stays, and all other accounts are as they were. They are accepted again,
+/// within the same limits.
 ///
 /// `TooSmall` comes exactly where a market has more bids or asks than such a side has room for, or more pending events
 /// than such a queue: it names the first such market, and of it bids before asks before events. Else only memory can be

@@ -29,7 +29,7 @@ use Rattle.dex_script.proofs.FaultLaws.{bind-ok, differ, no-error, ok-same}
 use Rattle.dex_script.proofs.ItemRows.{IsSwapRow, first_leg, second_leg, swap-row}
 use Rattle.dex_script.proofs.OrderLaws.{by-row, first-row, last_script, through}
 
--- the same draft of a script for another command
+-- a draft as it is for another command
 abbrev other_use : Bool → PlainDraft → PlainDraft
 other_use use_batch draft = record draft { batch = use_batch }
 

@@ -30,7 +30,7 @@ use Rattle.dex_script_types.specs.Known.{has_account, has_market, is_known_role}
 use Rattle.dex_script.specs.Drafts.{PlainDraft}
 use Rattle.dex_script.specs.Known.{is_any_among, made_addresses, mint_at, orders_at, with_supply}
 
--- the same script with other accounts, after a setup row that declares these addresses
+-- the script with other accounts, after a setup row that declares these addresses
 abbrev pub with_start : PlainDraft → List Address → PlainAccounts → PlainDraft
 with_start draft new start = record draft { script = record draft.script { start = start }; taken = draft.taken ++ new; is_first = false }
 

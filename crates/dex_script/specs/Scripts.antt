@@ -58,8 +58,8 @@ abbrev pub AnswersBy : Limits → Bool → Bool → List Fields → Result Plain
 AnswersBy limits batch true rows answer = (dump : PlainAnswer) × AnswersDump limits rows dump × (answer ≡ behind limits batch dump)
 AnswersBy limits batch false rows answer = answer ≡ script_from (no_rows limits batch) 1 rows
 
--- what a text answers within these limits: its script, or why it is none. Whether the script is to act in batches stands
--- before the text: such a script has no swap
+-- what a text answers within these limits: its script, or why it is none. Whether the script is to act in batches
+-- stands before the text: such a script has no swap
 abbrev pub Answers : Limits → Bool → List ℕ → Result PlainScript Refusal → Type 0
 Answers limits batch text answer = AnswersBy limits batch (begins_with_dump (rows_of text)) (rows_of text) answer
 

@@ -29,7 +29,7 @@ const MANY: usize = 262_144;
 /// For so many rows: a little more than the 128 KB from which on the C library's lists are pages of their own.
 const ROWS: usize = 512;
 
-/// The same for the places of rows.
+/// For the places of so many rows at once.
 const PLACES: usize = 6_600;
 
 /// A script as far as its rows are read, the places of each row, and, from its first instruction row on, the names of

@@ -86,9 +86,9 @@ impl MakeMarkets for InTurn {
 }
 
 /// The script that a text is: the accounts that its first rows make, or that the dump at its start holds, and its
-/// instruction rows, within the program's limits. Else the first faulty row with the lowest of its faults, or the fault or
-/// the findings of the dump.
-/// In a script that is to act in batches a swap is a fault, so each of its rows acts by itself.
+/// instruction rows, within the program's limits. Else the first faulty row with the lowest of its faults, or the fault
+/// or the findings of the dump. In a script that is to act in batches a swap is a fault, so each of its rows acts by
+/// itself.
 pub fn read_script(alloc: Global, bytes: &[u8], batch: bool) -> Result<Script, ScriptError>
     ensures told { TellsScript standard result batch bytes.now }
     ensures apart { IfOk result (λ script. batch ≡ true → HasNoSwap script.rows) }
@@ -205,11 +205,7 @@ fn bytes_left(rows: &Rows<'_>) -> usize {
 
 /// The dump at the start, whose accounts have no findings.
 #[tactic(auto, using(dex_state::proofs::TheLimits::widened))]
-fn read_dump(
-    alloc: Global,
-    rows: &mut Rows<'_>,
-    limits: &Limits,
-) -> Result<DumpRead, ScriptError>
+fn read_dump(alloc: Global, rows: &mut Rows<'_>, limits: &Limits) -> Result<DumpRead, ScriptError>
     requires { AreLimits limits.now }
     ensures dump { TellsStart limits.now result rows.old rows.new }
     ensures accepted { IfOk result (λ read. AreAccepted limits.now (accounts_of read.accounts)) }

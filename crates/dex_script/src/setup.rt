@@ -37,6 +37,7 @@ impl Draft {
             } => self.add_wallet(alloc, address, mint, owner, amount),
             Statement::Market(words) => self.add_market(alloc, &words),
             Statement::Orders { market, address } => self.add_orders(alloc, market, address),
+            // By the condition it is a setup row.
             Statement::Clock(_) | Statement::Instruction(_) | Statement::Swap(_) => unreachable!(),
         }
     }
@@ -88,7 +89,10 @@ impl Draft {
         ensures { TellsAdded result (draft_of self.old) (draft_of self.new)
             (spec.with_mint (draft_of self.old) address decimals) }
     {
-        self.check_new(self.taken.has(address), self.limits.mints <= self.start.mints.len())?;
+        self.check_new(
+            self.taken.has(address),
+            self.limits.mints <= self.start.mints.len(),
+        )?;
         self.start.mints.add(alloc, address, decimals)?;
         self.take(&[address])?;
         Ok(())

@@ -9,7 +9,7 @@ ghost use Rattle.dex_script.specs.Scripts.{draft_after};
 ghost use Rattle.dex_script.specs.Telling.{TellsDraft, TellsScript};
 ghost use Rattle.dex_script_pieces.specs.Pieces.{HasRead, IsBeside, IsNext, rows_of};
 
-use crate::guesses::{Place, place_behind};
+use crate::guesses::{PieceStart, place_behind};
 use crate::making::{BesidePieces, SideBySide};
 use crate::piece::{Piece, read_behind};
 use dex_rows::plain::PlainRows;
@@ -94,7 +94,7 @@ fn read_in_pieces<R: Threads + Sync>(
     requires several { 2 ≤ count }
     ensures { TellsDraft result (draft_after reader number rows.entry) }
 {
-    let first = Place {
+    let first = PieceStart {
         number,
         clock: reader.clock(),
     };
@@ -110,7 +110,7 @@ fn read_in_pieces<R: Threads + Sync>(
 fn pieces_beside<'a>(
     alloc: Global,
     reader: &Reader,
-    begin: Place,
+    begin: PieceStart,
     rows: PlainRows<'a>,
     count: usize,
 ) -> Result<Vec<Piece<'a>>, AllocError>
@@ -137,7 +137,7 @@ fn pieces_beside<'a>(
 fn piece_beside<'a>(
     alloc: Global,
     reader: &Reader,
-    at: Place,
+    at: PieceStart,
     rows: PlainRows<'a>,
 ) -> Result<Piece<'a>, AllocError>
     ensures rows { IfOk result (λ piece. piece.rows ≡ rows.entry) }

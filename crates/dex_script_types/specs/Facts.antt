@@ -15,8 +15,8 @@ use Rattle.dex_world.specs.Items.{ShareNothing, items_of}
 use Rattle.dex_script_types.specs.PlainScript.{PlainScript}
 use Rattle.dex_script_types.specs.Known.{has_market, is_known_role}
 
--- accounts that a script within these limits can start with: they are accepted, market by market those of a sound market, and of each mint
--- wallets and vaults hold its supply
+-- accounts that a script within these limits can start with: they are accepted, market by market those of a sound
+-- market, and of each mint wallets and vaults hold its supply
 pub record IsStart (limits : Limits) (accounts : PlainAccounts) : Type 0 where
   pub accepted : AreAccepted limits accounts
   pub sound : All AreSound accounts.markets

@@ -24,8 +24,8 @@ pub const STANDARD: Limits = Limits {
     bytes: 67_108_864,
 };
 
-/// The highest limits: places are numbers of 16 bits, of which the highest marks none, and rows have numbers of 32 bits.
-/// The bytes are one tebibyte.
+/// The highest limits: places are numbers of 16 bits, of which the highest marks none, and rows have numbers of 32
+/// bits. The bytes are one tebibyte.
 pub const WIDE: Limits = Limits {
     mints: 256,
     wallets: 65_535,

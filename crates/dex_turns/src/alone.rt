@@ -48,6 +48,7 @@ impl<'a, P: Pace> Acts for RowAlone<'a, P> {
     fn place(&self, address: Address) -> usize {
         match place_in(self.row, self.places, address) {
             Some(place) => place,
+            // Only wallets that the row names are asked for.
             None => unreachable!(),
         }
     }

@@ -88,6 +88,7 @@ impl<'a, P: Pace> Acts for SwapLegs<'a, P> {
             Some(place) => place,
             None => match place_in(self.second, self.second_places, address) {
                 Some(place) => place,
+                // Only wallets that a leg names are asked for.
                 None => unreachable!(),
             },
         }
@@ -114,8 +115,14 @@ impl<'a, P: Pace> Acts for SwapLegs<'a, P> {
         let one_stamp = stamp.next();
         let two_stamp = stamp.next();
         let TwoMarkets { first, second } = markets;
-        let (one, two) =
-            BankMarket::step_two(first, second, hands, bank.terms(), &legs, &one_stamp);
+        let (one, two) = BankMarket::step_two(
+            first,
+            second,
+            hands,
+            bank.terms(),
+            &legs,
+            &one_stamp,
+        );
         TwoRecords {
             first: StampedRecord::of(one, one_stamp),
             second: StampedRecord::of(two, two_stamp),

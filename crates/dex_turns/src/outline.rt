@@ -130,6 +130,7 @@ fn place_among(addresses: &[Address], address: Address) -> u16
 {
     match find(addresses, address) {
         Some(place) => place as u16,
+        // By the condition it is among them.
         None => unreachable!(),
     }
 }
