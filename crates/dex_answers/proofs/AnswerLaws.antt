@@ -9,8 +9,8 @@ use Rattle.dex_statement.specs.Words.{Fields}
 use Rattle.dex_statement.specs.Faults.{◌>>=◌}
 use Rattle.dex_statement.specs.declared.faults.FaultKind.{FaultKind}
 use Rattle.dex_migrate.specs.TooSmall.{first_fault}
-use Rattle.dex_state.specs.declared.limits.Limits.{Limits}
-use Rattle.dex_state.specs.declared.limits.TheConstants.{STANDARD}
+use Rattle.dex_types.specs.declared.limits.Limits.{Limits}
+use Rattle.dex_types.specs.declared.limits.TheConstants.{STANDARD}
 use Rattle.dex_dump.specs.declared.faults.DumpFault.{DumpFault}
 use Rattle.dex_dump.specs.Answers.{AnswersDump, AnswersText, PlainAnswer, next_number}
 use Rattle.dex_dump.proofs.OneAnswer.{dump-once, text-once}

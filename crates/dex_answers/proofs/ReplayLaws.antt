@@ -1,7 +1,7 @@
 -- What a replay answers where all rows acted.
 use Rattle.std.proofs.Common.{ℕ, List, ap}
 use Rattle.dex_words.specs.declared.command.Command.TheVariants.{Replay}
-use Rattle.dex_state.specs.declared.limits.Limits.{Limits}
+use Rattle.dex_types.specs.declared.limits.Limits.{Limits}
 use Rattle.dex_state.specs.declared.outcome.Outcome.{Outcome}
 use Rattle.dex_state.specs.Outcomes.{outcome_of}
 use Rattle.dex_report.specs.Report.{report_text}

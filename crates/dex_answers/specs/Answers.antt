@@ -5,8 +5,8 @@ use Rattle.dex_words.specs.declared.command.Command.{Command}
 use Rattle.dex_words.specs.declared.command.Command.TheVariants.{Replay, Run, Dump, Audit, Worth, Make, Bulk, Migrate, Batch}
 use Rattle.dex_statement.specs.declared.faults.FaultKind.{FaultKind}
 use Rattle.dex_statement.specs.Faults.{code_of, kind_number}
-use Rattle.dex_state.specs.declared.limits.Limits.{Limits}
-use Rattle.dex_state.specs.declared.limits.TheConstants.{STANDARD}
+use Rattle.dex_types.specs.declared.limits.Limits.{Limits}
+use Rattle.dex_types.specs.declared.limits.TheConstants.{STANDARD}
 use Rattle.dex_dump.specs.declared.faults.DumpFault.{DumpFault}
 use Rattle.dex_dump.specs.Answers.{AnswersText}
 use Rattle.dex_dump.specs.DumpText.{dump_text}

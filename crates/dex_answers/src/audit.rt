@@ -1,7 +1,7 @@
 //! The command `audit`.
 
 ghost use Rattle.std.specs.Prelude.{IfOk, length};
-ghost use Rattle.dex_state.specs.Limits.{AreLimits};
+ghost use Rattle.dex_types.specs.Limits.{AreLimits};
 ghost use Rattle.dex_refusal_lines.specs.Lines as lines;
 ghost use Rattle.dex_answers.specs.Telling.{IsText};
 ghost use Rattle.dex_answers.specs.Told.{text_of};
@@ -13,8 +13,7 @@ use crate::clean::{Checked, check_dump};
 use crate::status::Status;
 use crate::told::StatusText;
 use dex_refusal_lines::audit_ok_text;
-use dex_state::Limits;
-use dex_types::{Accounts, NoMemory};
+use dex_types::{Accounts, Limits, NoMemory};
 use std::alloc::Global;
 
 /// Tells that the accounts of a dump have no findings, or their findings, or the first faulty row of the dump within

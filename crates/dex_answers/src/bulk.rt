@@ -15,8 +15,8 @@ use crate::played::{Played, play_script};
 use crate::status::Status;
 use crate::told::StatusText;
 use dex_report::{bulk_text, make_script};
-use dex_state::{MarketJournal, Outcome, STANDARD};
-use dex_types::{Address, MarketAccounts, NoMemory};
+use dex_state::{MarketJournal, Outcome};
+use dex_types::{Address, MarketAccounts, NoMemory, STANDARD};
 use std::alloc::Global;
 
 /// The summary of the made script of this number with this many drawn rows, which is read back and replayed.

@@ -1,15 +1,14 @@
 //! Accounts of a dump that have no findings.
 
 ghost use Rattle.std.specs.Prelude.{IfOk};
-ghost use Rattle.dex_state.specs.Limits.{AreLimits};
+ghost use Rattle.dex_types.specs.Limits.{AreLimits};
 ghost use Rattle.dex_answers.specs.Telling.{TellsChecked};
 
 use crate::lines::{audit_failed, dump_refused};
 use crate::told::StatusText;
 use dex_audit::audit;
 use dex_dump::{DumpError, read_dump_within};
-use dex_state::Limits;
-use dex_types::{Accounts, NoMemory};
+use dex_types::{Accounts, Limits, NoMemory};
 use std::alloc::Global;
 
 /// What a dump is found to be.

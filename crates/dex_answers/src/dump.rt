@@ -2,7 +2,7 @@
 
 ghost use Rattle.std.specs.Prelude.{IfOk};
 ghost use Rattle.dex_dump.specs.DumpText.{dump_text};
-ghost use Rattle.dex_state.specs.Limits.{AreLimits};
+ghost use Rattle.dex_types.specs.Limits.{AreLimits};
 ghost use Rattle.dex_types.specs.Accounts.{accounts_of};
 ghost use Rattle.dex_words.specs.declared.command.Command.TheVariants.{Dump};
 ghost use Rattle.dex_answers.specs.Answers.{AnswersWithin};
@@ -14,8 +14,7 @@ use crate::played::{Played, play_script};
 use crate::status::Status;
 use crate::told::StatusText;
 use dex_dump::{Pieces, room_of_dump, take_accounts};
-use dex_state::Limits;
-use dex_types::{Accounts, NoMemory};
+use dex_types::{Accounts, Limits, NoMemory};
 use std::alloc::Global;
 
 /// The dump of the accounts when all rows of a script have acted, or why the bytes are no script within

@@ -3,7 +3,7 @@
 ghost use Rattle.std.specs.Prelude.{◌≤◌, IfOk};
 ghost use Rattle.dex_dump.specs.DumpText.{dump_text};
 ghost use Rattle.dex_refusal_lines.specs.Lines as lines;
-ghost use Rattle.dex_state.specs.Limits.{AreLimits};
+ghost use Rattle.dex_types.specs.Limits.{AreLimits};
 ghost use Rattle.dex_types.specs.Accounts.{accounts_of};
 ghost use Rattle.dex_words.specs.declared.command.Command.TheVariants.{Migrate};
 ghost use Rattle.dex_answers.specs.Answers.{AnswersWithin};
@@ -17,8 +17,7 @@ use crate::status::Status;
 use crate::told::StatusText;
 use dex_migrate::{MigrateError, MigrateFault, migrate};
 use dex_refusal_lines::migrate_refused_text;
-use dex_state::Limits;
-use dex_types::NoMemory;
+use dex_types::{Limits, NoMemory};
 use std::alloc::Global;
 
 /// The dump of the accounts with sides of this many nodes and event queues for this many events; or what would not fit;

@@ -1,8 +1,8 @@
 //! What the rows of a script leave.
 
 ghost use Rattle.std.specs.Prelude.{ℕ, Bool, List, IfOk, false};
-ghost use Rattle.dex_state.specs.declared.limits.Limits.{Limits};
-ghost use Rattle.dex_state.specs.Limits.{AreLimits};
+ghost use Rattle.dex_types.specs.declared.limits.Limits.{Limits};
+ghost use Rattle.dex_types.specs.Limits.{AreLimits};
 ghost use Rattle.dex_script.specs.Telling.{TellsError, TellsScript};
 ghost use Rattle.dex_answers.specs.Answers.{IsNoScript};
 ghost use Rattle.dex_answers.specs.Telling.{TellsPlayed};
@@ -14,8 +14,8 @@ use dex_refusal_lines::ScriptRefused;
 use dex_replay::laws::without_swaps_rows_act_one_by_one;
 use dex_replay::replay;
 use dex_script::{Script, ScriptError, read_script_within};
-use dex_state::{Limits, Outcome};
-use dex_types::NoMemory;
+use dex_state::Outcome;
+use dex_types::{Limits, NoMemory};
 use std::alloc::Global;
 
 /// What a script came to.

@@ -2,8 +2,8 @@
 
 ghost use Rattle.std.specs.Prelude.{ℕ, IfOk, List};
 ghost use Rattle.dex_words.specs.declared.command.Command.TheVariants.{Replay};
-ghost use Rattle.dex_state.specs.declared.limits.Limits.{Limits};
-ghost use Rattle.dex_state.specs.Limits.{AreLimits};
+ghost use Rattle.dex_types.specs.declared.limits.Limits.{Limits};
+ghost use Rattle.dex_types.specs.Limits.{AreLimits};
 ghost use Rattle.dex_state.specs.Outcomes.{outcome_of};
 ghost use Rattle.dex_report.specs.Report.{report_text};
 ghost use Rattle.dex_report.specs.Telling.{FitOutcome};
@@ -16,8 +16,8 @@ use crate::played::{Played, play_script, play_taken};
 use crate::status::Status;
 use crate::told::StatusText;
 use dex_report::into_report_pieces;
-use dex_state::{Limits, Outcome};
-use dex_types::NoMemory;
+use dex_state::Outcome;
+use dex_types::{Limits, NoMemory};
 use std::alloc::Global;
 
 /// The report of what is left when all rows of a script have acted, or why the bytes are no script within

@@ -5,7 +5,7 @@ use Rattle.dex_fields.specs.declared.mint.TheConstants.{SUPPLY}
 use Rattle.dex_types.specs.Accounts.{PlainAccount, PlainAccounts, PlainMarketAccounts}
 use Rattle.dex_token.specs.MintAccount.{IsMint, mint_words}
 use Rattle.dex_accounts.specs.Decoded.{AreSound}
-use Rattle.dex_state.specs.declared.limits.Limits.{Limits}
+use Rattle.dex_types.specs.declared.limits.Limits.{Limits}
 use Rattle.dex_state.specs.Accepted.{AreAccepted}
 use Rattle.dex_state.specs.Held.{HoldBytes}
 use Rattle.dex_state.specs.Conserved.{IsConserved, held_of}

@@ -10,7 +10,7 @@ use Rattle.dex_types.specs.Trader.{trader_at}
 use Rattle.dex_laws.proofs.TraderLaws.{is_same-refl}
 use Rattle.dex_orders.specs.StandsFor.{traders_of}
 use Rattle.dex_state.specs.Addresses.{address_of, all_of_market, market_addresses, times}
-use Rattle.dex_state.specs.declared.limits.Limits.{Limits}
+use Rattle.dex_types.specs.declared.limits.Limits.{Limits}
 use Rattle.dex_state.specs.Accepted.{AreAccepted}
 
 -- one where it is so

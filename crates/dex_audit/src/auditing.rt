@@ -6,7 +6,7 @@ ghost use Rattle.dex_types.specs.Accounts.{accounts_of, market_accounts_of};
 ghost use Rattle.dex_accounts.specs.Accepted.{IsAccepted};
 ghost use Rattle.dex_audit.specs.Audited.{AreGathered};
 ghost use Rattle.dex_state.specs.Accepted.{AreAccepted};
-ghost use Rattle.dex_state.specs.declared.limits.TheConstants.{WIDE};
+ghost use Rattle.dex_types.specs.declared.limits.TheConstants.{WIDE};
 ghost use Rattle.dex_audit.specs.Findings as audits;
 ghost use Rattle.dex_audit_rules.specs.RulesOf.{told_by};
 

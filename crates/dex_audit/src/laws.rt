@@ -5,7 +5,7 @@ ghost use Rattle.std.specs.List.{All};
 ghost use Rattle.dex_types.specs.Accounts.{PlainAccounts};
 ghost use Rattle.dex_accounts.specs.Decoded.{AreSound};
 ghost use Rattle.dex_state.specs.Accepted.{AreAccepted};
-ghost use Rattle.dex_state.specs.declared.limits.Limits.{Limits};
+ghost use Rattle.dex_types.specs.declared.limits.Limits.{Limits};
 ghost use Rattle.dex_state.specs.Held.{HoldBytes};
 ghost use Rattle.dex_state.specs.Conserved.{IsConserved};
 ghost use Rattle.dex_audit.specs.Findings.{findings};

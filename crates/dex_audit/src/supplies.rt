@@ -7,7 +7,7 @@ ghost use Rattle.dex_token.specs.MintAccount.{IsMint};
 ghost use Rattle.dex_token.specs.TokenAccount.{IsWallet};
 ghost use Rattle.dex_accounts.specs.Accepted.{IsAccepted};
 ghost use Rattle.dex_state.specs.Accepted.{AreAccepted};
-ghost use Rattle.dex_state.specs.declared.limits.TheConstants.{WIDE};
+ghost use Rattle.dex_types.specs.declared.limits.TheConstants.{WIDE};
 ghost use Rattle.dex_state.specs.Conserved as spec;
 ghost use Rattle.dex_audit.specs.Supplies.{supply_off};
 ghost use Rattle.dex_totals.specs.Sums.{capped};

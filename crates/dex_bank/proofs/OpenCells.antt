@@ -1,7 +1,7 @@
 -- The cells with which a script starts are cells.
 use Rattle.std.proofs.Common.{◌≡◌, ℕ, suc, Bool, false, ◌||◌, List, [], ◌∷◌, get_or, map, refl, sym, ap, subst, ◌∙◌, arith}
 use Rattle.dex_world.proofs.Common.{Address, All-head, All-map, All-tail, PlainAccount, PlainAccounts, PlainMarketAccounts, PlainRow, is_same}
-use Rattle.dex_state.specs.declared.limits.Limits.{Limits}
+use Rattle.dex_types.specs.declared.limits.Limits.{Limits}
 use Rattle.dex_bank.proofs.Common.{AreAccepted, AreCells, AreSound, CellsState, IsAccepted, IsMarketCell, IsStart, IsWalletCell, address_of, is_among, market_opened, wallet_opened}
 use Rattle.std.specs.List.{All}
 use Rattle.dex_cell.specs.CellState as market

@@ -3,7 +3,7 @@
 ghost use Rattle.std.specs.Prelude.{◌≡◌, ◌==◌, ◌&&◌, not, ℕ, IfOk, map};
 ghost use Rattle.dex_types.specs.Accounts.{accounts_of};
 ghost use Rattle.dex_types.specs.Rows.{row_of};
-ghost use Rattle.dex_state.specs.declared.limits.Limits.{Limits};
+ghost use Rattle.dex_types.specs.declared.limits.Limits.{Limits};
 ghost use Rattle.dex_script_types.specs.Facts.{IsStart};
 ghost use Rattle.dex_script_types.specs.Places.{AreBeside, ArePlaced};
 ghost use Rattle.dex_bank.specs.Counts as spec;

@@ -10,7 +10,7 @@ ghost use Rattle.dex_accounts.specs.Accepted.{IsAccepted};
 ghost use Rattle.dex_accounts.specs.Decoded.{AreSound};
 ghost use Rattle.dex_token.specs.TokenAccount.{IsWallet};
 ghost use Rattle.dex_cell.specs.CellState as market;
-ghost use Rattle.dex_state.specs.declared.limits.Limits.{Limits};
+ghost use Rattle.dex_types.specs.declared.limits.Limits.{Limits};
 ghost use Rattle.dex_script_types.specs.Facts.{IsStart};
 ghost use Rattle.dex_script_types.specs.Places.{AreBeside, ArePlaced};
 ghost use Rattle.dex_wallet.specs.CellState as wallet;

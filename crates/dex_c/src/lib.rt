@@ -5,7 +5,7 @@
 ghost use Rattle.std.specs.Prelude.{◌≡◌, ◌<◌, ◌⊎◌, []};
 ghost use Rattle.dex_words.specs.declared.command.PlainCommand.TheVariants.{Audit, Bulk, Dump, Make, Migrate, Replay, Worth};
 ghost use Rattle.dex_answers.specs.declared.status.Status.TheVariants as status;
-ghost use Rattle.dex_state.specs.declared.limits.TheConstants.{STANDARD, WIDE};
+ghost use Rattle.dex_types.specs.declared.limits.TheConstants.{STANDARD, WIDE};
 ghost use Rattle.dex_call.specs.Calls.{Ends, EndsWith, EndsWithin, HasStopped, done};
 ghost use Rattle.dex_call.specs.PartsTexts.{SaysParts, SaysShards};
 

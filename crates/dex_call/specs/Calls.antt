@@ -3,8 +3,8 @@ use Rattle.std.specs.Prelude.{ℕ, ◌≡◌, ◌≤◌, ◌<◌, ◌++◌, ◌�
 use Rattle.dex_words.specs.declared.command.PlainCommand.{PlainCommand}
 use Rattle.dex_words.specs.Spelling.{IsWithin}
 use Rattle.dex_words.specs.Threads.{of_plain}
-use Rattle.dex_state.specs.declared.limits.Limits.{Limits}
-use Rattle.dex_state.specs.declared.limits.TheConstants.{STANDARD}
+use Rattle.dex_types.specs.declared.limits.Limits.{Limits}
+use Rattle.dex_types.specs.declared.limits.TheConstants.{STANDARD}
 use Rattle.dex_answers.specs.Answers.{AnswersWithin}
 use Rattle.dex_answers.specs.ExitCodes.{exit_code}
 use Rattle.dex_types.specs.declared.terms.NoMemory.{NoMemory}

@@ -1,13 +1,12 @@
 //! A call of any command on one thread, and how an answer is told.
 
-ghost use Rattle.dex_state.specs.Limits.{AreLimits};
+ghost use Rattle.dex_types.specs.Limits.{AreLimits};
 ghost use Rattle.dex_call.specs.Calls.{EndsWithin, Tells, done};
 
 use crate::writing::{put, size_of};
 use dex_answers::{Status, StatusText};
 use dex_commands::answer_within;
-use dex_state::Limits;
-use dex_types::NoMemory;
+use dex_types::{Limits, NoMemory};
 use dex_words::PlainCommand;
 use std::alloc::Global;
 

@@ -8,7 +8,7 @@ ghost use Rattle.dex_words.specs.declared.command.PlainCommand.TheVariants.{Audi
 ghost use Rattle.dex_call.specs.Calls.{Ends, done};
 
 use crate::calling::call;
-use dex_state::STANDARD;
+use dex_types::STANDARD;
 use dex_words::PlainCommand;
 use std::alloc::Global;
 

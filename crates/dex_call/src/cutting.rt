@@ -3,15 +3,14 @@
 ghost use Rattle.std.specs.Prelude.{◌≡◌, ◌<◌, ◌++◌, IfOk, OnOk};
 ghost use Rattle.std.specs.List.{flat_map};
 ghost use Rattle.std.specs.String.{string_bytes};
-ghost use Rattle.dex_state.specs.Limits.{AreLimits};
+ghost use Rattle.dex_types.specs.Limits.{AreLimits};
 ghost use Rattle.dex_answers.specs.Told.{text_of};
 ghost use Rattle.dex_call.specs.PartsTexts as texts;
 
 use dex_answers::{Status, StatusText, no_script};
 use dex_parts::{Shards, chained, shards_of};
 use dex_script::read_script_within;
-use dex_state::Limits;
-use dex_types::NoMemory;
+use dex_types::{Limits, NoMemory};
 use std::alloc::{AllocError, Global};
 use std::fmt::Write;
 

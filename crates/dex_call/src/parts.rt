@@ -1,7 +1,7 @@
 //! Where a script may be cut. Each call writes its text and tells its size as those of commands do.
 
 ghost use Rattle.std.specs.Prelude.{◌≡◌, ◌<◌, ◌⊎◌};
-ghost use Rattle.dex_state.specs.declared.limits.TheConstants.{STANDARD as standard, WIDE as wide};
+ghost use Rattle.dex_types.specs.declared.limits.TheConstants.{STANDARD as standard, WIDE as wide};
 ghost use Rattle.dex_answers.specs.declared.status.Status.TheVariants as status;
 ghost use Rattle.dex_call.specs.Calls.{EndsWith, HasStopped, done};
 ghost use Rattle.dex_call.specs.PartsTexts.{SaysParts, SaysShards};
@@ -9,7 +9,7 @@ ghost use Rattle.dex_call.specs.PartsTexts.{SaysParts, SaysShards};
 use crate::calling::tell;
 use crate::cutting::{parts_answer, shards_answer};
 use dex_answers::Status;
-use dex_state::{STANDARD, WIDE};
+use dex_types::{STANDARD, WIDE};
 use std::alloc::Global;
 
 /// The shard of each market, each wallet and each row of a script: lines `market SHARD` and `wallet SHARD` in declared

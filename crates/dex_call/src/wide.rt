@@ -1,11 +1,11 @@
 //! The commands that read dumps and scripts, within the widest limits.
 
 ghost use Rattle.dex_words.specs.declared.command.PlainCommand.TheVariants.{Audit, Dump, Migrate, Replay, Worth};
-ghost use Rattle.dex_state.specs.declared.limits.TheConstants.{WIDE as wide};
+ghost use Rattle.dex_types.specs.declared.limits.TheConstants.{WIDE as wide};
 ghost use Rattle.dex_call.specs.Calls.{EndsWithin, done};
 
 use crate::calling::call;
-use dex_state::WIDE;
+use dex_types::WIDE;
 use dex_words::PlainCommand;
 use std::alloc::Global;
 

@@ -5,7 +5,7 @@ use Rattle.dex_words.specs.declared.command.Command.TheVariants.{Replay, Run, Du
 use Rattle.dex_words.specs.declared.command.PlainCommand.{PlainCommand}
 use Rattle.dex_words.specs.declared.command.PlainCommand.TheVariants as plain
 use Rattle.dex_words.specs.Threads.{of_plain}
-use Rattle.dex_state.specs.declared.limits.TheConstants.{STANDARD}
+use Rattle.dex_types.specs.declared.limits.TheConstants.{STANDARD}
 use Rattle.dex_answers.specs.Answers.{Answers, IsNoScript}
 use Rattle.dex_answers.specs.Suits.{Suits}
 use Rattle.dex_answers.specs.declared.status.Status.{Status}

@@ -3,7 +3,7 @@
 ghost use Rattle.std.specs.Prelude.{IfOk};
 ghost use Rattle.dex_words.specs.Spelling.{IsWithin};
 ghost use Rattle.dex_words.specs.Threads.{of_plain};
-ghost use Rattle.dex_state.specs.Limits.{AreLimits};
+ghost use Rattle.dex_types.specs.Limits.{AreLimits};
 ghost use Rattle.dex_answers.specs.Answers.{Answers, AnswersWithin};
 ghost use Rattle.dex_answers.specs.Told.{text_of};
 
@@ -12,8 +12,7 @@ use dex_answers::{
     StatusText, audit_answer, bulk_answer, dump_answer, make_answer, migrate_answer, replay_answer,
     replay_taken,
 };
-use dex_state::{Limits, STANDARD};
-use dex_types::NoMemory;
+use dex_types::{Limits, NoMemory, STANDARD};
 use dex_words::PlainCommand;
 use std::alloc::Global;
 

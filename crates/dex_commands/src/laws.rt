@@ -2,7 +2,7 @@
 
 ghost use Rattle.std.specs.Prelude.{◌≡◌, ℕ, Bool, List};
 ghost use Rattle.dex_words.specs.declared.command.Command.{Command};
-ghost use Rattle.dex_state.specs.declared.limits.TheConstants.{STANDARD};
+ghost use Rattle.dex_types.specs.declared.limits.TheConstants.{STANDARD};
 ghost use Rattle.dex_answers.specs.Answers.{Reported};
 ghost use Rattle.dex_answers.specs.Suits.{Suits};
 ghost use Rattle.dex_answers.specs.declared.status.Status.{Status};

@@ -5,7 +5,7 @@ use Rattle.std.proofs.lemmas.Bool.{eqb-false, eqb-true}
 use Rattle.std.proofs.lemmas.List.{append-nil, map-append}
 use Rattle.std.proofs.lemmas.List.Concat.{flat_map-append}
 use Rattle.std.proofs.lemmas.List.Elements.{All-append, All-nil, All-push, All-weaker}
-use Rattle.dex_state.specs.declared.limits.TheConstants.{WIDE}
+use Rattle.dex_types.specs.declared.limits.TheConstants.{WIDE}
 use Rattle.dex_types.specs.declared.terms.Program.{Program}
 use Rattle.dex_types.specs.Rows.{PlainRow}
 use Rattle.dex_rows.specs.Records.{rows_of}

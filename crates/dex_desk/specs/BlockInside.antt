@@ -2,7 +2,7 @@
 use Rattle.std.specs.Prelude.{[], false, true, map}
 use Rattle.dex_types.specs.Accounts.{accounts_of}
 use Rattle.dex_types.specs.Rows.{row_of}
-use Rattle.dex_state.specs.declared.limits.TheConstants.{WIDE}
+use Rattle.dex_types.specs.declared.limits.TheConstants.{WIDE}
 use Rattle.dex_script_types.specs.Places.{AreBeside, ArePlaced}
 use Rattle.dex_desk.specs.declared.block.Block.TheInside.{Inside}
 use Rattle.dex_desk.specs.Blocks.{IsBlock, PlainBlock}

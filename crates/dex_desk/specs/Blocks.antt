@@ -1,7 +1,7 @@
 -- A block: rows that were accepted, and have not acted yet. It is a script so far, of the accounts that the blocks
 -- before it left.
 use Rattle.std.specs.Prelude.{◌≡◌, ℕ, ◌≤◌, ◌-◌, ◌^◌, ℤ, true, false, List, [], Result, Ok, Err}
-use Rattle.dex_state.specs.declared.limits.TheConstants.{WIDE}
+use Rattle.dex_types.specs.declared.limits.TheConstants.{WIDE}
 use Rattle.dex_types.specs.declared.terms.Program.{Program}
 use Rattle.dex_types.specs.Accounts.{PlainAccounts}
 use Rattle.dex_statement.specs.declared.faults.FaultKind.{FaultKind}

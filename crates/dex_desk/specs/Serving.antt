@@ -1,6 +1,6 @@
 -- What the calls of a session tell each other.
 use Rattle.std.specs.Prelude.{◌≡◌, ◌≤◌, ℕ, false, IfErr, IfOk, List, [], ◌∷◌, ◌++◌, Option, Some, None, Result, Ok, Err}
-use Rattle.dex_state.specs.declared.limits.TheConstants.{WIDE}
+use Rattle.dex_types.specs.declared.limits.TheConstants.{WIDE}
 use Rattle.dex_answers.specs.Answers.{IsNoScript}
 use Rattle.dex_answers.specs.ExitCodes.{exit_code}
 use Rattle.dex_answers.specs.declared.status.Status.{Status}

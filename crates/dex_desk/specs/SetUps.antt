@@ -1,6 +1,6 @@
 -- What a set-up opens.
 use Rattle.std.specs.Prelude.{◌≡◌, ℕ, ℤ, pos, false, if◌then◌else◌, List, [], ◌∷◌, bytes_eq, codes, Result, Ok}
-use Rattle.dex_state.specs.declared.limits.TheConstants.{WIDE}
+use Rattle.dex_types.specs.declared.limits.TheConstants.{WIDE}
 use Rattle.dex_answers.specs.Answers.{IsNoScript}
 use Rattle.dex_answers.specs.Told.{text_of}
 use Rattle.dex_replay.specs.Replays.{IsReplayOf}

@@ -9,7 +9,7 @@ ghost use Rattle.dex_types.specs.Addresses.{is_same};
 ghost use Rattle.dex_statement.specs.declared.statement.Statement.TheVariants as statement;
 ghost use Rattle.dex_statement.specs.Statements.{statement_of};
 ghost use Rattle.dex_statement.specs.Words.{Fields as FieldsOf};
-ghost use Rattle.dex_state.specs.declared.limits.TheConstants.{WIDE as wide};
+ghost use Rattle.dex_types.specs.declared.limits.TheConstants.{WIDE as wide};
 ghost use Rattle.dex_script_types.specs.Facts.{IsScript, IsStart};
 ghost use Rattle.dex_desk.specs.Blocks as spec;
 ghost use Rattle.dex_accounts.specs.Accepted.{IsAccepted};
@@ -19,10 +19,11 @@ ghost use Rattle.dex_script.specs.Names.{AreNames};
 ghost use Rattle.dex_script.specs.Rows as rules;
 
 use dex_script::{Names, exceeds_row, is_bad_swap, make_room, push_placed};
-use dex_state::WIDE;
 use dex_script_types::{RowList, Script};
 use dex_statement::{FaultKind, InstructionWords, RowError, SwapWords};
-use dex_types::{Accounts, Address, MarketAccounts, NoMemory, Program, Row, RowPlaces, is_same};
+use dex_types::{
+    Accounts, Address, MarketAccounts, NoMemory, Program, Row, RowPlaces, WIDE, is_same,
+};
 use std::alloc::Global;
 use std::marker::Model;
 

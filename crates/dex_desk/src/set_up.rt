@@ -4,7 +4,7 @@ ghost use Rattle.std.specs.Prelude.{◌≡◌, IfOk, pos};
 ghost use Rattle.dex_types.specs.Accounts.{accounts_of};
 ghost use Rattle.dex_rows.specs.Records.{rows_of};
 ghost use Rattle.dex_state.specs.Accepted.{AreAccepted};
-ghost use Rattle.dex_state.specs.declared.limits.TheConstants.{WIDE as wide};
+ghost use Rattle.dex_types.specs.declared.limits.TheConstants.{WIDE as wide};
 ghost use Rattle.dex_script.specs.Names.{AreNames};
 ghost use Rattle.dex_script.specs.Pieces.{number_after};
 ghost use Rattle.dex_desk.specs.SetUps as spec;
@@ -16,9 +16,8 @@ use dex_replay::replay;
 use dex_rows::records::{Fields, Rows, field_at};
 use dex_script::{Names, a_script_has_its_limits, read_script_within};
 use dex_script_types::{addresses_of_markets, addresses_of_wallets};
-use dex_state::WIDE;
 use dex_statement::{RowError, Statement, statement_of};
-use dex_types::{Accounts, NoMemory};
+use dex_types::{Accounts, NoMemory, WIDE};
 use std::alloc::Global;
 
 /// What a set-up came to.

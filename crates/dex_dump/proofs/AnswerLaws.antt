@@ -1,6 +1,6 @@
 -- How reading goes on from one row to the next, and how it ends.
 use Rattle.std.proofs.Common.{◌≡◌, ◌∷◌, ℕ, List, true, Some, Err, refl, sym, inl, subst}
-use Rattle.dex_state.specs.declared.limits.Limits.{Limits}
+use Rattle.dex_types.specs.declared.limits.Limits.{Limits}
 use Rattle.dex_dump.specs.declared.faults.DumpError.{DumpError}
 use Rattle.dex_dump.specs.declared.faults.DumpError.TheVariants as dump
 use Rattle.dex_dump.specs.Answers.{Answers, PlainAnswer, stated}

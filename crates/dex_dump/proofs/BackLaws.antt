@@ -17,7 +17,7 @@ use Rattle.dex_token.specs.MintAccount.{IsMint}
 use Rattle.dex_token.specs.TokenAccount.{IsWallet, wallet_words}
 use Rattle.dex_token.proofs.TokenRules.{none_from_mint}
 use Rattle.dex_accounts.specs.Accepted.{IsAccepted, NamesMarket}
-use Rattle.dex_state.specs.declared.limits.Limits.{Limits}
+use Rattle.dex_types.specs.declared.limits.Limits.{Limits}
 use Rattle.dex_state.specs.Addresses.{address_of, all_of_market, market_addresses, parts_of, times}
 use Rattle.dex_state.specs.Accepted.{AreAccepted, AreApart as NamesApart, HasFew, HasMints, IsMintOf}
 use Rattle.dex_state.specs.Held.{HoldBytes, IsAddress, IsHeld, IsHeldMarket}

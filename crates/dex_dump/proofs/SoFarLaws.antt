@@ -24,8 +24,8 @@ use Rattle.dex_accounts.specs.Accepted.{IsAccepted, NamesMarket}
 use Rattle.dex_rows.specs.Records.{rows_of}
 use Rattle.dex_dump.specs.declared.faults.DumpError.{DumpError}
 use Rattle.dex_dump.specs.declared.reader.DumpRead.{DumpRead}
-use Rattle.dex_state.specs.declared.limits.Limits.{Limits}
-use Rattle.dex_state.specs.Limits.{AreLimits}
+use Rattle.dex_types.specs.declared.limits.Limits.{Limits}
+use Rattle.dex_types.specs.Limits.{AreLimits}
 use Rattle.dex_state.specs.Addresses.{addresses_of, is_mint, market_addresses, parts_of, times}
 use Rattle.dex_state.specs.Accepted.{AreAccepted, AreApart as NamesApart, HasFew, HasMints, IsMintOf}
 use Rattle.dex_state.specs.Held.{HoldBytes, IsHeld, IsHeldMarket}
@@ -313,7 +313,7 @@ line-accepted limits reading (Wallet wallet) so read allowed hold once =
       msrm = old.msrm;
       apart = old.apart;
       within = old.within;
-  few_mints = old.few_mints;
+      few_mints = old.few_mints;
       few_wallets = room-left accounts.wallets wallet reading.limits.wallets (and_parts _ _ allowed).1;
       few_markets = old.few_markets;
       few_orders = old.few_orders;
@@ -336,7 +336,7 @@ line-accepted limits reading (Market market) so read allowed hold once =
       msrm = old.msrm;
       apart = old.apart;
       within = old.within;
-  few_mints = old.few_mints;
+      few_mints = old.few_mints;
       few_wallets = old.few_wallets;
       few_markets = room-left accounts.markets market reading.limits.markets (and_parts _ _ allowed).1;
       few_orders = All-push (HasFew reading.limits) accounts.markets market old.few_orders none;
@@ -359,7 +359,7 @@ line-accepted limits reading (Orders name account) so read allowed hold once =
       msrm = old.msrm;
       apart = old.apart;
       within = old.within;
-  few_mints = old.few_mints;
+      few_mints = old.few_mints;
       few_wallets = old.few_wallets;
       few_markets = subst (λ (n : ℕ). n ≤ reading.limits.markets) (sym (orders-length name account accounts.markets)) old.few_markets;
       few_orders = orders-few reading.limits name account accounts.markets room old.few_orders;

@@ -3,7 +3,7 @@ use Rattle.std.proofs.Common.{◌≡◌, ◌++◌, ◌∷◌, ◌∙◌, [], ℕ
 use Rattle.std.specs.List.{flat_map}
 use Rattle.dex_types.specs.Accounts.{PlainAccounts}
 use Rattle.dex_dump_rows.specs.Lines.{Fields}
-use Rattle.dex_state.specs.declared.limits.Limits.{Limits}
+use Rattle.dex_types.specs.declared.limits.Limits.{Limits}
 use Rattle.dex_state.specs.Accepted.{AreAccepted}
 use Rattle.dex_state.specs.Held.{HoldBytes, IsHeldMarket}
 use Rattle.dex_dump.specs.Answers.{IsReadAs}

@@ -2,7 +2,7 @@
 use Rattle.std.specs.Prelude.{◌≡◌, ℕ, Bool, true, false, List, Some, Result, Ok, Err}
 use Rattle.dex_types.specs.declared.account_bytes.Accounts.{Accounts}
 use Rattle.dex_types.specs.Accounts.{accounts_of}
-use Rattle.dex_state.specs.declared.limits.Limits.{Limits}
+use Rattle.dex_types.specs.declared.limits.Limits.{Limits}
 use Rattle.dex_dump.specs.declared.reading.Reading.{Reading}
 use Rattle.dex_dump.specs.declared.checks.Failed.{Failed}
 use Rattle.dex_dump.specs.declared.reading.Stop.{Stop}

@@ -5,8 +5,8 @@ ghost use Rattle.dex_types.specs.Accounts.{PlainAccounts};
 ghost use Rattle.dex_dump_rows.specs.Lines.{Fields};
 ghost use Rattle.dex_state.specs.Accepted.{AreAccepted};
 ghost use Rattle.dex_state.specs.Held.{HoldBytes};
-ghost use Rattle.dex_state.specs.Limits.{AreLimits};
-ghost use Rattle.dex_state.specs.declared.limits.Limits.{Limits};
+ghost use Rattle.dex_types.specs.Limits.{AreLimits};
+ghost use Rattle.dex_types.specs.declared.limits.Limits.{Limits};
 ghost use Rattle.dex_dump.specs.Answers.{AnswersDump, AnswersText, AreReadAs, IsReadAs, PlainDump};
 ghost use Rattle.dex_dump.specs.DumpText.{dump_rows, dump_text};
 

@@ -3,8 +3,8 @@
 ghost use Rattle.std.specs.Prelude.{◌≡◌, IfOk};
 ghost use Rattle.dex_types.specs.Accounts.{accounts_of};
 ghost use Rattle.dex_state.specs.Accepted.{AreAccepted};
-ghost use Rattle.dex_state.specs.Limits.{AreLimits};
-ghost use Rattle.dex_state.specs.declared.limits.TheConstants.{STANDARD as standard};
+ghost use Rattle.dex_types.specs.Limits.{AreLimits};
+ghost use Rattle.dex_types.specs.declared.limits.TheConstants.{STANDARD as standard};
 ghost use Rattle.dex_state.specs.Held.{HoldBytes};
 ghost use Rattle.dex_dump.specs.Answers as spec;
 ghost use Rattle.dex_dump.specs.Telling.{TellsAccounts, TellsDump, TellsRow, TellsText, plain_reading};
@@ -14,8 +14,7 @@ use crate::faults::{DumpError, DumpFault};
 use crate::reading::{Reading, Stop};
 use dex_dump_rows::{Line, LineError, is_first_row, line_of};
 use dex_rows::records::{Fields, Rows};
-use dex_state::{Limits, STANDARD};
-use dex_types::{AccountFault, Accounts};
+use dex_types::{AccountFault, Accounts, Limits, STANDARD};
 use std::alloc::Global;
 use std::marker::Model;
 
@@ -52,11 +51,7 @@ pub fn read_dump_within(alloc: Global, bytes: &[u8], limits: &Limits) -> Result<
 
 /// The accounts of a dump within these limits that the next rows of a text are, up to the row `enddump`, or its first
 /// faulty row. What stands behind it is not looked at.
-pub fn read_rows(
-    alloc: Global,
-    rows: &mut Rows<'_>,
-    limits: &Limits,
-) -> Result<DumpRead, DumpError>
+pub fn read_rows(alloc: Global, rows: &mut Rows<'_>, limits: &Limits) -> Result<DumpRead, DumpError>
     requires { AreLimits limits.now }
     ensures answer { TellsDump limits.now result rows.old rows.new }
     ensures accepted { IfOk result (λ read. AreAccepted limits.now (accounts_of read.accounts)) }
@@ -70,11 +65,7 @@ pub fn read_rows(
 }
 
 // The accounts of the rows after the first.
-fn read_accounts(
-    alloc: Global,
-    rows: &mut Rows<'_>,
-    limits: &Limits,
-) -> Result<DumpRead, DumpError>
+fn read_accounts(alloc: Global, rows: &mut Rows<'_>, limits: &Limits) -> Result<DumpRead, DumpError>
     ensures { TellsAccounts limits.now result rows.old rows.new }
 {
     let mut reading = Reading::new(alloc, *limits);

@@ -18,9 +18,10 @@ use crate::checks::{
 use crate::taken::TakenAddresses;
 use dex_dump_rows::Line;
 use dex_fields::market;
-use dex_state::Limits;
 use dex_token::check_mint;
-use dex_types::{Accounts, Address, MarketAccounts, Named, NoMemory, OrdersAccount, is_same};
+use dex_types::{
+    Accounts, Address, Limits, MarketAccounts, Named, NoMemory, OrdersAccount, is_same,
+};
 use std::alloc::{AllocFailed, Global};
 
 /// The accounts that rows have declared, every address that is taken: those of these accounts, and those of each

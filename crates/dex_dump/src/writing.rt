@@ -6,7 +6,7 @@ ghost use Rattle.dex_types.specs.Accounts.{accounts_of, market_accounts_of, name
 ghost use Rattle.dex_types.specs.Text.{address_text};
 ghost use Rattle.hex.specs.Hex.{IsBytes};
 ghost use Rattle.dex_state.specs.Accepted.{AreAccepted};
-ghost use Rattle.dex_state.specs.declared.limits.Limits.{Limits};
+ghost use Rattle.dex_types.specs.declared.limits.Limits.{Limits};
 ghost use Rattle.dex_state.specs.Held.{HoldBytes, IsAddress, IsHeld, IsHeldMarket};
 ghost use Rattle.dex_dump.specs.Answers.{IsReadAs};
 ghost use Rattle.dex_dump.specs.DumpText.{account_row, account_rows, base64_text, dump_text, first_row, line_text, lines_text};

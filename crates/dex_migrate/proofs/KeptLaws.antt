@@ -15,7 +15,7 @@ use Rattle.dex_accounts.specs.Accepted.{IsAccepted}
 use Rattle.dex_ring.specs.Ring.{Ring}
 use Rattle.dex_accounts.specs.StandsFor.{StandsFor}
 use Rattle.dex_state.specs.Addresses.{address_of, addresses_of, all_of_market, times}
-use Rattle.dex_state.specs.declared.limits.Limits.{Limits}
+use Rattle.dex_types.specs.declared.limits.Limits.{Limits}
 use Rattle.dex_state.specs.Accepted.{AreAccepted, HasFew, HasMints}
 use Rattle.dex_slab.specs.Nodes.{room_of}
 use Rattle.dex_migrate.specs.Migrated.{AreMigrated, IsMigrated, with_capacities}

@@ -4,7 +4,7 @@ ghost use Rattle.std.specs.Prelude.{◌≡◌, ◌≤◌, ℕ};
 ghost use Rattle.dex_accounts.specs.StandsFor.{StandsFor};
 ghost use Rattle.dex_audit.specs.Findings.{findings};
 ghost use Rattle.dex_state.specs.Accepted.{AreAccepted};
-ghost use Rattle.dex_state.specs.declared.limits.Limits.{Limits};
+ghost use Rattle.dex_types.specs.declared.limits.Limits.{Limits};
 ghost use Rattle.dex_migrate.specs.Migrated.{AreMigrated, IsMigrated, with_capacities};
 ghost use Rattle.dex_migrate.specs.TooSmall.{Fits};
 ghost use Rattle.dex_types.specs.Accounts.{PlainAccounts, PlainMarketAccounts};

@@ -2,8 +2,8 @@
 
 ghost use Rattle.std.specs.Prelude.{◌≡◌, ◌≤◌, IfOk, MatchResult, Some, None};
 ghost use Rattle.dex_state.specs.Accepted.{AreAccepted};
-ghost use Rattle.dex_state.specs.declared.limits.Limits.{Limits};
-ghost use Rattle.dex_state.specs.declared.limits.TheConstants.{WIDE};
+ghost use Rattle.dex_types.specs.declared.limits.Limits.{Limits};
+ghost use Rattle.dex_types.specs.declared.limits.TheConstants.{WIDE};
 ghost use Rattle.dex_migrate.specs.Migrated.{AreMigrated};
 ghost use Rattle.dex_migrate.specs.Answers.{Answers};
 ghost use Rattle.dex_types.specs.Accounts.{accounts_of};

@@ -16,7 +16,7 @@ use Rattle.dex_world.specs.Items.{Item, fold_items, items_of}
 use Rattle.dex_world.specs.World.{MarketState, WalletState, World}
 use Rattle.dex_world.proofs.GroupLaws.{grouped-behind}
 use Rattle.dex_world.proofs.MappedLists.{All-front}
-use Rattle.dex_state.specs.declared.limits.Limits.{Limits}
+use Rattle.dex_types.specs.declared.limits.Limits.{Limits}
 use Rattle.dex_state.specs.Accepted.{AreAccepted}
 use Rattle.dex_state.specs.Addresses.{address_of}
 use Rattle.dex_state.specs.Outcomes.{PlainMarketJournal, PlainOutcome, PlainWalletJournal}

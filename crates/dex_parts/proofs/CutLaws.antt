@@ -1,5 +1,5 @@
 -- Rows that are cut where no number is parted are a chain.
-use Rattle.std.proofs.Common.{◌≡◌, ◌<◌, ◌≤◌, ◌+◌, ◌-◌, ◌==◌, inl, inr, ℕ, zero, suc, false, List, [], ◌∷◌, ◌++◌, append_assoc, drop, get_or, length, map, take, refl, sym, ap, ◌∙◌, subst, arith, ⊎_elim}
+use Rattle.std.proofs.Common.{◌≡◌, ◌<◌, ◌≤◌, ◌+◌, ◌-◌, ◌==◌, ◌⊎◌, inl, inr, ℕ, zero, suc, false, List, [], ◌∷◌, ◌++◌, append_assoc, drop, get_or, length, map, take, refl, sym, ap, ◌∙◌, subst, arith, ⊎_elim}
 use Rattle.std.specs.List.{All, AllPairs}
 use Rattle.std.proofs.lemmas.Bool.{cases_eq, eq-eqb, false≢true, ne_eqb}
 use Rattle.std.proofs.lemmas.List.{append-nil, get_or-drop, get_or-map, get_or-take, get_or_default, length-drop, length-map, length-take-le}
@@ -12,7 +12,7 @@ use Rattle.dex_script_types.specs.Places.{AreBeside, IsBeside}
 use Rattle.dex_script_types.specs.PlainScript.{PlainScript}
 use Rattle.dex_state.specs.Outcomes.{PlainOutcome}
 use Rattle.dex_parts.specs.Chains.{AreCut, AreLinked, IsChainOf, IsCut, rows_of_parts}
-use Rattle.dex_parts.specs.Cuts.{AreCutBy, AreInOrder, ArePartedAt, IsPart, numbers_of, parts_by}
+use Rattle.dex_parts.specs.Cuts.{AreCutBy, AreInOrder, AreLegsIn, ArePartedAt, IsPart, numbers_of, parts_by}
 
 -- ---- lists in two
 
@@ -200,6 +200,41 @@ all-parts most counts left places upto none =
     empty : (some : List RowPlaces) → length some ≡ 0 → some ≡ []
     empty [] is = refl
     empty (at ∷ others) is = absurd (omega (arith, is))
+
+-- ---- one way to cut
+
+same-by : (a b : ℕ) → (a < b → ⊥) → (b < a → ⊥) → a ≡ b
+same-by zero zero below above = refl
+same-by zero (suc b) below above = absurd (below (omega arith))
+same-by (suc a) zero below above = absurd (above (omega arith))
+same-by (suc a) (suc b) below above = ap suc (same-by a b (λ less. below (omega (arith, less))) (λ less. above (omega (arith, less))))
+
+-- legs that are one part are no two parts
+no-leg-alone : (most a : ℕ) (numbers : List ℕ) → IsPart most a numbers → a ≤ most → 2 ≤ length numbers → AreLegsIn most numbers → ⊥
+no-leg-alone most a numbers one few long legs =
+    let is : a ≡ 1 = omega (arith, one.some, few, legs.0) in
+    apart-at numbers 1 (omega arith) (omega (arith, long)) legs.1 (subst (λ (n : ℕ). ArePartedAt n numbers) is one.parted)
+
+one-part : (most a b : ℕ) (numbers : List ℕ) → IsPart most a numbers → IsPart most b numbers → a ≡ b
+one-part most a b numbers one other =
+    ⊎_elim
+    (λ (few : a ≤ most).
+    ⊎_elim
+    (λ (fewer : b ≤ most). same-by a b (λ less. one.full b less fewer other.within other.parted) (λ less. other.full a less few one.within one.parted))
+    (λ (legs : (b ≡ 2) × AreLegsIn most numbers). absurd (no-leg-alone most a numbers one few (omega (arith, legs.0, other.within)) legs.1)) other.few)
+    (λ (legs : (a ≡ 2) × AreLegsIn most numbers).
+    ⊎_elim (λ (fewer : b ≤ most). absurd (no-leg-alone most b numbers other fewer (omega (arith, legs.0, one.within)) legs.1))
+    (λ (both : (b ≡ 2) × AreLegsIn most numbers). legs.0 ∙ sym both.0) other.few)
+    one.few
+
+pub one-cut : (most : ℕ) (counts others numbers : List ℕ) → 0 < most → AreCutBy most counts numbers → AreCutBy most others numbers → counts ≡ others
+one-cut most [] [] numbers some one other = refl
+one-cut most [] (b ∷ others) numbers some one other = absurd (omega (arith, ap length one, other.0.some, other.0.within))
+one-cut most (a ∷ counts) [] numbers some one other = absurd (omega (arith, ap length other, one.0.some, one.0.within))
+one-cut most (a ∷ counts) (b ∷ others) numbers some one other =
+    let same : a ≡ b = one-part most a b numbers one.0 other.0 in
+    let rest : counts ≡ others = one-cut most counts others (drop a numbers) some one.1 (subst (λ (n : ℕ). AreCutBy most others (drop n numbers)) (sym same) other.1) in
+    ap (λ (n : ℕ). n ∷ counts) same ∙ ap (λ (l : List ℕ). b ∷ l) rest
 
 -- ---- the numbers beside rows are theirs
 

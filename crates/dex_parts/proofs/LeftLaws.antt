@@ -14,7 +14,7 @@ use Rattle.dex_wallet.specs.CellState.{balance_of}
 use Rattle.dex_world.specs.Items.{Item}
 use Rattle.dex_world.specs.World.{MarketState, WalletState, World}
 use Rattle.dex_world.proofs.MappedLists.{head-same, map-map, tail-same, zip-map}
-use Rattle.dex_state.specs.declared.limits.Limits.{Limits}
+use Rattle.dex_types.specs.declared.limits.Limits.{Limits}
 use Rattle.dex_state.specs.Accepted.{AreAccepted}
 use Rattle.dex_state.specs.Addresses.{address_of}
 use Rattle.dex_state.specs.Outcomes.{PlainMarketJournal, PlainOutcome, PlainWalletJournal}

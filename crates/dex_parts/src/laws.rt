@@ -82,10 +82,12 @@ pub fn shards_hold_together_what_the_whole_holds()
 {}
 
 /// A script that is cut so (`chained`) is a chain: whatever parts have these rows, each from where the one before ends,
-/// under the script's program.
+/// under the script's program. There is one way to cut it so.
 pub fn a_script_that_is_cut_is_a_chain()
-    ensures { (most : ℕ) (counts : List ℕ) (script : PlainScript) (parts : List PlainScript)
+    ensures chain { (most : ℕ) (counts : List ℕ) (script : PlainScript) (parts : List PlainScript)
         → (outcomes : List PlainOutcome) → AreCutBy most counts (numbers_of script.rows)
         → map (λ (part : PlainScript). part.rows) parts ≡ parts_by counts script.rows
         → AreLinked script.limits script.program script.start parts outcomes → IsChainOf script parts outcomes }
+    ensures one { (most : ℕ) (counts others numbers : List ℕ) → 0 < most → AreCutBy most counts numbers
+        → AreCutBy most others numbers → counts ≡ others }
 {}

@@ -8,7 +8,7 @@ use Rattle.dex_types.specs.Addresses.{is_same}
 use Rattle.dex_types.specs.Rows.{PlainRow}
 use Rattle.dex_laws.proofs.TraderLaws.{is_same-refl}
 use Rattle.dex_state.specs.Addresses.{address_of, all_of_market, times}
-use Rattle.dex_state.specs.declared.limits.Limits.{Limits}
+use Rattle.dex_types.specs.declared.limits.Limits.{Limits}
 use Rattle.dex_state.specs.Accepted.{AreAccepted}
 use Rattle.dex_state.proofs.Times.{times-append, times-cons}
 use Rattle.dex_script_types.specs.Facts.{AreLegs}

@@ -11,6 +11,9 @@ use dex_state::{MarketJournal, WalletJournal};
 use dex_types::{MarketAccounts, Row};
 use std::alloc::AllocError;
 
+/// Rows of a market with more bytes of text than this are those of large accounts.
+const LARGE: usize = 4_194_304;
+
 /// What is written, and let go, in one step.
 #[derive(Drop)]
 pub(crate) enum Part {
@@ -35,6 +38,14 @@ impl Part {
             Part::Wallets(journals) => size_of_wallets(journals),
             Part::Rows(market) => room_of_market(market),
             Part::Spent(_) => 0,
+        }
+    }
+
+    /// How much room it wants before it is written. Large accounts want none: text goes on where they stood.
+    pub(crate) fn room(&self) -> usize {
+        match self {
+            Part::Rows(_) if LARGE < self.size() => 0,
+            _ => self.size(),
         }
     }
 

@@ -17,10 +17,6 @@ use std::thread::Threads;
 /// The first piece of a text begins with room for this many bytes at most.
 const FIRST: usize = 1_048_576;
 
-/// A part whose text has more bytes is written where the last piece is: blocks of that size grow without a copy, where
-/// the allocator moves pages.
-const MOST: usize = 4_194_304;
-
 /// Parts that follow each other, until they are written, and then their text in pieces.
 #[derive(Drop)]
 pub(crate) struct Writing {
@@ -58,19 +54,18 @@ fn take_parts(alloc: Global, text: &mut Pieces, parts: Vec<Part>) -> Result<(), 
 {
     let mut line = [0; LINE];
     for part in parts {
-        make_room(alloc, text, part.size())?;
+        make_room(alloc, text, part.room())?;
         take_part(text, &mut line, part)?;
     }
     Ok(())
 }
 
-/// Begins a piece for a part of about so many bytes, where the last has too little room left: a text that grew would be
-/// copied, and a new piece may stand where rows and journals lay.
+/// Begins a piece with so much room, where the last has less left: a text that grows is copied, and a new piece may
+/// stand where rows and journals lay.
 fn make_room(alloc: Global, text: &mut Pieces, room: usize) -> Result<(), AllocError>
     ensures { OnOk result (text_in text.new ≡ text_in text.old) }
 {
-    let left = text.last.capacity() - text.last.len();
-    if room <= left || MOST < room {
+    if room <= text.last.capacity() - text.last.len() {
         return Ok(());
     }
     let next = Vec::with_capacity(alloc, room)?;

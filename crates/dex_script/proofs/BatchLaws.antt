@@ -5,7 +5,7 @@ use Rattle.dex_types.specs.declared.addresses.Address.{Address}
 use Rattle.dex_types.specs.declared.terms.Program.{Program}
 use Rattle.dex_types.specs.Rows.{PlainRow}
 use Rattle.dex_rows.specs.Records.{rows_of}
-use Rattle.dex_state.specs.declared.limits.Limits.{Limits}
+use Rattle.dex_types.specs.declared.limits.Limits.{Limits}
 use Rattle.dex_dump.specs.Answers.{PlainAnswer, next_number}
 use Rattle.dex_dump.specs.Reading.{is_among}
 use Rattle.dex_audit.specs.Findings.{findings}

@@ -7,8 +7,8 @@ use Rattle.std.proofs.lemmas.List.Quantifiers.{all_pairs_push}
 use Rattle.dex_types.specs.Accounts.{PlainAccounts}
 use Rattle.dex_types.specs.Rows.{PlainRow}
 use Rattle.dex_rows.specs.Records.{rows_of}
-use Rattle.dex_state.specs.declared.limits.Limits.{Limits}
-use Rattle.dex_state.specs.Limits.{AreLimits}
+use Rattle.dex_types.specs.declared.limits.Limits.{Limits}
+use Rattle.dex_types.specs.Limits.{AreLimits}
 use Rattle.dex_state.specs.Accepted.{AreAccepted}
 use Rattle.dex_state.specs.Held.{HoldBytes}
 use Rattle.dex_dump.specs.Answers.{AnswersDump, PlainAnswer, next_number}

@@ -1,7 +1,7 @@
 -- What a text answers, from what its rows give.
 use Rattle.std.proofs.Common.{◌≡◌, ◌∙◌, ℕ, Bool, true, false, List, [], ◌∷◌, Result, Ok, Err, ap, refl, subst, sym}
 use Rattle.dex_rows.specs.Records.{rows_of}
-use Rattle.dex_state.specs.declared.limits.Limits.{Limits}
+use Rattle.dex_types.specs.declared.limits.Limits.{Limits}
 use Rattle.dex_statement.specs.Faults.{◌>>=◌}
 use Rattle.dex_dump.specs.declared.faults.DumpFault.{DumpFault}
 use Rattle.dex_dump.specs.Answers.{AnswersDump, PlainDump, next_number}

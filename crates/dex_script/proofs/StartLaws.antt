@@ -6,8 +6,8 @@ use Rattle.dex_types.specs.Accounts.{PlainAccount, PlainAccounts}
 use Rattle.dex_rows.specs.Records.{rows_of}
 use Rattle.dex_token.specs.MintAccount.{IsMint}
 use Rattle.dex_accounts.specs.Decoded.{AreSound}
-use Rattle.dex_state.specs.declared.limits.Limits.{Limits}
-use Rattle.dex_state.specs.Limits.{AreLimits}
+use Rattle.dex_types.specs.declared.limits.Limits.{Limits}
+use Rattle.dex_types.specs.Limits.{AreLimits}
 use Rattle.dex_state.specs.Conserved.{IsConserved}
 use Rattle.dex_audit.specs.Findings.{findings}
 use Rattle.dex_state.specs.Accepted.{AreAccepted, HasFew, HasMints}

@@ -10,7 +10,7 @@ use Rattle.dex_types.specs.Accounts.{PlainAccount, PlainMarketAccounts}
 use Rattle.dex_types.specs.Addresses.{is_same}
 use Rattle.dex_make.specs.Blanks.{blank_account}
 use Rattle.dex_make.specs.MarketBytes.{made_accounts}
-use Rattle.dex_state.specs.declared.limits.Limits.{Limits}
+use Rattle.dex_types.specs.declared.limits.Limits.{Limits}
 use Rattle.dex_state.specs.Accepted.{HasFew}
 use Rattle.dex_dump.specs.Reading.{with_orders}
 use Rattle.dex_script.specs.Known.{orders_at}

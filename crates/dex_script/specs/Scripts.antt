@@ -1,8 +1,8 @@
 -- What a text of rows says: a script, or why it is none.
 use Rattle.std.specs.Prelude.{◌≡◌, ℕ, Bool, true, false, List, [], ◌∷◌, Result, Ok, Err}
 use Rattle.dex_rows.specs.Records.{rows_of}
-use Rattle.dex_state.specs.declared.limits.Limits.{Limits}
-use Rattle.dex_state.specs.declared.limits.TheConstants.{STANDARD}
+use Rattle.dex_types.specs.declared.limits.Limits.{Limits}
+use Rattle.dex_types.specs.declared.limits.TheConstants.{STANDARD}
 use Rattle.dex_statement.specs.declared.faults.FaultKind.{FaultKind}
 use Rattle.dex_statement.specs.Faults.{◌>>=◌}
 use Rattle.dex_statement.specs.Words.{Fields}

@@ -1,7 +1,7 @@
 -- What the answers of calls tell, without their buffers.
 use Rattle.std.specs.Prelude.{◌≡◌, ◌&&◌, ℕ, Bool, true, false, not, List, [], ◌++◌, map, Result, Ok, Err}
 use Rattle.dex_audit.specs.Findings.{findings}
-use Rattle.dex_state.specs.declared.limits.Limits.{Limits}
+use Rattle.dex_types.specs.declared.limits.Limits.{Limits}
 use Rattle.dex_dump.specs.declared.reader.DumpRead.{DumpRead}
 use Rattle.dex_dump.specs.Answers.{AnswersDump, PlainDump}
 use Rattle.dex_dump.specs.Telling.{plain_dump}

@@ -15,8 +15,7 @@ use crate::mints::Mints;
 use crate::taken::taken_addresses;
 use dex_dump::TakenAddresses;
 use dex_script_types::{RowList, Script};
-use dex_state::Limits;
-use dex_types::{Accounts, Address, Named, NoMemory, Program, Row, RowPlaces};
+use dex_types::{Accounts, Address, Limits, Named, NoMemory, Program, Row, RowPlaces};
 use std::alloc::Global;
 
 /// The accounts with which a script starts, as far as they are declared.

@@ -4,9 +4,9 @@
 ghost use Rattle.std.specs.Prelude.{◌≡◌, ℕ, Bool, List, [], false, true};
 ghost use Rattle.dex_rows.specs.Records.{rows_of};
 ghost use Rattle.dex_audit.specs.Findings.{findings};
-ghost use Rattle.dex_state.specs.declared.limits.Limits.{Limits};
+ghost use Rattle.dex_types.specs.declared.limits.Limits.{Limits};
 ghost use Rattle.dex_state.specs.Accepted.{AreAccepted};
-ghost use Rattle.dex_state.specs.Limits.{AreLimits};
+ghost use Rattle.dex_types.specs.Limits.{AreLimits};
 ghost use Rattle.dex_script_types.specs.PlainScript.{PlainScript};
 ghost use Rattle.dex_script_types.specs.Facts.{AreRows, HasNoSwap, IsStart};
 ghost use Rattle.dex_script.specs.Scripts.{ReadsWithin, begins_with_dump};

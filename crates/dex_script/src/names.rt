@@ -5,7 +5,7 @@ ghost use Rattle.std.specs.HashMap as hash;
 ghost use Rattle.std.specs.List.{position};
 ghost use Rattle.dex_types.specs.declared.addresses.Address.{Address};
 ghost use Rattle.dex_types.specs.Addresses.{is_same};
-ghost use Rattle.dex_state.specs.declared.limits.Limits.{Limits};
+ghost use Rattle.dex_types.specs.declared.limits.Limits.{Limits};
 ghost use Rattle.dex_script.specs.Names as spec;
 ghost use Rattle.dex_script.specs.Telling.{start_of};
 

@@ -1,7 +1,7 @@
 //! A script as far as it is read, one row after the other.
 
 ghost use Rattle.std.specs.Prelude.{◌≡◌, ℕ, [], IfOk};
-ghost use Rattle.dex_state.specs.Limits.{AreLimits};
+ghost use Rattle.dex_types.specs.Limits.{AreLimits};
 ghost use Rattle.dex_script_types.specs.Facts.{IsScript};
 ghost use Rattle.dex_script.specs.Drafts.{no_rows};
 ghost use Rattle.dex_script.specs.Names.{IsReading, places_of};
@@ -14,12 +14,11 @@ use crate::making::MakeMarkets;
 use crate::names::{Names, Stand};
 use dex_rows::records::Fields;
 use dex_script_types::Script;
-use dex_state::{Limits, STANDARD};
 use dex_statement::{
     FaultKind, InstructionWords, Parties, RowError, Statement, SwapWords, read_instruction,
     statement_of,
 };
-use dex_types::{NoMemory, RowPlaces};
+use dex_types::{Limits, NoMemory, RowPlaces, STANDARD};
 use std::alloc::Global;
 use std::marker::Model;
 

@@ -3,8 +3,8 @@
 ghost use Rattle.std.specs.Prelude.{◌≡◌, ℕ, IfOk, List, OnOk, true, ⊤};
 ghost use Rattle.dex_types.specs.Accounts.{accounts_of};
 ghost use Rattle.dex_state.specs.Accepted.{AreAccepted};
-ghost use Rattle.dex_state.specs.Limits.{AreLimits};
-ghost use Rattle.dex_state.specs.declared.limits.TheConstants.{STANDARD as standard};
+ghost use Rattle.dex_types.specs.Limits.{AreLimits};
+ghost use Rattle.dex_types.specs.declared.limits.TheConstants.{STANDARD as standard};
 ghost use Rattle.dex_dump.specs.Answers.{next_number};
 ghost use Rattle.dex_statement.specs.Faults.{code_of, kind_number};
 ghost use Rattle.dex_rows.specs.Records.{rows_of};
@@ -27,9 +27,8 @@ use dex_audit::audit;
 use dex_dump::{DumpError, DumpRead, is_first_row};
 use dex_rows::records::{Fields, Rows};
 use dex_script_types::Script;
-use dex_state::{Limits, STANDARD};
 use dex_statement::{FaultKind, InstructionWords, RowError};
-use dex_types::NoMemory;
+use dex_types::{Limits, NoMemory, STANDARD};
 use std::alloc::Global;
 
 /// How the rows of a script are read that stand after its first instruction row.

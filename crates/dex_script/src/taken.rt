@@ -14,7 +14,10 @@ use std::alloc::Global;
 
 /// Every address that accounts have: those of mints and wallets, and of each market its own, those of its vaults,
 /// queues and sides, and those of its open-orders accounts.
-pub(crate) fn taken_addresses(alloc: Global, accounts: &Accounts) -> Result<TakenAddresses, NoMemory>
+pub(crate) fn taken_addresses(
+    alloc: Global,
+    accounts: &Accounts,
+) -> Result<TakenAddresses, NoMemory>
     requires { AreMarkets (map market_accounts_of accounts.now.markets.items) }
     ensures { IfOk result (λ taken. taken ≡ addresses_of (accounts_of accounts.now)) }
 {

@@ -2,7 +2,7 @@
 
 ghost use denote.Param.Send.{IsSync};
 ghost use Rattle.std.specs.Prelude.{◌≡◌, ◌≤◌, All, IfOk, OnOk, true};
-ghost use Rattle.dex_state.specs.declared.limits.TheConstants.{STANDARD as standard};
+ghost use Rattle.dex_types.specs.declared.limits.TheConstants.{STANDARD as standard};
 ghost use Rattle.dex_script_types.specs.Facts.{HasNoSwap};
 ghost use Rattle.dex_script.specs.Pieces.{IsUnderway, number_after};
 ghost use Rattle.dex_script.specs.Scripts.{draft_after};
@@ -15,7 +15,7 @@ use crate::piece::{Piece, read_behind};
 use dex_rows::plain::PlainRows;
 use dex_rows::records::Rows;
 use dex_script::{ReadRows, Reader, Script, ScriptError, read_rows, read_script_by};
-use dex_state::STANDARD;
+use dex_types::STANDARD;
 use std::alloc::{AllocError, Global};
 use std::marker::Sync;
 use std::thread::Threads;

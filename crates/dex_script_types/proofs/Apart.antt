@@ -10,7 +10,7 @@ use Rattle.dex_types.specs.Addresses.{is_same}
 use Rattle.dex_laws.proofs.TraderLaws.{is_same-refl}
 use Rattle.dex_market.specs.MarketAccount.{market_words}
 use Rattle.dex_state.specs.Addresses.{address_of, addresses_of, all_of_market, parts_of, times}
-use Rattle.dex_state.specs.declared.limits.Limits.{Limits}
+use Rattle.dex_types.specs.declared.limits.Limits.{Limits}
 use Rattle.dex_state.specs.Accepted.{AreAccepted}
 use Rattle.dex_state.proofs.Times.{one, times-append, times-cons}
 

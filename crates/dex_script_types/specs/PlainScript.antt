@@ -4,7 +4,7 @@ use Rattle.dex_types.specs.declared.terms.Program.{Program}
 use Rattle.dex_types.specs.declared.terms.Program.TheVariants.{Serum}
 use Rattle.dex_types.specs.Accounts.{PlainAccounts}
 use Rattle.dex_types.specs.Rows.{PlainRow}
-use Rattle.dex_state.specs.declared.limits.Limits.{Limits}
+use Rattle.dex_types.specs.declared.limits.Limits.{Limits}
 
 -- what a script says: the accounts with which it starts, its instruction rows, how many lanes it has, and its program;
 -- and the limits within which it was read

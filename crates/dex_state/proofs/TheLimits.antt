@@ -3,9 +3,9 @@ use Rattle.std.proofs.Common.{arith}
 use Rattle.std.proofs.lemmas.List.Elements.{All-weaker}
 use Rattle.dex_types.specs.Accounts.{PlainAccounts}
 use Rattle.dex_state.specs.Accepted.{AreAccepted, HasFew}
-use Rattle.dex_state.specs.declared.limits.Limits.{Limits}
-use Rattle.dex_state.specs.declared.limits.TheConstants.{STANDARD, WIDE}
-use Rattle.dex_state.specs.Limits.{AreLimits}
+use Rattle.dex_types.specs.declared.limits.Limits.{Limits}
+use Rattle.dex_types.specs.declared.limits.TheConstants.{STANDARD, WIDE}
+use Rattle.dex_types.specs.Limits.{AreLimits}
 
 pub standard-are : AreLimits STANDARD
 standard-are = record {

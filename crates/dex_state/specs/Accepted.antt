@@ -7,8 +7,8 @@ use Rattle.dex_market.specs.MarketAccount.{market_words}
 use Rattle.dex_token.specs.MintAccount.{IsMint}
 use Rattle.dex_token.specs.TokenAccount.{IsWallet, wallet_words}
 use Rattle.dex_accounts.specs.Accepted.{IsAccepted}
-use Rattle.dex_state.specs.declared.limits.Limits.{Limits}
-use Rattle.dex_state.specs.Limits.{AreLimits}
+use Rattle.dex_types.specs.declared.limits.Limits.{Limits}
+use Rattle.dex_types.specs.Limits.{AreLimits}
 use Rattle.dex_state.specs.Addresses.{addresses_of, is_mint, times}
 
 -- an address is a mint's

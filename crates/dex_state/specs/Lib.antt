@@ -1,4 +1,3 @@
-pub mod Limits
 pub mod Addresses
 pub mod Accepted
 pub mod Held

@@ -2,8 +2,6 @@
 //! No text.
 #![tactic(auto)]
 
-mod limits;
 mod outcome;
 
-pub use limits::{Limits, STANDARD, WIDE};
 pub use outcome::{MarketJournal, Outcome, WalletJournal};

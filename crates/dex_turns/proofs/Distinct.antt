@@ -1,7 +1,7 @@
 -- No two wallets of a script, and no two of its markets, have one address.
 use Rattle.std.proofs.Common.{◌≡◌, ℕ, ◌+◌, ◌≤◌, Bool, true, false, ◌||◌, cond, List, [], ◌∷◌, map, refl, ap, ◌∙◌, arith, ⊎_elim}
 use Rattle.dex_world.proofs.Common.{Address, PlainAccount, PlainAccounts, PlainMarketAccounts, cases_Bool, is_same, is_same-refl, list_any, sum_by-cons}
-use Rattle.dex_state.specs.declared.limits.Limits.{Limits}
+use Rattle.dex_types.specs.declared.limits.Limits.{Limits}
 use Rattle.dex_turns.proofs.Common.{AreAccepted, market-once, wallet-once}
 use Rattle.dex_state.specs.Addresses.{times}
 use Rattle.dex_turns.proofs.Growing.{Differ}

@@ -1,6 +1,6 @@
 use Rattle.std.proofs.Common.{◌≡◌, ◌∙◌, ℕ, List, [], subst}
 use Rattle.dex_report.specs.Made.{made_text}
-use Rattle.dex_state.specs.declared.limits.TheConstants.{STANDARD}
+use Rattle.dex_types.specs.declared.limits.TheConstants.{STANDARD}
 use Rattle.dex_state.specs.Outcomes.{PlainOutcome, outcome_of}
 use Rattle.dex_words.specs.declared.command.Command.TheVariants.{Bulk}
 use Rattle.dex_answers.specs.Answers.{Answers}
