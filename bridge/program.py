@@ -31,15 +31,16 @@ class Reply(NamedTuple):
         return " ".join([*words, *self.values])
 
 
-# The library's commands, within the widest limits.
+# The commands within the widest limits: the proved program, and else the library's.
+_BUILT_WIDE = os.path.join(_ROOT, "crates", "dex_wide", "out", "dex_wide")
 _WIDE = ["env", f"PYTHONPATH={os.path.join(_ROOT, 'library')}", sys.executable, "-m", "daisyhook", "--wide"]
 
 
 def find_program(given: Optional[str], is_wide: bool) -> list[str]:
-    """The program that a word names, or the one of this folder: the proved one where it is built, else one beside `ledger`; or the library's
-    commands, for markets beyond the program's limits."""
+    """The program that a word names, or the one of this folder: the proved one where it is built, else one beside `ledger`; or the wide
+    one, for markets beyond the program's limits."""
     if is_wide and given is None:
-        return _WIDE
+        return [_BUILT_WIDE] if os.access(_BUILT_WIDE, os.X_OK) else _WIDE
     places = [given] if given is not None else [os.path.join(_ROOT, place) for place in _PLACES]
     for place in places:
         if os.path.isfile(place) and os.access(place, os.X_OK):

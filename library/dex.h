@@ -102,7 +102,7 @@ typedef struct {
 /* A number of 128 bits: low + 2^64 * high. */
 typedef struct {
   uint64_t low, high;
-} dex_wide;
+} dex_u128;
 
 enum { DEX_WALLET_SIZE = 165, DEX_ORDERS_SIZE = 3228, DEX_ORDERS_RECORD = 32 + DEX_ORDERS_SIZE };
 
@@ -112,7 +112,7 @@ enum { DEX_WALLET_SIZE = 165, DEX_ORDERS_SIZE = 3228, DEX_ORDERS_RECORD = 32 + D
 typedef struct {
   dex_address address, authority;
   dex_bytes market, coin_vault, pc_vault, requests, events, bids, asks, orders;
-  dex_wide pending_coin, pending_pc;
+  dex_u128 pending_coin, pending_pc;
 } dex_market;
 
 /* A token account that an instruction names, by its address; of length 0 where there is none. */
@@ -164,7 +164,7 @@ typedef struct {
   uint32_t count, room;
   uint64_t lots, pc, fee, rested, coin, referrer, amount, balance;
   int64_t clock, latest;
-  dex_wide order, held, pending;
+  dex_u128 order, held, pending;
   dex_address address;
 } dex_reply;
 

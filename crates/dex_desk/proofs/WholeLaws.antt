@@ -5,6 +5,7 @@ use Rattle.std.proofs.lemmas.Bool.{eqb-false, eqb-true}
 use Rattle.std.proofs.lemmas.List.{append-nil, map-append}
 use Rattle.std.proofs.lemmas.List.Concat.{flat_map-append}
 use Rattle.std.proofs.lemmas.List.Elements.{All-append, All-nil, All-push, All-weaker}
+use Rattle.dex_types.specs.declared.limits.TheConstants.{WIDE}
 use Rattle.dex_types.specs.declared.terms.Program.{Program}
 use Rattle.dex_types.specs.Rows.{PlainRow}
 use Rattle.dex_rows.specs.Records.{rows_of}
@@ -23,10 +24,10 @@ use Rattle.dex_replay.specs.Replays.{IsReplayOf}
 use Rattle.dex_script.specs.Drafts.{PlainDraft, behind_dump, no_rows}
 use Rattle.dex_script.specs.Pieces.{number_after}
 use Rattle.dex_script.specs.Rows.{instruction_row, is_full, with_instruction, with_item, with_row, with_swap}
-use Rattle.dex_script.specs.Scripts.{AnswersBy, Reads, Refusal, begins_with_dump, behind, draft_after, script_from, unless_found}
+use Rattle.dex_script.specs.Scripts.{AnswersBy, ReadsWithin, Refusal, begins_with_dump, behind, draft_after, script_from, unless_found}
 use Rattle.dex_script.proofs.FaultLaws.{bind-ok, ok-same, or-none}
 use Rattle.dex_script.proofs.ItemRows.{first_leg, instruction-row, second_leg, swap-row}
-use Rattle.dex_script.proofs.OrderLaws.{by-row, first-row, last_script}
+use Rattle.dex_script.proofs.OrderLaws.{by-row, first-row, last_script, read-limits}
 use Rattle.dex_script_types.specs.PlainScript.{PlainScript}
 use Rattle.dex_state.specs.Outcomes.{PlainOutcome}
 use Rattle.dex_desk.specs.declared.ends.Over.{Over}
@@ -115,6 +116,7 @@ record Since (script : PlainScript) (begin : PlainOutcome) (accepted : List Plai
   left : block.draft.script.start ≡ (left_in begin parts).accounts
   told : AreAmong (map answers_in parts) said
   program : block.draft.script.program ≡ script.program
+  limits : block.draft.script.limits ≡ script.limits
   low : ℕ
   done : AreBelow low (script.rows ++ rows_in parts)
   above : AreFrom low block.draft.script.rows
@@ -132,6 +134,7 @@ more-said script begin accepted block said more since = record {
   left = since.left;
   told = among-more (map answers_in since.parts) said more since.told;
   program = since.program;
+  limits = since.limits;
   low = since.low;
   done = since.done;
   above = since.above;
@@ -160,6 +163,8 @@ have-acted script begin accepted block after said answers more since have =
       goes_on = since.left;
       program = refl;
       same_program = since.program;
+      limits = refl;
+      same_limits = since.limits;
     } in
     subst (λ (b : PlainBlock). Since script begin accepted b (said ++ (answers ++ more))) (sym have.left)
     (record {
@@ -172,6 +177,7 @@ have-acted script begin accepted block after said answers more since have =
           (subst (λ (pieces : List (List ℕ)). AreAmong pieces (said ++ (answers_in part ++ more))) (sym (map-append answers_in since.parts (part ∷ [])))
           (among-push (map answers_in since.parts) said (answers_in part) more since.told));
       program = since.program;
+      limits = since.limits;
       low = block.number;
       done = subst (AreBelow block.number) (sym all)
           (All-append (λ (row : PlainRow). row.number < block.number) (script.rows ++ rows_in since.parts) rows
@@ -209,7 +215,7 @@ grown : (script : PlainScript) (begin : PlainOutcome) (accepted : List PlainRow)
     → Since script begin accepted block said → is_full block.draft block.number ≡ false → All (λ (r : PlainRow). r.number ≡ block.number) rows
     → after ≡ record { draft = with_item block.draft rows lane; number = next_number block.number } → Since script begin (accepted ++ rows) after said
 grown script begin accepted block after said rows lane since room same is =
-    let other : block.number ≡ 2 ^ 32 - 1 → ⊥ = eqb-false block.number (2 ^ 32 - 1) (or-none (nat_le 100000 block.draft.items) (block.number == 2 ^ 32 - 1) room).1 in
+    let other : block.number ≡ 2 ^ 32 - 1 → ⊥ = eqb-false block.number (2 ^ 32 - 1) (or-none (nat_le block.draft.script.limits.items block.draft.items) (block.number == 2 ^ 32 - 1) room).1 in
     let next : next_number block.number ≡ block.number + 1 = omega (arith, other, since.small) in
     let old = block.draft.script.rows in
     subst (λ (b : PlainBlock). Since script begin (accepted ++ rows) b said) (sym is)
@@ -221,6 +227,7 @@ grown script begin accepted block after said rows lane since room same is =
       left = since.left;
       told = since.told;
       program = since.program;
+      limits = since.limits;
       low = since.low;
       done = since.done;
       above = All-append (λ (r : PlainRow). since.low ≤ r.number) old rows since.above
@@ -269,6 +276,7 @@ later script begin accepted block now said since = record {
   left = since.left;
   told = since.told;
   program = since.program;
+  limits = since.limits;
   low = since.low;
   done = since.done;
   above = since.above;
@@ -362,7 +370,7 @@ next-numbered number before after fields is =
     with-rows : (rows : List PlainRow) (lane : ℕ) → is_full before number ≡ false → All Same rows → with_item before rows lane ≡ after
         → IsNumbered (next_number number) after
     with-rows rows lane room same made =
-        let other : number ≡ 2 ^ 32 - 1 → ⊥ = eqb-false number (2 ^ 32 - 1) (or-none (nat_le 100000 before.items) (number == 2 ^ 32 - 1) room).1 in
+        let other : number ≡ 2 ^ 32 - 1 → ⊥ = eqb-false number (2 ^ 32 - 1) (or-none (nat_le before.script.limits.items before.items) (number == 2 ^ 32 - 1) room).1 in
         let next : next_number number ≡ number + 1 = omega (arith, other, is.small) in
         subst (IsNumbered (next_number number)) made
         (record {
@@ -403,23 +411,23 @@ none-found : {A : Type 0} (found : List Finding) (next : Result A Refusal) (x : 
 none-found [] next x is = is
 none-found (finding ∷ found) next x is = absurd (cc)
 
-script-below : (text : List ℕ) (script : PlainScript) → Reads false text script → AreBelow (number_after 1 (rows_of text)) script.rows
+script-below : (text : List ℕ) (script : PlainScript) → ReadsWithin WIDE false text script → AreBelow (number_after 1 (rows_of text)) script.rows
 script-below text script reads = by (rows_of text) (begins_with_dump (rows_of text)) reads
   where
-    behind-dump : (rows : List Fields) (dump : PlainAnswer) → AnswersDump rows dump → Ok script ≡ behind false dump → AreBelow (number_after 1 rows) script.rows
+    behind-dump : (rows : List Fields) (dump : PlainAnswer) → AnswersDump WIDE rows dump → Ok script ≡ behind WIDE false dump → AreBelow (number_after 1 rows) script.rows
     behind-dump rows (Err fault) told is = absurd (cc)
     behind-dump [] (Ok dump) told is = absurd (cc)
     behind-dump (row ∷ rows) (Ok dump) told is =
-        let draft = behind_dump false dump.accounts in
+        let draft = behind_dump WIDE false dump.accounts in
         let a = none-found (findings dump.accounts) (script_from draft (next_number dump.count) dump.behind) script is in
         let below = from-numbered (next_number dump.count) draft dump.behind script
         (record { below = All-nil (λ (r : PlainRow). r.number < next_number dump.count); small = omega arith }) a in
-        ⊎_elim (λ whole. subst (λ (n : ℕ). AreBelow n script.rows) (counted 2 start rows dump whole.1) below) (λ other. absurd (cc)) told
+        ⊎_elim (λ whole. subst (λ (n : ℕ). AreBelow n script.rows) (counted 2 (start WIDE) rows dump whole.1) below) (λ other. absurd (cc)) told
 
-    by : (rows : List Fields) (dump : Bool) → AnswersBy false dump rows (Ok script) → AreBelow (number_after 1 rows) script.rows
+    by : (rows : List Fields) (dump : Bool) → AnswersBy WIDE false dump rows (Ok script) → AreBelow (number_after 1 rows) script.rows
     by rows true is = behind-dump rows is.0 is.1 is.2
     by rows false is =
-        from-numbered 1 (no_rows false) rows script (record { below = All-nil (λ (r : PlainRow). r.number < 1); small = omega arith }) is
+        from-numbered 1 (no_rows WIDE false) rows script (record { below = All-nil (λ (r : PlainRow). r.number < 1); small = omega arith }) is
 
 -- no row was accepted yet
 none-yet : (text : List ℕ) (block : PlainBlock) (is : IsOpened text block) → Since is.script is.outcome [] block []
@@ -437,6 +445,7 @@ none-yet text block is =
       left = refl;
       told = tt;
       program = refl;
+      limits = sym (read-limits WIDE false text script is.reads);
       low = number;
       done = subst (AreBelow number) (sym rows) below;
       above = All-nil (λ (row : PlainRow). number ≤ row.number);

@@ -1,5 +1,6 @@
 -- What the calls of a session tell each other.
 use Rattle.std.specs.Prelude.{◌≡◌, ◌≤◌, ℕ, false, IfErr, IfOk, List, [], ◌∷◌, ◌++◌, Option, Some, None, Result, Ok, Err}
+use Rattle.dex_types.specs.declared.limits.TheConstants.{WIDE}
 use Rattle.dex_answers.specs.Answers.{IsNoScript}
 use Rattle.dex_answers.specs.ExitCodes.{exit_code}
 use Rattle.dex_answers.specs.declared.status.Status.{Status}
@@ -125,7 +126,7 @@ HaveSetUp found before kept inbox text = WentOn before (talk (session_of found k
 -- a set-up was opened, or refused
 abbrev pub OpensOrRefuses : Option PlainBlock → List ℕ → List ℕ → List ℕ → Type 0
 OpensOrRefuses None kept old new =
-    (status : Status) × (told : List ℕ) × IsNoScript false kept status told × (new ≡ old ++ told)
+    (status : Status) × (told : List ℕ) × IsNoScript WIDE false kept status told × (new ≡ old ++ told)
 OpensOrRefuses (Some block) kept old new = IsOpened kept block × (new ≡ old ++ open_line block.number)
 
 -- ---- rows

@@ -1,6 +1,7 @@
 -- How a session goes: what is heard and said, call by call, and what the desk does between the calls.
 use Rattle.std.specs.Prelude.{◌≡◌, ◌≢◌, ◌⊎◌, ◌||◌, ◌<◌, ◌≤◌, ℕ, Bool, true, false, List, [], ◌∷◌, ◌++◌, All}
 use Rattle.std.specs.Prelude.{Option, Some, None, bytes_eq, codes, length}
+use Rattle.dex_types.specs.declared.limits.TheConstants.{WIDE}
 use Rattle.dex_answers.specs.Answers.{IsNoScript}
 use Rattle.dex_answers.specs.declared.status.Status.{Status}
 use Rattle.dex_answers.specs.declared.status.Status.TheVariants as status
@@ -91,7 +92,7 @@ pub record RefusesSetUp (kept text owed : List ℕ) (after : Talk) : Type 0 wher
   pub opening : is_opening line ≡ true
   pub status : Status
   pub told : List ℕ
-  pub none : IsNoScript false kept status told
+  pub none : IsNoScript WIDE false kept status told
   pub is : after ≡ talk (Sets [] rest) (owed ++ told)
 
 -- the rows of a line are taken
@@ -150,7 +151,7 @@ abbrev pub StopsBy : Over → Session → List ℕ → Type 0
 StopsBy over.Input session said = ⊥
 StopsBy over.ReadFault session said = IsListening session × Leaves session said
 StopsBy over.TooLong session said =
-    IsListening session × (67108864 < length (heard_so_far session)) × Leaves session said
+    IsListening session × (1099511627776 < length (heard_so_far session)) × Leaves session said
 StopsBy over.NoMemory session said = IsGoingOn session × (said ≡ [])
 
 pub record Stops (before after : Talk) : Type 0 where
@@ -196,7 +197,7 @@ heard bytes session = session
 abbrev pub IsTurn : Turn → Talk → Talk → Type 0
 IsTurn (Heard bytes) before after =
     (before.owed ≡ []) × IsListening before.session × (after ≡ talk (heard bytes before.session) [])
-    × (length (heard_so_far before.session) ≤ 67108864)
+    × (length (heard_so_far before.session) ≤ 1099511627776)
 IsTurn (Said bytes) before after = (before.owed ≡ bytes ++ after.owed) × (after.session ≡ before.session)
 
 -- calls, one after the other, and what the desk does between them

@@ -5,6 +5,7 @@ use Rattle.std.specs.List.{flat_map}
 use Rattle.dex_types.specs.declared.terms.Program.{Program}
 use Rattle.dex_types.specs.Accounts.{PlainAccounts}
 use Rattle.dex_types.specs.Rows.{PlainRow}
+use Rattle.dex_types.specs.declared.limits.TheConstants.{WIDE}
 use Rattle.dex_answers.specs.Answers.{IsNoScript}
 use Rattle.dex_answers.specs.declared.status.Status.{Status}
 use Rattle.dex_dump.specs.DumpText.{dump_text}
@@ -79,7 +80,7 @@ pub record PlainRefused : Type 0 where
 
 -- it is no script
 abbrev pub IsRefused : PlainRefused → Type 0
-IsRefused one = (is_opening one.line ≡ true) × (status : Status) × IsNoScript false one.set_up status one.told
+IsRefused one = (is_opening one.line ≡ true) × (status : Status) × IsNoScript WIDE false one.set_up status one.told
 
 -- set-ups were heard that are none, one behind the other, and nothing was said but why
 pub record HasRefused (heard said : List ℕ) : Type 0 where

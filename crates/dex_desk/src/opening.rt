@@ -21,7 +21,7 @@ use dex_types::NoMemory;
 use std::alloc::Global;
 
 /// The most bytes that a set-up may have, and a line behind it.
-pub const MOST: usize = 67_108_864;
+pub const MOST: usize = 1_099_511_627_776;
 
 /// What set-ups come to.
 #[derive(Drop)]

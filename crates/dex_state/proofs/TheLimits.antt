@@ -1,5 +1,5 @@
 -- The limits that have names are limits, and the widest allow what others do.
-use Rattle.std.proofs.Common.{◌≤◌, arith}
+use Rattle.std.proofs.Common.{arith}
 use Rattle.std.proofs.lemmas.List.Elements.{All-weaker}
 use Rattle.dex_types.specs.Accounts.{PlainAccounts}
 use Rattle.dex_state.specs.Accepted.{AreAccepted, HasFew}

@@ -1,10 +1,7 @@
 //! The program `dex_wide`: the commands on one thread, within the widest limits.
 #![tactic(auto)]
 
-ghost use Rattle.dex_words.specs.Spelling.{IsWithin};
-ghost use Rattle.dex_words.specs.Threads.{of_plain};
-
-use dex_answers::{Status, StatusText};
+use dex_answers::StatusText;
 use dex_commands::{Stop, answer_within, written, written_each};
 use dex_io::{StdSink, StdSource, read_all};
 use dex_types::WIDE;
@@ -34,8 +31,15 @@ fn told<R: Env + Input + AllocGlobal>(rt: &R, alloc: Global) -> Result<StatusTex
         Err(WordsError::NoMemory) => return Err(Stop::NoMemory),
     };
     let command = command_of(alloc, &words)?;
-    let bytes = read_all(alloc, &mut StdSource::new(rt), WIDE.bytes)?;
-    Ok(answer_within(alloc, command, &bytes, &WIDE)?)
+    if !command.is_within() {
+        return Err(Stop::Usage);
+    }
+    let bytes = match command {
+        PlainCommand::Make { .. } | PlainCommand::Bulk { .. } => Vec::new(alloc),
+        _ => read_all(alloc, &mut StdSource::new(rt), WIDE.bytes)?,
+    };
+    let told = answer_within(alloc, command, &bytes, &WIDE)?;
+    Ok(told)
 }
 
 // All words of the process, the program's name first.
@@ -54,7 +58,10 @@ fn command_of(alloc: Global, words: &[String]) -> Result<PlainCommand, Stop> {
         [] => words,
     };
     match read_words(alloc, rest) {
-        Ok(command) => command.plain().ok_or(Stop::Usage),
+        Ok(command) => match command.plain() {
+            Some(plain) => Ok(plain),
+            None => Err(Stop::Usage),
+        },
         Err(WordsError::Usage) => Err(Stop::Usage),
         Err(WordsError::NoMemory) => Err(Stop::NoMemory),
     }
