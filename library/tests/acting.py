@@ -11,9 +11,7 @@ import re
 import sys
 from pathlib import Path
 
-root = Path(sys.argv[1])
-folder = Path(sys.argv[2]) if len(sys.argv) > 2 else None
-sys.path.insert(0, str(root / 'library'))
+from counting import end, root, same
 import daisyhook
 from daisyhook import data, rows
 from daisyhook.accounts import address_of, rows_of
@@ -21,18 +19,8 @@ from daisyhook.entries import reply_of
 from daisyhook.market import address_bytes
 from base64 import b64decode
 
-passed = failed = 0
+folder = Path(sys.argv[2]) if len(sys.argv) > 2 else None
 INSTRUCTIONS = ('do', 'ix', 'swap', 'clock')
-
-
-def same(what: str, found: object, wanted: object) -> None:
-    """Counts a check as passed where what was found is what was wanted."""
-    global passed, failed
-    if found == wanted:
-        passed += 1
-    else:
-        failed += 1
-        print(f'{what}\n  wanted: {wanted!r:.300}\n  found:  {found!r:.300}')
 
 
 def text_of(fields: list[str]) -> str:
@@ -211,7 +199,7 @@ def main() -> None:
     play('make 7 4000 on one market', ''.join(line for line in made.splitlines(keepends=True) if ',m1,' not in line))
     for seed in range(20):
         play(f'drawn rows of seed {seed}', drawn(seed, 500))
-    print(f'{passed} passed, {failed} failed')
+    end()
 
 
 if __name__ == '__main__':
