@@ -207,7 +207,7 @@ def _simulate(words: argparse.Namespace) -> int:
     """Writes what a transaction that was not sent would do."""
     wish, snapshot = _wish(words, False), _snapshot(words)
     transaction = one_of(_unsent(words), ", ".join(words.file), words.clock)
-    outcome = simulate(find_program(words.dex), snapshot, transaction, wish)
+    outcome = simulate(find_program(words.dex, words.wide), snapshot, transaction, wish)
     _write([json.dumps(answer_of(outcome))])
     for line in table_of(outcome):
         write_error(line + "\n")
@@ -333,6 +333,7 @@ def _add_simulate(parser: argparse.ArgumentParser) -> None:
     parser.add_argument("--loaded", metavar="FILE", help="JSON with the lists writable and readonly: what the transaction's tables hold")
     parser.add_argument("--clock", type=_seconds, metavar="SECONDS", help="the time that the program sees; none: the transaction's blockTime")
     parser.add_argument("--dex", metavar="PATH", help="the exchange's program; none: the one of this folder, where it is built")
+    parser.add_argument("--wide", action="store_true", help="a market of more than 64 open-orders accounts: by the library, where it is built")
     parser.add_argument("--leave-out-unknown", action="store_true", help="go on without instructions of other programs and on other markets")
     parser.add_argument("--open-accounts", action="store_true", help="open accounts by a row before the first order that finds them blank")
     parser.add_argument("dump", metavar="DUMP", help="a dump or a report; - is standard input")

@@ -98,7 +98,7 @@ def _market_of(snapshot: Snapshot, step: Step) -> Market:
     return next(market for market in snapshot.markets if market.address == address)
 
 
-def simulate(program: str, snapshot: Snapshot, transaction: Transaction, wish: Wish) -> Outcome:
+def simulate(program: list[str], snapshot: Snapshot, transaction: Transaction, wish: Wish) -> Outcome:
     """Tries a transaction. The first row that is refused ends it, and then the accounts after it are those before it."""
     start = copy.deepcopy(snapshot)
     front, steps = steps_of(start, transaction, wish)

@@ -10,10 +10,16 @@ import fcntl
 import os
 import re
 
-DUMP = b'dump\n'
+DUMP, END = b'dump\n', b'\nenddump\n'
+ACTS = re.compile(rb'^"?(?:do|ix|swap)"?,', re.MULTILINE)
 PART = re.compile(r'[0-9]{6,}\.csv')
 # A part has fewer rows than 100,000, and fewer bytes than a script may have.
 MOST_ROWS, MOST_BYTES, LEAST_BYTES = 90_000, 60_000_000, 1_000_000
+
+
+def is_dump(text: bytes) -> bool:
+    """Whether a text is a dump, with no row behind it that acts."""
+    return text.startswith(DUMP) and ACTS.search(text, text.find(END) + len(END)) is None
 
 
 class BadLog(Exception):
@@ -51,8 +57,8 @@ class Log:
             raise BadLog(f'{folder}: another gateway writes to it') from error
         self._place = -1
         self.head = self.size = 0
-        self.has_dump = False
-        """Whether the last part begins with a dump, and not with a set-up that may have as many rows as a script."""
+        self.is_fresh = False
+        """Whether the last part was begun, or found, as a dump alone: any other may have as many rows already as a script."""
         self.dropped = b''
         """The last line, where it was torn and is dropped."""
 
@@ -75,7 +81,7 @@ class Log:
             os.ftruncate(self._place, whole)
         os.fsync(self._place)
         self.head = self.size = whole
-        self.has_dump = text.startswith(DUMP)
+        self.is_fresh = is_dump(text[:whole])
         return text[:whole]
 
     def begin(self, text: bytes) -> None:
@@ -90,7 +96,7 @@ class Log:
         sync_folder(self.folder)
         if self._place >= 0:
             os.close(self._place)
-        self._place, self.head, self.size, self.has_dump = place, len(text), len(text), text.startswith(DUMP)
+        self._place, self.head, self.size, self.is_fresh = place, len(text), len(text), is_dump(text)
 
     def append(self, rows: bytes) -> None:
         """Puts rows at the end; when the call returns they are on the disk."""
@@ -100,5 +106,5 @@ class Log:
 
     def is_full(self, rows: int, most: int) -> bool:
         """Whether a part of so many rows is to be followed by another."""
-        is_long = rows >= most and (self.size > self.head or not self.has_dump)
+        is_long = rows >= most and (self.size > self.head or not self.is_fresh)
         return is_long or self.size >= max(MOST_BYTES, self.head + LEAST_BYTES)

@@ -1,5 +1,6 @@
 """The commands as a command: python3 -m daisyhook WORDS < SCRIPT. Words, streams and exit status are those of the program `dex`, which
-docs/FORMATS.md tells. `run` and `batch` need threads that the library has not: status 70, and nothing is run."""
+docs/FORMATS.md tells. With `--wide` in front of the words a dump and a script are read within the widest limits. `run` and `batch` need
+threads that the library has not: status 70, and nothing is run."""
 
 from __future__ import annotations
 
@@ -8,10 +9,10 @@ import re
 import sys
 from dataclasses import dataclass
 
+from .limits import STANDARD, WIDE, Limits
 from .native import call
 
 USAGE = b'usage: dex replay, run, audit, dump, worth, make NUMBER ROWS, bulk NUMBER ROWS, migrate NODES EVENTS or batch WORKERS\n'
-LONGEST_INPUT = 67_108_864
 READ_FAILED, WRITE_FAILED, TOO_LONG, NO_MEMORY = 4, 5, 6, 7
 
 
@@ -49,26 +50,26 @@ def read_words(words: list[str]) -> tuple[Command, list[int]] | None:
     return (command, kept) if len(kept) == len(numbers) else None
 
 
-def read_input() -> bytes:
+def read_input(most: int) -> bytes:
     """Standard input to its end, or to the first byte that is too many."""
     pieces, length = [], 0
-    while length <= LONGEST_INPUT and (piece := os.read(0, 1_048_576)):
+    while length <= most and (piece := os.read(0, 1_048_576)):
         pieces.append(piece)
         length += len(piece)
     return b''.join(pieces)
 
 
-def answer_of(command: Command, numbers: list[int]) -> tuple[int, bytes]:
-    """What a command answers to standard input: a status and a text."""
+def answer_of(command: Command, numbers: list[int], limits: Limits) -> tuple[int, bytes]:
+    """What a command answers to standard input within these limits: a status and a text."""
     front: list[int | bytes] = list(numbers)
     if command.reads:
         try:
-            front.append(read_input())
+            front.append(read_input(limits.input_bytes))
         except OSError:
             return READ_FAILED, b'read failed\n'
-        if len(front[-1]) > LONGEST_INPUT:
+        if len(front[-1]) > limits.input_bytes:
             return TOO_LONG, b'input too long\n'
-    status, text = call(command.function, *front)
+    status, text = call(command.function + (limits.suffix if command.reads else ''), *front)
     return status, b'no memory\n' if status == NO_MEMORY else text
 
 
@@ -81,13 +82,15 @@ def write_all(text: bytes) -> None:
 
 def main() -> int:
     """Does what the words say; gives the exit status."""
-    words = sys.argv[1:]
+    limits, words = STANDARD, sys.argv[1:]
+    if words[:1] == ['--wide']:
+        limits, words = WIDE, words[1:]
     asked = read_words(words)
     if asked is not None and asked[0].function is None:
         os.write(2, f'daisyhook: {words[0]} needs threads, which the library has not: ./dex and ./now have it; nothing was run\n'.encode())
         return 70
     try:
-        status, text = (1, USAGE) if asked is None else answer_of(*asked)
+        status, text = (1, USAGE) if asked is None else answer_of(*asked, limits)
     except MemoryError:
         status, text = NO_MEMORY, b'no memory\n'
     try:

@@ -8,6 +8,7 @@ from operator import index
 
 from .accounts import Accounts
 from .errors import Finding, InputTooLong, OutOfLimits, findings_of, refusal_of
+from .limits import STANDARD, Limits
 from .native import call
 from .parts import Shards, numbers_of
 from .report import Report
@@ -20,14 +21,12 @@ Text = bytes | bytearray | memoryview | str
 PROGRAM = re.compile(rb'(?:\xef\xbb\xbf)?"?program"?,"?(serum|openbook)"?(?:\r\n?|\n|\Z)')
 CLOCK = re.compile(rb'^(?:\xef\xbb\xbf)?"?clock"?,"?([0-9]+)"?\r?$', re.MULTILINE)
 END_OF_DUMP = re.compile(rb'^"?enddump"?(?:\r\n?|\n|\Z)', re.MULTILINE)
-# The most bytes of an input, as the program reads no more.
-MOST_INPUT = 67_108_864
 
 
-def bytes_of(text: Text) -> bytes:
-    """The bytes of a text. TypeError where it is none; InputTooLong where it is longer than the program reads."""
+def bytes_of(text: Text, limits: Limits = STANDARD) -> bytes:
+    """The bytes of a text. TypeError where it is none; InputTooLong where it is longer than the limits allow."""
     told = text.encode() if isinstance(text, str) else text
-    if memoryview(told).nbytes > MOST_INPUT:
+    if memoryview(told).nbytes > limits.input_bytes:
         raise InputTooLong()
     return bytes(told)
 
@@ -39,6 +38,11 @@ def within(number: int, least: int, most: int, what: str) -> int:
     return index(number)
 
 
+def told_of(name: str, *numbers: int, text: Text, limits: Limits) -> tuple[int, bytes]:
+    """What a command answers to a text within these limits."""
+    return call(f'dex_{name}{limits.suffix}', *numbers, bytes_of(text, limits))
+
+
 def done(status: int, text: bytes) -> bytes:
     """The text of a command that was done; else the refusal is raised."""
     if status != 0:
@@ -46,43 +50,43 @@ def done(status: int, text: bytes) -> bytes:
     return text
 
 
-def replay(script: Text) -> Report:
+def replay(script: Text, limits: Limits = STANDARD) -> Report:
     """Lets all rows of a script act, one after the other.
 
     Raises ScriptRefused, or DumpRefused or AuditFailed where the script begins with a dump that is at fault.
     """
-    return Report(done(*call('dex_replay', bytes_of(script))))
+    return Report(done(*told_of('replay', text=script, limits=limits)))
 
 
-def dump(script: Text) -> bytes:
+def dump(script: Text, limits: Limits = STANDARD) -> bytes:
     """The dump of the accounts that a script leaves. Raises what `replay` raises."""
-    return done(*call('dex_dump', bytes_of(script)))
+    return done(*told_of('dump', text=script, limits=limits))
 
 
-def worth(script: Text) -> Worths:
+def worth(script: Text, limits: Limits = STANDARD) -> Worths:
     """What each account of each market is worth when all rows of a script have acted. Raises what `replay` raises."""
-    return Worths(done(*call('dex_worth', bytes_of(script))))
+    return Worths(done(*told_of('worth', text=script, limits=limits)))
 
 
-def audit(dump: Text) -> list[Finding]:
+def audit(dump: Text, limits: Limits = STANDARD) -> list[Finding]:
     """What an audit of a dump finds, in the order of docs/FORMATS.md; an empty list where the accounts agree.
 
     Raises DumpRefused where the text is no dump.
     """
-    status, text = call('dex_audit', bytes_of(dump))
+    status, text = told_of('audit', text=dump, limits=limits)
     if status == 3 and text.startswith(b'finding '):
         return findings_of(text.decode())
     done(status, text)
     return []
 
 
-def migrate(dump: Text, nodes: int, events: int) -> bytes:
+def migrate(dump: Text, nodes: int, events: int, limits: Limits = STANDARD) -> bytes:
     """The dump of the same accounts with sides of so many nodes (1 to 65,536) and event queues for so many events (1 to 65,535).
 
     Raises MigrateRefused where orders or events do not fit, AuditFailed where the accounts have findings, and DumpRefused.
     """
     sizes = within(nodes, 1, 65_536, 'nodes'), within(events, 1, 65_535, 'events')
-    return done(*call('dex_migrate', *sizes, bytes_of(dump)))
+    return done(*told_of('migrate', *sizes, text=dump, limits=limits))
 
 
 def make(number: int, rows: int) -> bytes:
@@ -97,24 +101,24 @@ def bulk(number: int, rows: int) -> Summary:
     return summary_of(done(*call('dex_bulk', *numbers, room=4096)))
 
 
-def shards(script: Text) -> Shards:
+def shards(script: Text, limits: Limits = STANDARD) -> Shards:
     """Where a script may be cut into shards, which share no market and no wallet. Raises what `replay` raises."""
-    return Shards(done(*call('dex_shards', bytes_of(script))))
+    return Shards(done(*told_of('shards', text=script, limits=limits)))
 
 
-def chained(script: Text, rows: int) -> list[int]:
+def chained(script: Text, rows: int, limits: Limits = STANDARD) -> list[int]:
     """How many instruction rows each part of a chain has, for parts of at most `rows` rows (1 to 2^32 - 1).
 
     A swap is two rows, and never parted: where `rows` is 1, a part that is a swap has two. Raises what `replay` raises.
     """
     most = within(rows, 1, 2**32 - 1, 'rows')
-    return numbers_of('part', done(*call('dex_chained', most, bytes_of(script))))
+    return numbers_of('part', done(*told_of('chained', most, text=script, limits=limits)))
 
 
-def accounts(dump: Text) -> Accounts:
+def accounts(dump: Text, limits: Limits = STANDARD) -> Accounts:
     """The accounts of a dump, parsed. The dump is audited first: raises DumpRefused, or AuditFailed where there are findings."""
-    told = bytes_of(dump)
-    done(*call('dex_audit', told))
+    told = bytes_of(dump, limits)
+    done(*told_of('audit', text=told, limits=limits))
     return Accounts(told)
 
 
@@ -131,9 +135,10 @@ class Exchange:
     4
     """
 
-    def __init__(self, script: Text) -> None:
-        self._script = bytes_of(script)
-        self.report = replay(self._script)
+    def __init__(self, script: Text, limits: Limits = STANDARD) -> None:
+        self.limits = limits
+        self._script = bytes_of(script, limits)
+        self.report = replay(self._script, limits)
 
     @property
     def dump(self) -> bytes:
@@ -155,13 +160,13 @@ class Exchange:
         row at the front of the rows changes the program. Rows count from the dump's first row on, so the first row here has the number
         `first_row`. Raises ScriptRefused; then this exchange is as it was.
         """
-        given, front = bytes_of(rows), self._front
+        given, front = bytes_of(rows, self.limits), self._front
         changed = PROGRAM.match(given)
         if changed:
             kept = PROGRAM.match(front)
             front = changed[0].rstrip(b'\r\n') + b'\n' + front[kept.end() if kept else 0:]
             given = given[changed.end():]
-        return Exchange(self.dump + front + given)
+        return Exchange(self.dump + front + given, self.limits)
 
     @property
     def first_row(self) -> int:

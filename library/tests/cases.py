@@ -12,21 +12,8 @@ from collections.abc import Callable
 from concurrent.futures import ThreadPoolExecutor
 from pathlib import Path
 
-root = Path(sys.argv[1])
-sys.path.insert(0, str(root / 'library'))
+from counting import end, root, same
 import daisyhook
-
-passed = failed = 0
-
-
-def same(what: str, found: object, wanted: object) -> None:
-    """Counts a check as passed where what was found is what was wanted."""
-    global passed, failed
-    if found == wanted:
-        passed += 1
-    else:
-        failed += 1
-        print(f'{what}\n  wanted: {wanted!r:.300}\n  found:  {found!r:.300}')
 
 
 def called(words: list[str], script: bytes) -> tuple[int, bytes]:
@@ -97,7 +84,7 @@ def try_report(text: bytes) -> None:
              [sum(one.lots for one in side) for side in (market.bids, market.asks)])
 
 
-def slots_of(market: daisyhook.Market) -> set[int]:
+def slots_of(market: daisyhook.DumpedMarket) -> set[int]:
     """The ids in the slots of a market's accounts."""
     return {order for account in market.open_orders.values() for order in account.slots.values()}
 
@@ -227,5 +214,4 @@ traders = daisyhook.replay((root / 'examples' / 'two_traders.csv').read_text())
 same('what rests in two_traders', traders.markets['m'].depth, daisyhook.Depth((), (daisyhook.Level(50, 1, 1),)))
 same('what Ann holds', traders.wallets['ann_usd'].amount, 1500)
 same('what Ann is worth', daisyhook.worth((root / 'examples' / 'two_traders.csv').read_text()).markets['m']['amy'], daisyhook.Worth(-300, 1500))
-print(f'{passed} passed, {failed} failed')
-sys.exit(failed > 0)
+end()

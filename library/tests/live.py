@@ -12,23 +12,12 @@ import time
 from collections.abc import Callable
 from pathlib import Path
 
-root, program = Path(sys.argv[1]), sys.argv[2]
-sys.path.insert(0, str(root / 'library'))
+from counting import end, root, same
 import daisyhook
 from daisyhook import Desk, DeskGone, ScriptRefused
 from daisyhook.entries import entry_of
 
-passed = failed = 0
-
-
-def same(what: str, found: object, wanted: object) -> None:
-    """Counts a check as passed where what was found is what was wanted."""
-    global passed, failed
-    if found == wanted:
-        passed += 1
-    else:
-        failed += 1
-        print(f'{what}\n  wanted: {wanted!r:.300}\n  found:  {found!r:.300}')
+program = sys.argv[2]
 
 
 def raised(kind: type[Exception], call: Callable[..., object], *words: object, **more: object) -> Exception | None:
@@ -169,5 +158,4 @@ try_faults()
 try_book()
 with tempfile.TemporaryDirectory() as room:
     try_ends(room)
-print(f'{passed} passed, {failed} failed')
-sys.exit(failed > 0)
+end()

@@ -3,25 +3,9 @@
 making.py ROOT. Prints 'N passed, M failed'.
 """
 
-import sys
-from pathlib import Path
-
-root = Path(sys.argv[1])
-sys.path.insert(0, str(root / 'library'))
+from counting import end, root, same
 import daisyhook
 from daisyhook import flow, rows
-
-passed = failed = 0
-
-
-def same(what: str, found: object, wanted: object) -> None:
-    """Counts a check as passed where what was found is what was wanted."""
-    global passed, failed
-    if found == wanted:
-        passed += 1
-    else:
-        failed += 1
-        print(f'{what}\n  wanted: {wanted!r:.300}\n  found:  {found!r:.300}')
 
 
 def refused(what: str, call, *words, **more) -> None:
@@ -99,5 +83,4 @@ same('rows of a flow', report.rows, texts[0].count('\n') + len(flows[0].traders)
 refusals = [entry.reply for entry in report.markets['m'].journal if isinstance(entry.reply, daisyhook.Refused)]
 same('what is refused of a flow', {reply.name for reply in refusals} <= {'ClientIdNotFound', 'TooManyOpenOrders'}, True)
 
-print(f'{passed} passed, {failed} failed')
-sys.exit(failed > 0)
+end()

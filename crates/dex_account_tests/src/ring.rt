@@ -63,8 +63,8 @@ fn events_go_round_the_end_of_the_ring(rt: HostRuntime) -> Result<(), Fail> {
     Ok(())
 }
 
-/// The lowest free slot of an account whose bits of free slots are these. The order of each slot has the slot's number as
-/// its id.
+/// The lowest free slot of an account whose bits of free slots are these. The order of each slot has the slot's number
+/// as its id.
 fn lowest_free(bits: [u8; 16]) -> Result<Option<u8>, Fail> {
     let mut bytes = [0; 3228];
     bytes[..5].copy_from_slice(b"serum");

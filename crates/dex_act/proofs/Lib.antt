@@ -8,3 +8,5 @@ pub mod Acting
 pub mod Acted
 pub mod Paying
 pub mod Rowing
+pub mod StepLaws
+pub mod BehindLaws

@@ -1,6 +1,7 @@
 -- What a row sees of cells.
-use Rattle.std.proofs.Common.{◌≡◌, ℕ, ◌<◌, ◌^◌, Bool, true, false, ◌||◌, List, [], ◌∷◌, map, Option, Some, None, refl, sym, ap, ◌∙◌, subst, arith, ⊎_elim}
+use Rattle.std.proofs.Common.{◌≡◌, ℕ, zero, suc, ◌<◌, ◌^◌, Bool, true, false, ◌||◌, List, [], ◌∷◌, get_or, map, Option, Some, None, refl, sym, ap, ◌∙◌, subst, arith, ⊎_elim}
 use Rattle.std.specs.List.{All, list_any}
+use Rattle.std.proofs.Math.Bool.{or-true}
 use Rattle.std.proofs.lemmas.List.Elements.{All-nil, All-cons, All-head, All-tail, All-weaker}
 use Rattle.std.proofs.lemmas.Bool.{cases_Bool, cond-true, cond-false, false≢true, or_parts, or_right}
 use Rattle.dex_types.specs.declared.addresses.Address.{Address}
@@ -13,7 +14,7 @@ use Rattle.dex_wallet.specs.CellState.{CellState, balance_of, seen_of}
 use Rattle.dex_world.specs.World.{role_at, wallet_at}
 use Rattle.dex_world.proofs.NameLaws.{any-with_address}
 use Rattle.dex_world.proofs.OnceLaws.{with_address-all}
-use Rattle.dex_act.specs.Wallets.{AreApart, Fits, IsHome, IsRight, any_hit, hits, is_among, roles_of, wallet_state_of}
+use Rattle.dex_act.specs.Wallets.{AreApart, Fits, IsAt, IsHome, IsRight, any_hit, hits, is_among, roles_of, wallet_state_of}
 
 -- ---- one role
 
@@ -170,3 +171,27 @@ seen-hit seen =
     hit-by : (role : Option WalletSeen) → ((a : Address) → hits a role ≡ true → any_hit a (roles_of seen) ≡ true) → IfSeen (λ (a : Address). any_hit a (roles_of seen) ≡ true) role
     hit-by None by = tt
     hit-by (Some wallet) by = by wallet.address (is_same-refl wallet.address)
+
+-- ---- what stands at a place
+
+pub among-at : (address : Address) (cells : List CellState) (place : ℕ) → IsAt address cells place → is_among address cells ≡ true
+among-at address [] place at = absurd (omega (arith, at.within))
+among-at address (first ∷ others) zero at = ap (λ (b : Bool). b || is_among address others) (at.here first)
+among-at address (first ∷ others) (suc place) at =
+    let later : IsAt address others place = record { within = omega (arith, at.within); here = at.here } in
+    ap (λ (b : Bool). is_same address first.address || b) (among-at address others place later) ∙ or-true (is_same address first.address)
+
+-- the wallet of an address is that of the cell that stands there
+pub found-there : (address : Address) (cells : List CellState) (place : ℕ) (default : CellState) → AreApart cells → IsAt address cells place
+    → wallet_at address (map wallet_state_of cells) ≡ Some (seen_of (get_or cells place default))
+found-there address [] place default apart at = absurd (omega (arith, at.within))
+found-there address (first ∷ others) zero default apart at = cond-true _ _ _ (at.here default)
+found-there address (first ∷ others) (suc place) default apart at =
+    let later : IsAt address others place = record { within = omega (arith, at.within); here = at.here } in
+    let other : is_same address first.address ≡ false =
+    ⊎_elim
+    (λ (same : is_same address first.address ≡ true).
+    absurd (false≢true (sym apart.0 ∙ ap (λ (a : Address). is_among a others) (sym (is_same-true address first.address same)) ∙ among-at address others place later)))
+    (λ away. away)
+    (cases_Bool (is_same address first.address)) in
+    cond-false _ _ _ other ∙ found-there address others place default apart.1 later

@@ -1,5 +1,5 @@
 -- What a row of a world sees, where the wallets of the world are cells.
-use Rattle.std.proofs.Common.{◌≡◌, Bool, true, false, ◌||◌, cond, List, [], ◌∷◌, map, get_or, Option, Some, None, refl, sym, ap, ◌∙◌, subst, ⊎_elim}
+use Rattle.std.proofs.Common.{◌≡◌, ℕ, Bool, true, false, ◌||◌, cond, List, [], ◌∷◌, map, get_or, Option, Some, None, refl, sym, ap, ◌∙◌, subst, ⊎_elim}
 use Rattle.std.specs.List.{All, list_any}
 use Rattle.std.proofs.lemmas.List.Elements.{All-nil, All-cons, All-head, All-tail, All-weaker}
 use Rattle.std.proofs.lemmas.Bool.{cases_Bool, cond-true, cond-false, cond_both, false≢true}
@@ -13,10 +13,12 @@ use Rattle.dex_laws.proofs.TraderLaws.{is_same-true}
 use Rattle.dex_history.specs.Journal.{Agree, Sees, asked_of}
 use Rattle.dex_movements.proofs.PlaceLaws.{seen-wallets}
 use Rattle.dex_world.specs.Fold.{names}
+use Rattle.dex_world.proofs.OnceLaws.{with_address-all}
+use Rattle.dex_act.specs.declared.places.WalletPlaces.{WalletPlaces}
 use Rattle.dex_world.specs.World.{WalletState, World, role_at, seen_by, wallet_at}
 use Rattle.dex_wallet.specs.CellState.{CellState, HasSpare, IsWalletCell, seen_of}
-use Rattle.dex_act.specs.Wallets.{AreApart, Fits, IsHome, IsNamed, IsRight, SeesCells, any_hit, is_among, roles_of, wallet_state_of}
-use Rattle.dex_act.proofs.Seeing.{any-seen, seen-home, role_at-home, role_at-right, wallet_at-address}
+use Rattle.dex_act.specs.Wallets.{AreApart, ArePlacesAmong, Fits, IsHome, IsNamed, IsRight, IsRoleAt, SeesCells, any_hit, is_among, roles_of, wallet_state_of}
+use Rattle.dex_act.proofs.Seeing.{among-at, any-seen, seen-home, role_at-home, role_at-right, wallet_at-address}
 
 -- ---- one role
 
@@ -98,6 +100,24 @@ row-named cells row named =
     let two = role-parts cells row.pc (with_role row.discount (with_role row.referrer [])) one.1 in
     let three = role-parts cells row.discount (with_role row.referrer []) two.1 in
     record { coin = one.0; pc = two.0; discount = three.0; referrer = (role-parts cells row.referrer [] three.1).0 }
+
+-- and they are, where they stand there
+named-at : (cells : List CellState) (role : Option Address) (place : ℕ) → IsRoleAt cells role place → IsNamed cells role
+named-at cells None place at = tt
+named-at cells (Some address) place at = among-at address cells place at
+
+named-all : (cells : List CellState) (role : Option Address) (addresses : List Address) → IsNamed cells role → All (IsHere cells) addresses
+    → All (IsHere cells) (with_role role addresses)
+named-all cells None addresses named all = all
+named-all cells (Some address) addresses named all = with_address-all (IsHere cells) address addresses named all
+
+pub placed-named : (cells : List CellState) (row : PlainRow) (places : WalletPlaces) → ArePlacesAmong cells row places
+    → All (λ (address : Address). is_among address cells ≡ true) (row_wallets row)
+placed-named cells row places at =
+    named-all cells row.coin _ (named-at cells row.coin places.coin at.coin)
+    (named-all cells row.pc _ (named-at cells row.pc places.pc at.pc)
+    (named-all cells row.discount _ (named-at cells row.discount places.discount at.discount)
+    (named-all cells row.referrer [] (named-at cells row.referrer places.referrer at.referrer) (All-nil (IsHere cells)))))
 
 -- what a row sees of these wallets
 abbrev sight : PlainRow → World → List WalletState → Seen

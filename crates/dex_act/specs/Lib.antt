@@ -1,3 +1,4 @@
 pub mod Wallets
 pub mod Acted
 pub mod Opened
+pub mod Steps

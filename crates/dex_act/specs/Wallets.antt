@@ -98,7 +98,7 @@ AtPlace place cells Holds = (default : CellState) → Holds (slice_index_or cell
 abbrev pub cell_moved : PlainRow → MoveKind → ℕ → CellState → CellState
 cell_moved row kind amount cell = moved_by cell row.market row.lane row.number kind amount
 
--- the same, where anything moves
+-- a cell after a row moved it, or as it was where nothing moves
 abbrev pub moved_some : PlainRow → MoveKind → ℕ → CellState → CellState
 moved_some row kind zero cell = cell
 moved_some row kind (suc amount) cell = cell_moved row kind (suc amount) cell

@@ -42,7 +42,7 @@ pub(crate) struct Asked<'a> {
 }
 
 /// The place of the cell of an address that is among these.
-fn place_of(cells: &[WalletCell], address: Address) -> usize
+fn wallet_cell_place(cells: &[WalletCell], address: Address) -> usize
     requires { is_among address cells.now ≡ true }
     ensures { IsAt address cells.now result }
 {
@@ -51,6 +51,7 @@ fn place_of(cells: &[WalletCell], address: Address) -> usize
             return place;
         }
     }
+    // By the condition one of them has the address.
     unreachable!()
 }
 
@@ -60,7 +61,7 @@ fn role_place(cells: &[WalletCell], role: &Option<Address>) -> usize
     ensures { IsRoleAt cells.entry.now role.entry.now result }
 {
     match role {
-        Some(address) => place_of(cells, *address),
+        Some(address) => wallet_cell_place(cells, *address),
         None => 0,
     }
 }

@@ -29,8 +29,8 @@ fn accept(market: &mut MarketCell, wallets: &mut [WalletCell], asked: &Asked, pl
     ensures wallets { wallets.new ≡ cells_paid asked.now.row.now asked.now.seen.now market.old wallets.old }
 {
     let amounts = amounts_of(plan);
-    let (coin, pc) = debits(wallets, asked, &amounts);
-    let payouts = market.carry_out(asked.row, asked.seen, plan, coin, pc);
+    let deposits = debits(wallets, asked, &amounts);
+    let payouts = market.carry_out(asked.row, asked.seen, plan, &amounts, deposits);
     credits(wallets, asked, payouts);
 }
 
@@ -52,22 +52,27 @@ fn answer(market: &mut MarketCell, wallets: &mut [WalletCell], asked: &Asked)
 /// deposits and payouts move as parcels, and it looks at each other wallet that it names. It takes no memory.
 ///
 /// Where the row is refused, nothing moves: the journals say that it was refused and that it looked at its wallets.
-pub fn act(
+pub(crate) fn act(
     market: &mut MarketCell,
     wallets: &mut [WalletCell],
     row: &Row,
     seen: &Seen,
     places: &WalletPlaces,
 ) -> Reply
+    // The row may act on these cells.
     requires row { IsFor row.now seen.now market.old }
     requires market { IsMarketCell market.old }
     requires spare { HasSpare market.old }
     requires wallets { SeesCells seen.now wallets.old }
     requires places { ArePlacesAmong wallets.old (row_of row.now) places.now }
+
+    // The market does what its step says, and refuses as it says.
     ensures reply { result ≡ (step_on row.entry.now seen.now market.old).reply }
     ensures acted { HasActed row.entry.now seen.now market.old market.new }
     ensures refused { is_refusal result ≡ true → market.new ≡ refused_on row.entry.now seen.now market.old }
     ensures cell { IsMarketCell market.new }
+
+    // The wallets have moved as the step says; each is kept, and stands where it stood.
     ensures wallets { wallets.new ≡ cells_acted row.entry.now seen.now market.old wallets.old }
     ensures states { map wallet_state_of wallets.new
         ≡ states_acted row.entry.now seen.now market.old (map wallet_state_of wallets.old) }
@@ -84,22 +89,27 @@ pub fn act(
 
 /// A take is held back, for a row whose item is refused elsewhere: its market writes down that nothing was to do, and
 /// it looks at the wallets that it names. No account changes.
-pub fn hold(
+pub(crate) fn hold(
     market: &mut MarketCell,
     wallets: &mut [WalletCell],
     row: &Row,
     seen: &Seen,
     places: &WalletPlaces,
 ) -> Reply
+    // The take may act on these cells, and is held back.
     requires row { IsFor row.now seen.now market.old }
     requires market { IsMarketCell market.old }
     requires held { CanHold row.now seen.now market.old }
     requires spare { HasSpare market.old }
     requires wallets { SeesCells seen.now wallets.old }
     requires places { ArePlacesAmong wallets.old (row_of row.now) places.now }
+
+    // The market takes note of it and does nothing else.
     ensures reply { result ≡ Done }
     ensures held { market.new ≡ held_on row.entry.now seen.now market.old }
     ensures cell { IsMarketCell market.new }
+
+    // The wallets have taken note of it too; each is kept, and stands where it stood.
     ensures states { map wallet_state_of wallets.new
         ≡ map (wallet_acted (row_of row.entry.now) seen.now no_transfers) (map wallet_state_of wallets.old) }
     ensures kept { All IsWalletCell wallets.new }

@@ -9,44 +9,16 @@ ghost use Rattle.dex_types.specs.Wallets.{address_seen, amount_at};
 ghost use Rattle.dex_token.specs.TokenAccount.{wallet_words};
 ghost use Rattle.dex_wallet.specs.CellState.{HasSpare, balance_of};
 ghost use Rattle.dex_cell.specs.Paying.{parcel_of};
-ghost use Rattle.dex_world.specs.World as world;
 ghost use Rattle.dex_act.specs.Wallets as wallets;
 ghost use Rattle.dex_act.specs.Wallets.{AreApart, AreOf, AreOfOneMint, AtPlace, CanBePaid, CanCredit};
-ghost use Rattle.dex_act.specs.Wallets.{CanGetPc, CanPay, CanTake, Fits, IsRoleAt, NamesFor, amount_in};
+ghost use Rattle.dex_act.specs.Wallets.{CanGetPc, CanPay, CanTake, IsRoleAt, NamesFor, amount_in};
 ghost use Rattle.dex_act.specs.Wallets.{cell_credited, cell_debited, cell_moved, pc_credited, role_moved};
-ghost use Rattle.dex_act.specs.Wallets.{wallet_state_of};
 
 use crate::places::Asked;
-use dex_cell::Payouts;
+use dex_cell::{Deposits, Payouts};
 use dex_movements::Amounts;
 use dex_types::{Address, Row, WalletSeen, is_same};
 use dex_wallet::{Parcel, WalletCell};
-
-/// Writes down what a row sees of the wallet that a role names, if it is among these, and nothing otherwise.
-pub fn look(cells: &[WalletCell], role: &Option<Address>, seen: &mut Option<WalletSeen>)
-    ensures seen { seen.new ≡ world.role_at role.entry.now (map wallet_state_of cells.entry.now) }
-    ensures fits { Fits seen.new }
-{
-    *seen = None;
-    match role {
-        Some(address) => look_at(cells, *address, seen),
-        None => {}
-    }
-}
-
-/// Writes down what a row sees of the wallet of an address, if it is among these, where there was nothing.
-fn look_at(cells: &[WalletCell], address: Address, seen: &mut Option<WalletSeen>)
-    requires { seen.old ≡ None }
-    ensures seen { seen.new ≡ world.wallet_at address (map wallet_state_of cells.entry.now) }
-    ensures fits { Fits seen.new }
-{
-    for place in 0..cells.len() {
-        if is_same(address, cells[place].address()) {
-            *seen = Some(cells[place].seen());
-            return;
-        }
-    }
-}
 
 /// A row takes an amount out of the cell at a place.
 fn debit_at(cells: &mut [WalletCell], place: usize, row: &Row, amount: u64) -> Parcel
@@ -108,25 +80,20 @@ fn credit(
     }
 }
 
-/// The deposits of a row, as parcels: what its `coin` wallet pays, and what its `pc` wallet pays. None is a deposit of
-/// nothing.
-pub(crate) fn debits(
-    cells: &mut [WalletCell],
-    asked: &Asked,
-    amounts: &Amounts,
-) -> (Option<Parcel>, Option<Parcel>)
+/// The deposits of a row, as parcels.
+pub(crate) fn debits(cells: &mut [WalletCell], asked: &Asked, amounts: &Amounts) -> Deposits
     requires { CanPay asked.now.seen.now asked.now.places.now amounts.now.coin_in amounts.now.pc_in cells.old }
     ensures coin { (mint : AddressOf) → AreOf mint asked.now.seen.now.coin amounts.now.coin_in cells.old
-        → result.0 ≡ parcel_of mint amounts.now.coin_in }
+        → result.coin ≡ parcel_of mint amounts.now.coin_in }
     ensures pc { (mint : AddressOf) → AreOf mint asked.now.seen.now.pc amounts.now.pc_in cells.old
-        → result.1 ≡ parcel_of mint amounts.now.pc_in }
+        → result.pc ≡ parcel_of mint amounts.now.pc_in }
     ensures moved { cells.new ≡ map (cell_debited (row_of asked.now.row.now) asked.now.seen.now
         amounts.now.coin_in amounts.now.pc_in) cells.old }
 {
     let Asked { row, seen, places } = asked;
     let coin = debit(cells, row, &seen.coin, places.coin, amounts.coin_in);
     let pc = debit(cells, row, &seen.pc, places.pc, amounts.pc_in);
-    (coin, pc)
+    Deposits { coin, pc }
 }
 
 /// Whether the wallets of two roles are one.

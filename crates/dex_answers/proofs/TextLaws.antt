@@ -12,7 +12,7 @@ says (Ok told) P stood text is holds =
     subst (λ (s : Status). P s (text_of told)) (sym is.status) (subst (λ (t : List ℕ). P stood t) (sym is.text) holds)
 says (Err e) P stood text is holds = tt
 
--- the same, where more is known of what was told
+-- what is told satisfies a fact that holds where more is known of it
 pub says-more : {E : Type 0} (result : Result StatusText E) (P : Status → List ℕ → Type 0) (stood : Status) (text : List ℕ) (More : Type 0)
     → IfOk result (λ told. IsText told stood text) → IfOk result (λ told. More) → (More → P stood text) → IfOk result (λ told. P told.status (text_of told))
 says-more {E} (Ok told) P stood text More is more holds = says {E = E} (Ok told) P stood text is (holds more)

@@ -5,6 +5,8 @@ use Rattle.dex_words.specs.declared.command.Command.{Command}
 use Rattle.dex_words.specs.declared.command.Command.TheVariants.{Replay, Run, Dump, Audit, Worth, Make, Bulk, Migrate, Batch}
 use Rattle.dex_statement.specs.declared.faults.FaultKind.{FaultKind}
 use Rattle.dex_statement.specs.Faults.{code_of, kind_number}
+use Rattle.dex_types.specs.declared.limits.Limits.{Limits}
+use Rattle.dex_types.specs.declared.limits.TheConstants.{STANDARD}
 use Rattle.dex_dump.specs.declared.faults.DumpFault.{DumpFault}
 use Rattle.dex_dump.specs.Answers.{AnswersText}
 use Rattle.dex_dump.specs.DumpText.{dump_text}
@@ -15,7 +17,7 @@ use Rattle.dex_migrate.specs.Migrated.{AreMigrated}
 use Rattle.dex_migrate.specs.TooSmall.{first_fault}
 use Rattle.dex_script_types.specs.PlainScript.{PlainScript}
 use Rattle.dex_script_types.specs.Facts.{HasNoSwap}
-use Rattle.dex_script.specs.Scripts.{IsRefused, Reads}
+use Rattle.dex_script.specs.Scripts.{IsRefusedWithin, ReadsWithin}
 use Rattle.dex_script.specs.Scripts.Refusal.{AtRow, InAudit, InDump}
 use Rattle.dex_report.specs.Bulk.{bulk_text}
 use Rattle.dex_report.specs.Made.{made_text}
@@ -45,73 +47,78 @@ pub record IsPlayed (script : PlainScript) (outcome : PlainOutcome) : Type 0 whe
   pub paired : ArePaired script outcome
   pub rows : HasNoSwap script.rows → IsLeftByRows script script.rows outcome
 
--- the bytes are a script, this is what is left when all its items have acted, and the text tells it
-abbrev pub Replayed : List ℕ → (PlainScript → PlainOutcome → List ℕ) → List ℕ → Type 0
-Replayed bytes told text =
-    (script : PlainScript) × (outcome : PlainOutcome) × Reads false bytes script × IsPlayed script outcome
+-- the bytes are a script within these limits, this is what is left when all its items have acted, and the text tells it
+abbrev pub Replayed : Limits → List ℕ → (PlainScript → PlainOutcome → List ℕ) → List ℕ → Type 0
+Replayed limits bytes told text =
+    (script : PlainScript) × (outcome : PlainOutcome) × ReadsWithin limits false bytes script × IsPlayed script outcome
     × (text ≡ told script outcome)
 
--- the bytes are a script (one for a batch, where so told), this is what is left when all its items have acted, and the
--- text is its report. The values of the outcome fit and its movements stand from the front, so no other such outcome
--- has this report
-abbrev pub Reported : Bool → List ℕ → List ℕ → Type 0
-Reported batch bytes text =
-    (script : PlainScript) × (outcome : PlainOutcome) × Reads batch bytes script × IsPlayed script outcome × IsToldOutcome outcome
-    × (text ≡ report_text outcome (rows_told script))
+-- the bytes are a script within these limits (one for a batch, where so told), this is what is left when all its items
+-- have acted, and the text is its report. The values of the outcome fit and its movements stand from the front, so no
+-- other such outcome has this report
+abbrev pub Reported : Limits → Bool → List ℕ → List ℕ → Type 0
+Reported limits batch bytes text =
+    (script : PlainScript) × (outcome : PlainOutcome) × ReadsWithin limits batch bytes script × IsPlayed script outcome
+    × IsToldOutcome outcome × (text ≡ report_text outcome (rows_told script))
 
--- the bytes are the dump of accounts without findings
-abbrev pub IsClean : List ℕ → PlainAccounts → Type 0
-IsClean bytes accounts = AnswersText bytes (Ok accounts) × (findings accounts ≡ [])
+-- the bytes are the dump, within these limits, of accounts without findings
+abbrev pub IsClean : Limits → List ℕ → PlainAccounts → Type 0
+IsClean limits bytes accounts = AnswersText limits bytes (Ok accounts) × (findings accounts ≡ [])
 
 -- the line that names a faulty row of a script
 abbrev pub row_line : ℕ → FaultKind → List ℕ
 row_line row kind = lines.script_refused (record { row = row; kind = kind_number kind; code = code_of kind })
 
--- the bytes are no script (none for a batch, where so told): the text names the first faulty row, or it tells the fault
--- or the findings of the dump at its start
-abbrev pub IsNoScript : Bool → List ℕ → Status → List ℕ → Type 0
-IsNoScript batch bytes status.ScriptRefused text =
-    (row : ℕ) × (kind : FaultKind) × IsRefused batch bytes (AtRow row kind) × (text ≡ row_line row kind)
-IsNoScript batch bytes status.DumpRefused text =
-    (fault : DumpFault) × IsRefused batch bytes (InDump fault) × (text ≡ lines.dump_refused fault)
-IsNoScript batch bytes status.AuditFailed text =
-    (found : List Finding) × IsRefused batch bytes (InAudit found) × ¬ (found ≡ []) × (text ≡ lines.audit_failed found)
-IsNoScript batch bytes _ text = ⊥
+-- the bytes are no script within these limits (none for a batch, where so told): the text names the first faulty row,
+-- or it tells the fault or the findings of the dump at its start
+abbrev pub IsNoScript : Limits → Bool → List ℕ → Status → List ℕ → Type 0
+IsNoScript limits batch bytes status.ScriptRefused text =
+    (row : ℕ) × (kind : FaultKind) × IsRefusedWithin limits batch bytes (AtRow row kind) × (text ≡ row_line row kind)
+IsNoScript limits batch bytes status.DumpRefused text =
+    (fault : DumpFault) × IsRefusedWithin limits batch bytes (InDump fault) × (text ≡ lines.dump_refused fault)
+IsNoScript limits batch bytes status.AuditFailed text =
+    (found : List Finding) × IsRefusedWithin limits batch bytes (InAudit found) × ¬ (found ≡ []) × (text ≡ lines.audit_failed found)
+IsNoScript limits batch bytes _ text = ⊥
 
--- the bytes are no dump of accounts without findings: the text names the first faulty row, or it tells the findings
-abbrev pub IsNotClean : List ℕ → Status → List ℕ → Type 0
-IsNotClean bytes status.DumpRefused text =
-    (fault : DumpFault) × AnswersText bytes (Err fault) × (text ≡ lines.dump_refused fault)
-IsNotClean bytes status.AuditFailed text =
-    (accounts : PlainAccounts) × AnswersText bytes (Ok accounts) × ¬ (findings accounts ≡ [])
+-- the bytes are no dump within these limits of accounts without findings: the text names the first faulty row, or it
+-- tells the findings
+abbrev pub IsNotClean : Limits → List ℕ → Status → List ℕ → Type 0
+IsNotClean limits bytes status.DumpRefused text =
+    (fault : DumpFault) × AnswersText limits bytes (Err fault) × (text ≡ lines.dump_refused fault)
+IsNotClean limits bytes status.AuditFailed text =
+    (accounts : PlainAccounts) × AnswersText limits bytes (Ok accounts) × ¬ (findings accounts ≡ [])
     × (text ≡ lines.audit_failed (findings accounts))
-IsNotClean bytes _ text = ⊥
+IsNotClean limits bytes _ text = ⊥
 
--- what a command on one thread answers to bytes: the status and the text. `make` and `bulk` look at no bytes, and `run`
--- and `batch` act on several threads
-abbrev pub Answers : Command → List ℕ → Status → List ℕ → Type 0
-Answers Replay bytes status.Ok text = Reported false bytes text
-Answers Replay bytes stood text = IsNoScript false bytes stood text
-Answers Run bytes stood text = ⊥
-Answers (Batch workers) bytes stood text = ⊥
-Answers Dump bytes status.Ok text = Replayed bytes (λ script outcome. dump_text outcome.accounts) text
-Answers Dump bytes stood text = IsNoScript false bytes stood text
-Answers Audit bytes status.Ok text =
-    (accounts : PlainAccounts) × IsClean bytes accounts
+-- what a command on one thread answers to bytes within these limits: the status and the text. `make` and `bulk` look at
+-- no bytes, and `run` and `batch` act on several threads
+abbrev pub AnswersWithin : Limits → Command → List ℕ → Status → List ℕ → Type 0
+AnswersWithin limits Replay bytes status.Ok text = Reported limits false bytes text
+AnswersWithin limits Replay bytes stood text = IsNoScript limits false bytes stood text
+AnswersWithin limits Run bytes stood text = ⊥
+AnswersWithin limits (Batch workers) bytes stood text = ⊥
+AnswersWithin limits Dump bytes status.Ok text = Replayed limits bytes (λ script outcome. dump_text outcome.accounts) text
+AnswersWithin limits Dump bytes stood text = IsNoScript limits false bytes stood text
+AnswersWithin limits Audit bytes status.Ok text =
+    (accounts : PlainAccounts) × IsClean limits bytes accounts
     × (text ≡ lines.audit_ok (length accounts.markets) (length accounts.wallets))
-Answers Audit bytes stood text = IsNotClean bytes stood text
-Answers Worth bytes status.Ok text =
-    Replayed bytes (λ script outcome. worth_text (length script.start.markets) (table_told script outcome)) text
-Answers Worth bytes stood text = IsNoScript false bytes stood text
-Answers (Make number rows) bytes status.Ok text = text ≡ made_text number rows
-Answers (Make number rows) bytes stood text = ⊥
-Answers (Bulk number rows) bytes status.Ok text =
-    Replayed (made_text number rows) (λ script outcome. bulk_text number rows outcome) text
-Answers (Bulk number rows) bytes stood text = ⊥
-Answers (Migrate nodes events) bytes status.Ok text =
-    (accounts migrated : PlainAccounts) × IsClean bytes accounts × AreMigrated nodes events accounts migrated
+AnswersWithin limits Audit bytes stood text = IsNotClean limits bytes stood text
+AnswersWithin limits Worth bytes status.Ok text =
+    Replayed limits bytes (λ script outcome. worth_text (length script.start.markets) (table_told script outcome)) text
+AnswersWithin limits Worth bytes stood text = IsNoScript limits false bytes stood text
+AnswersWithin limits (Make number rows) bytes status.Ok text = text ≡ made_text number rows
+AnswersWithin limits (Make number rows) bytes stood text = ⊥
+AnswersWithin limits (Bulk number rows) bytes status.Ok text =
+    Replayed STANDARD (made_text number rows) (λ script outcome. bulk_text number rows outcome) text
+AnswersWithin limits (Bulk number rows) bytes stood text = ⊥
+AnswersWithin limits (Migrate nodes events) bytes status.Ok text =
+    (accounts migrated : PlainAccounts) × IsClean limits bytes accounts × AreMigrated nodes events accounts migrated
     × (text ≡ dump_text migrated)
-Answers (Migrate nodes events) bytes status.MigrateRefused text =
-    (accounts : PlainAccounts) × (fault : MigrateFault) × IsClean bytes accounts
+AnswersWithin limits (Migrate nodes events) bytes status.MigrateRefused text =
+    (accounts : PlainAccounts) × (fault : MigrateFault) × IsClean limits bytes accounts
     × (first_fault nodes events accounts.markets ≡ Some fault) × (text ≡ lines.migrate_refused fault)
-Answers (Migrate nodes events) bytes stood text = IsNotClean bytes stood text
+AnswersWithin limits (Migrate nodes events) bytes stood text = IsNotClean limits bytes stood text
+
+-- what a command answers within the program's limits
+abbrev pub Answers : Command → List ℕ → Status → List ℕ → Type 0
+Answers command bytes stood text = AnswersWithin STANDARD command bytes stood text

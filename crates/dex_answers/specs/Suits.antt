@@ -4,6 +4,7 @@ use Rattle.dex_types.specs.Accounts.{PlainAccounts}
 use Rattle.dex_words.specs.declared.command.Command.{Command}
 use Rattle.dex_words.specs.declared.command.Command.TheVariants.{Replay, Run, Dump, Audit, Worth, Make, Bulk, Migrate, Batch}
 use Rattle.dex_migrate.specs.TooSmall.{first_fault}
+use Rattle.dex_types.specs.declared.limits.TheConstants.{STANDARD}
 use Rattle.dex_script_types.specs.PlainScript.{PlainScript}
 use Rattle.dex_script.specs.Scripts.{Reads}
 use Rattle.dex_answers.specs.Answers.{IsClean}
@@ -16,8 +17,8 @@ Suits Run bytes = (script : PlainScript) × Reads false bytes script
 Suits (Batch workers) bytes = (script : PlainScript) × Reads true bytes script
 Suits Dump bytes = (script : PlainScript) × Reads false bytes script
 Suits Worth bytes = (script : PlainScript) × Reads false bytes script
-Suits Audit bytes = (accounts : PlainAccounts) × IsClean bytes accounts
+Suits Audit bytes = (accounts : PlainAccounts) × IsClean STANDARD bytes accounts
 Suits (Make number rows) bytes = Unit {0}
 Suits (Bulk number rows) bytes = Unit {0}
 Suits (Migrate nodes events) bytes =
-    (accounts : PlainAccounts) × IsClean bytes accounts × (first_fault nodes events accounts.markets ≡ None)
+    (accounts : PlainAccounts) × IsClean STANDARD bytes accounts × (first_fault nodes events accounts.markets ≡ None)

@@ -1,9 +1,10 @@
 -- What the answers of calls tell, without their buffers.
 use Rattle.std.specs.Prelude.{ℕ, ◌≡◌, false, List}
 use Rattle.dex_types.specs.Accounts.{accounts_of}
+use Rattle.dex_types.specs.declared.limits.Limits.{Limits}
 use Rattle.dex_state.specs.Accepted.{AreAccepted}
 use Rattle.dex_script_types.specs.PlainScript.{PlainScript}
-use Rattle.dex_script.specs.Scripts.{Reads}
+use Rattle.dex_script.specs.Scripts.{ReadsWithin}
 use Rattle.dex_state.specs.Outcomes.{outcome_of}
 use Rattle.dex_answers.specs.declared.clean.Checked.{Checked}
 use Rattle.dex_answers.specs.declared.clean.Checked.TheVariants as checked
@@ -20,12 +21,12 @@ pub record IsText (told : StatusText) (stood : Status) (bytes : List ℕ) : Type
   pub text : text_of told ≡ bytes
 
 -- the bytes are the dump of these accounts, or the text says why they are none
-abbrev pub TellsChecked : Checked → List ℕ → Type 0
-TellsChecked (checked.Clean accounts) bytes = IsClean bytes (accounts_of accounts) × AreAccepted (accounts_of accounts)
-TellsChecked (checked.Refused told) bytes = IsNotClean bytes told.status (text_of told)
+abbrev pub TellsChecked : Limits → Checked → List ℕ → Type 0
+TellsChecked limits (checked.Clean accounts) bytes = IsClean limits bytes (accounts_of accounts) × AreAccepted limits (accounts_of accounts)
+TellsChecked limits (checked.Refused told) bytes = IsNotClean limits bytes told.status (text_of told)
 
 -- the bytes are a script with this outcome, whose report tells of this many rows; or the text says why they are none
-abbrev pub TellsPlayed : Played → List ℕ → Type 0
-TellsPlayed (played.AllRows rows outcome) bytes =
-    (script : PlainScript) × Reads false bytes script × IsPlayed script (outcome_of outcome) × (rows ≡ rows_told script)
-TellsPlayed (played.Refused told) bytes = IsNoScript false bytes told.status (text_of told)
+abbrev pub TellsPlayed : Limits → Played → List ℕ → Type 0
+TellsPlayed limits (played.AllRows rows outcome) bytes =
+    (script : PlainScript) × ReadsWithin limits false bytes script × IsPlayed script (outcome_of outcome) × (rows ≡ rows_told script)
+TellsPlayed limits (played.Refused told) bytes = IsNoScript limits false bytes told.status (text_of told)

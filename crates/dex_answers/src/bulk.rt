@@ -16,7 +16,7 @@ use crate::status::Status;
 use crate::told::StatusText;
 use dex_report::{bulk_text, make_script};
 use dex_state::{MarketJournal, Outcome};
-use dex_types::{Address, MarketAccounts, NoMemory};
+use dex_types::{Address, MarketAccounts, NoMemory, STANDARD};
 use std::alloc::Global;
 
 /// The summary of the made script of this number with this many drawn rows, which is read back and replayed.
@@ -28,7 +28,7 @@ pub fn bulk_answer(alloc: Global, number: u64, rows: u32) -> Result<StatusText, 
     ensures { IfOk result (λ told. Answers (Bulk number rows) [] told.status (text_of told)) }
 {
     let script = make_script(alloc, number, rows)?;
-    let Played::AllRows { rows: _, outcome } = play_script(alloc, &script)? else {
+    let Played::AllRows { rows: _, outcome } = play_script(alloc, &script, &STANDARD)? else {
         return Err(NoMemory);
     };
     if !is_of_made(&outcome) {

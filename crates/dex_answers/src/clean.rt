@@ -1,13 +1,14 @@
 //! Accounts of a dump that have no findings.
 
 ghost use Rattle.std.specs.Prelude.{IfOk};
+ghost use Rattle.dex_types.specs.Limits.{AreLimits};
 ghost use Rattle.dex_answers.specs.Telling.{TellsChecked};
 
 use crate::lines::{audit_failed, dump_refused};
 use crate::told::StatusText;
 use dex_audit::audit;
-use dex_dump::{DumpError, read_dump};
-use dex_types::{Accounts, NoMemory};
+use dex_dump::{DumpError, read_dump_within};
+use dex_types::{Accounts, Limits, NoMemory};
 use std::alloc::Global;
 
 /// What a dump is found to be.
@@ -19,11 +20,13 @@ pub(crate) enum Checked {
     Refused(StatusText),
 }
 
-/// Reads a dump and audits its accounts.
-pub(crate) fn check_dump(alloc: Global, bytes: &[u8]) -> Result<Checked, NoMemory>
-    ensures { IfOk result (λ checked. TellsChecked checked bytes.now) }
+/// Reads a dump within these limits, and audits its accounts.
+#[tactic(auto, using(dex_state::proofs::TheLimits::widened))]
+pub(crate) fn check_dump(alloc: Global, bytes: &[u8], limits: &Limits) -> Result<Checked, NoMemory>
+    requires { AreLimits limits.now }
+    ensures { IfOk result (λ checked. TellsChecked limits.now checked bytes.now) }
 {
-    let accounts = match read_dump(alloc, bytes) {
+    let accounts = match read_dump_within(alloc, bytes, limits) {
         Ok(accounts) => accounts,
         Err(DumpError::Refused(fault)) => return Ok(Checked::Refused(dump_refused(alloc, fault)?)),
         Err(DumpError::NoMemory) => return Err(NoMemory),

@@ -2,9 +2,10 @@
 
 ghost use Rattle.std.specs.Prelude.{IfOk};
 ghost use Rattle.dex_dump.specs.DumpText.{dump_text};
+ghost use Rattle.dex_types.specs.Limits.{AreLimits};
 ghost use Rattle.dex_types.specs.Accounts.{accounts_of};
 ghost use Rattle.dex_words.specs.declared.command.Command.TheVariants.{Dump};
-ghost use Rattle.dex_answers.specs.Answers.{Answers};
+ghost use Rattle.dex_answers.specs.Answers.{AnswersWithin};
 ghost use Rattle.dex_answers.specs.Telling.{IsText};
 ghost use Rattle.dex_answers.specs.Told.{text_of};
 ghost use Rattle.dex_answers.specs.declared.status.Status.TheVariants as status;
@@ -13,14 +14,16 @@ use crate::played::{Played, play_script};
 use crate::status::Status;
 use crate::told::StatusText;
 use dex_dump::{Pieces, room_of_dump, take_accounts};
-use dex_types::{Accounts, NoMemory};
+use dex_types::{Accounts, Limits, NoMemory};
 use std::alloc::Global;
 
-/// The dump of the accounts when all rows of a script have acted, or why the bytes are no script.
-pub fn dump_answer(alloc: Global, bytes: &[u8]) -> Result<StatusText, NoMemory>
-    ensures { IfOk result (λ told. Answers Dump bytes.now told.status (text_of told)) }
+/// The dump of the accounts when all rows of a script have acted, or why the bytes are no script within
+/// these limits.
+pub fn dump_answer(alloc: Global, bytes: &[u8], limits: &Limits) -> Result<StatusText, NoMemory>
+    requires { AreLimits limits.now }
+    ensures { IfOk result (λ told. AnswersWithin limits.now Dump bytes.now told.status (text_of told)) }
 {
-    match play_script(alloc, bytes)? {
+    match play_script(alloc, bytes, limits)? {
         Played::AllRows { rows: _, outcome } => dump_of(alloc, outcome.accounts),
         Played::Refused(told) => Ok(told),
     }

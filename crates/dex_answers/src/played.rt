@@ -1,6 +1,8 @@
 //! What the rows of a script leave.
 
 ghost use Rattle.std.specs.Prelude.{ℕ, Bool, List, IfOk, false};
+ghost use Rattle.dex_types.specs.declared.limits.Limits.{Limits};
+ghost use Rattle.dex_types.specs.Limits.{AreLimits};
 ghost use Rattle.dex_script.specs.Telling.{TellsError, TellsScript};
 ghost use Rattle.dex_answers.specs.Answers.{IsNoScript};
 ghost use Rattle.dex_answers.specs.Telling.{TellsPlayed};
@@ -11,9 +13,9 @@ use crate::told::StatusText;
 use dex_refusal_lines::ScriptRefused;
 use dex_replay::laws::without_swaps_rows_act_one_by_one;
 use dex_replay::replay;
-use dex_script::{Script, ScriptError, read_script};
+use dex_script::{Script, ScriptError, read_script_within};
 use dex_state::Outcome;
-use dex_types::NoMemory;
+use dex_types::{Limits, NoMemory};
 use std::alloc::Global;
 
 /// What a script came to.
@@ -25,27 +27,29 @@ pub(crate) enum Played {
     Refused(StatusText),
 }
 
-/// Reads a script, and lets its items act one after the other.
-pub(crate) fn play_script(alloc: Global, bytes: &[u8]) -> Result<Played, NoMemory>
-    ensures { IfOk result (λ played. TellsPlayed played bytes.now) }
+/// Reads a script within these limits, and lets its items act one after the other.
+pub(crate) fn play_script(alloc: Global, bytes: &[u8], limits: &Limits) -> Result<Played, NoMemory>
+    requires { AreLimits limits.now }
+    ensures { IfOk result (λ played. TellsPlayed limits.now played bytes.now) }
 {
-    let read = read_script(alloc, bytes, false);
+    let read = read_script_within(alloc, bytes, false, limits);
     play_read(alloc, read)
 }
 
 /// Like `play_script`, of bytes that are given up: they are let go before the first row acts.
-pub(crate) fn play_taken(alloc: Global, bytes: Vec<u8>) -> Result<Played, NoMemory>
-    ensures { IfOk result (λ played. TellsPlayed played bytes.items) }
+pub(crate) fn play_taken(alloc: Global, bytes: Vec<u8>, limits: &Limits) -> Result<Played, NoMemory>
+    requires { AreLimits limits.now }
+    ensures { IfOk result (λ played. TellsPlayed limits.now played bytes.items) }
 {
-    let read = read_script(alloc, &bytes, false);
+    let read = read_script_within(alloc, &bytes, false, limits);
     drop(bytes);
     play_read(alloc, read)
 }
 
 /// Lets the items of what was read act.
 fn play_read(alloc: Global, read: Result<Script, ScriptError>) -> Result<Played, NoMemory>
-    ensures { (bytes : List ℕ) → TellsScript read false bytes
-        → IfOk result (λ played. TellsPlayed played bytes) }
+    ensures { (limits : Limits) (bytes : List ℕ) → TellsScript limits read false bytes
+        → IfOk result (λ played. TellsPlayed limits played bytes) }
 {
     match read {
         Ok(script) => {
@@ -62,8 +66,8 @@ fn play_read(alloc: Global, read: Result<Script, ScriptError>) -> Result<Played,
 
 /// The text that tells why bytes are no script.
 pub fn no_script(alloc: Global, error: ScriptError) -> Result<StatusText, NoMemory>
-    ensures { (batch : Bool) (bytes : List ℕ) → TellsError error batch bytes
-        → IfOk result (λ told. IsNoScript batch bytes told.status (text_of told)) }
+    ensures { (limits : Limits) (batch : Bool) (bytes : List ℕ) → TellsError limits error batch bytes
+        → IfOk result (λ told. IsNoScript limits batch bytes told.status (text_of told)) }
 {
     match error {
         ScriptError::Row { row, kind, code } => {

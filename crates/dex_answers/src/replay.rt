@@ -2,10 +2,12 @@
 
 ghost use Rattle.std.specs.Prelude.{ℕ, IfOk, List};
 ghost use Rattle.dex_words.specs.declared.command.Command.TheVariants.{Replay};
+ghost use Rattle.dex_types.specs.declared.limits.Limits.{Limits};
+ghost use Rattle.dex_types.specs.Limits.{AreLimits};
 ghost use Rattle.dex_state.specs.Outcomes.{outcome_of};
 ghost use Rattle.dex_report.specs.Report.{report_text};
 ghost use Rattle.dex_report.specs.Telling.{FitOutcome};
-ghost use Rattle.dex_answers.specs.Answers.{Answers};
+ghost use Rattle.dex_answers.specs.Answers.{AnswersWithin};
 ghost use Rattle.dex_answers.specs.Telling.{IsText, TellsPlayed};
 ghost use Rattle.dex_answers.specs.Told.{text_of};
 ghost use Rattle.dex_answers.specs.declared.status.Status.TheVariants as status;
@@ -15,27 +17,30 @@ use crate::status::Status;
 use crate::told::StatusText;
 use dex_report::into_report_pieces;
 use dex_state::Outcome;
-use dex_types::NoMemory;
+use dex_types::{Limits, NoMemory};
 use std::alloc::Global;
 
-/// The report of what is left when all rows of a script have acted, or why the bytes are no script.
-pub fn replay_answer(alloc: Global, bytes: &[u8]) -> Result<StatusText, NoMemory>
-    ensures { IfOk result (λ told. Answers Replay bytes.now told.status (text_of told)) }
+/// The report of what is left when all rows of a script have acted, or why the bytes are no script within
+/// these limits.
+pub fn replay_answer(alloc: Global, bytes: &[u8], limits: &Limits) -> Result<StatusText, NoMemory>
+    requires { AreLimits limits.now }
+    ensures { IfOk result (λ told. AnswersWithin limits.now Replay bytes.now told.status (text_of told)) }
 {
-    told_of(alloc, play_script(alloc, bytes)?)
+    told_of(alloc, play_script(alloc, bytes, limits)?)
 }
 
 /// Like `replay_answer`, of bytes that are given up.
-pub fn replay_taken(alloc: Global, bytes: Vec<u8>) -> Result<StatusText, NoMemory>
-    ensures { IfOk result (λ told. Answers Replay bytes.items told.status (text_of told)) }
+pub fn replay_taken(alloc: Global, bytes: Vec<u8>, limits: &Limits) -> Result<StatusText, NoMemory>
+    requires { AreLimits limits.now }
+    ensures { IfOk result (λ told. AnswersWithin limits.now Replay bytes.items told.status (text_of told)) }
 {
-    told_of(alloc, play_taken(alloc, bytes)?)
+    told_of(alloc, play_taken(alloc, bytes, limits)?)
 }
 
 /// The report of what a script came to.
 fn told_of(alloc: Global, played: Played) -> Result<StatusText, NoMemory>
-    ensures { (bytes : List ℕ) → TellsPlayed played bytes
-        → IfOk result (λ told. Answers Replay bytes told.status (text_of told)) }
+    ensures { (limits : Limits) (bytes : List ℕ) → TellsPlayed limits played bytes
+        → IfOk result (λ told. AnswersWithin limits Replay bytes told.status (text_of told)) }
 {
     match played {
         Played::AllRows { rows, outcome } => report_of(alloc, outcome, rows),

@@ -1,6 +1,9 @@
 //! Each call once, with memory enough: none always answers that memory is wanting.
 
-use dex_call::{audit, bulk, chained, dump, make, migrate, replay, shards, worth};
+use dex_call::{
+    audit, audit_wide, bulk, chained, chained_wide, dump, dump_wide, make, migrate, migrate_wide,
+    replay, replay_wide, shards, shards_wide, worth, worth_wide,
+};
 use dex_dump::{read_dump, write_dump};
 use std::alloc::Global;
 use std::test::Fail;
@@ -15,6 +18,26 @@ market,m,coin,usd,admin,5,5,8,AAAAAABkAAAAAAAAAAoAAAAAAAAAAAAAAAAAAAAAAAEAAAAAAA
 orders,m,amy
 do,0,m,ann,amy,-,-,-,-,init
 do,1,m,bob,amy,-,-,-,-,settle
+";
+
+/// One mint more than the program reads.
+const MANY_MINTS: &[u8] = b"mint,a,6
+mint,b,6
+mint,c,6
+mint,d,6
+mint,e,6
+mint,f,6
+mint,g,6
+mint,h,6
+mint,i,6
+mint,j,6
+mint,k,6
+mint,l,6
+mint,m,6
+mint,n,6
+mint,o,6
+mint,p,6
+mint,q,6
 ";
 
 /// How the report begins.
@@ -113,5 +136,41 @@ fn shards_are_told(rt: HostRuntime) -> Result<(), Fail> {
 fn parts_are_told(rt: HostRuntime) -> Result<(), Fail> {
     let (mut text, mut size) = (room(rt.alloc())?, 0);
     let status = chained(rt.alloc(), 1, SCRIPT, &mut text, &mut size);
+    tells(status, &text, size, b"part 1\npart 1\nend\n")
+}
+
+#[test]
+fn wide_calls_take_what_the_program_refuses(rt: HostRuntime) -> Result<(), Fail> {
+    let alloc = rt.alloc();
+    let (mut text, mut size) = (room(alloc)?, 0);
+    if replay(alloc, MANY_MINTS, &mut text, &mut size) != 2 {
+        return Err(Fail::new("too many mints"));
+    }
+    let (mut text, mut size) = (room(alloc)?, 0);
+    let status = replay_wide(alloc, MANY_MINTS, &mut text, &mut size);
+    tells(status, &text, size, b"report 0\ndump\nmint,a,")?;
+    let (mut dump, mut size) = (room(alloc)?, 0);
+    let status = dump_wide(alloc, MANY_MINTS, &mut dump, &mut size);
+    tells(status, &dump, size, b"dump\nmint,a,")?;
+    dump.truncate(size);
+    let (mut text, mut size) = (room(alloc)?, 0);
+    let status = audit_wide(alloc, &dump, &mut text, &mut size);
+    tells(status, &text, size, b"audit ok 0 0\n")?;
+    let (mut text, mut size) = (room(alloc)?, 0);
+    let status = migrate_wide(alloc, 7, 9, &dump, &mut text, &mut size);
+    tells(status, &text, size, b"dump\nmint,a,")
+}
+
+#[test]
+fn wide_calls_of_rows_tell_the_same(rt: HostRuntime) -> Result<(), Fail> {
+    let alloc = rt.alloc();
+    let (mut text, mut size) = (room(alloc)?, 0);
+    let status = worth_wide(alloc, SCRIPT, &mut text, &mut size);
+    tells(status, &text, size, b"worth 1\ntrader m amy 0 0\nend\n")?;
+    let (mut text, mut size) = (room(alloc)?, 0);
+    let status = shards_wide(alloc, SCRIPT, &mut text, &mut size);
+    tells(status, &text, size, b"market 0\nrow 0\nrow 0\nend\n")?;
+    let (mut text, mut size) = (room(alloc)?, 0);
+    let status = chained_wide(alloc, 1, SCRIPT, &mut text, &mut size);
     tells(status, &text, size, b"part 1\npart 1\nend\n")
 }

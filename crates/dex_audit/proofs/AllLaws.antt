@@ -52,7 +52,7 @@ numbered-all P f first (x ∷ xs) each =
     let at : first + suc i ≡ (first + 1) + i = omega arith in
     subst (λ (n : ℕ). All P (f n (get_or xs i d))) at (each (suc i) d (omega arith))))
 
--- the same, numbered from 0
+-- what holds of each item at its place holds of all that are numbered from 0
 pub numbered-each : {X Y : Type 0} (P : Y → Type 0) (f : ℕ → X → List Y) (xs : List X) → ((i : ℕ) (d : X) → i < length xs → All P (f i (get_or xs i d))) → All P (numbered f 0 xs)
 numbered-each P f xs each =
     numbered-all P f 0 xs

@@ -12,6 +12,7 @@ use Rattle.dex_types.specs.Side.{Coin, Pc}
 use Rattle.dex_market.specs.MarketAccount.{market_words}
 use Rattle.dex_token.specs.MintAccount.{IsMint, mint_words}
 use Rattle.dex_accounts.specs.Decoded.{AreSound, market_in}
+use Rattle.dex_types.specs.declared.limits.Limits.{Limits}
 use Rattle.dex_state.specs.Accepted.{AreAccepted}
 use Rattle.dex_state.specs.Held.{HoldBytes, IsHeldMarket}
 use Rattle.dex_audit_rules.specs.declared.market.Rule.TheVariants as rule
@@ -67,7 +68,7 @@ module _ (accounts : PlainMarketAccounts) (can : IsAuditable accounts) (words : 
             (no-too-large Ask m.listing.sizes m.listing.asks m.asks (fit Ask));
       }
 
-module _ (accounts : PlainAccounts) (accepted : AreAccepted accounts) (bytes : HoldBytes accounts) (sound : All AreSound accounts.markets)
+module _ {limits : Limits} (accounts : PlainAccounts) (accepted : AreAccepted limits accounts) (bytes : HoldBytes accounts) (sound : All AreSound accounts.markets)
     (conserved : All (IsConserved accounts) accounts.mints) where
   clean : All IsClean accounts.markets
   clean k d lt =
@@ -111,9 +112,9 @@ module _ (accounts : PlainAccounts) (accepted : AreAccepted accounts) (bytes : H
       (none-append (supplies_off accounts) (told rule.TooLarge accounts.markets) no-supplies
       (flat_map-nothing (told_by rule.TooLarge) accounts.markets (λ k d lt. (clean k d lt).too_large))))
 
-pub exactly : (accounts : PlainAccounts) → AreAccepted accounts → HoldBytes accounts
+pub exactly : (limits : Limits) (accounts : PlainAccounts) → AreAccepted limits accounts → HoldBytes accounts
     → (findings accounts ≡ []) ↔ (All AreSound accounts.markets × All (IsConserved accounts) accounts.mints)
-exactly accounts accepted bytes = (
-  (λ none. (markets-sound accounts accepted bytes none, mints-conserved accounts accepted bytes none)),
+exactly limits accounts accepted bytes = (
+  (λ none. (markets-sound limits accounts accepted bytes none, mints-conserved limits accounts accepted bytes none)),
   (λ is. no-findings accounts accepted bytes is.0 is.1),
 )

@@ -5,6 +5,7 @@ use Rattle.dex_fields.specs.declared.mint.TheConstants.{SUPPLY}
 use Rattle.dex_types.specs.Accounts.{PlainAccount, PlainAccounts, PlainMarketAccounts}
 use Rattle.dex_token.specs.MintAccount.{IsMint, mint_words}
 use Rattle.dex_accounts.specs.Decoded.{AreSound}
+use Rattle.dex_types.specs.declared.limits.Limits.{Limits}
 use Rattle.dex_state.specs.Accepted.{AreAccepted}
 use Rattle.dex_state.specs.Held.{HoldBytes}
 use Rattle.dex_state.specs.Conserved.{IsConserved, held_of}
@@ -61,12 +62,12 @@ clean accounts none =
       mints = last.0;
     }
 
-pub markets-sound : (accounts : PlainAccounts) → AreAccepted accounts → HoldBytes accounts → findings accounts ≡ [] → All AreSound accounts.markets
-markets-sound accounts can bytes none k d lt =
+pub markets-sound : (limits : Limits) (accounts : PlainAccounts) → AreAccepted limits accounts → HoldBytes accounts → findings accounts ≡ [] → All AreSound accounts.markets
+markets-sound limits accounts can bytes none k d lt =
     are-sound (get_or accounts.markets k d) (record { accepted = can.markets k d lt; distinct = accounts-distinct accounts can k d lt }) (bytes.markets k d lt) ((clean accounts none).markets k d lt)
 
-pub mints-conserved : (accounts : PlainAccounts) → AreAccepted accounts → HoldBytes accounts → findings accounts ≡ [] → All (IsConserved accounts) accounts.mints
-mints-conserved accounts can bytes none k d lt =
+pub mints-conserved : (limits : Limits) (accounts : PlainAccounts) → AreAccepted limits accounts → HoldBytes accounts → findings accounts ≡ [] → All (IsConserved accounts) accounts.mints
+mints-conserved limits accounts can bytes none k d lt =
     let mint : PlainAccount = get_or accounts.mints k d in
     let is : IsMint mint.bytes = can.mints k d lt in
     let size : length mint.bytes ≡ 82 = is.size in

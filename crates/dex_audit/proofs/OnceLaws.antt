@@ -10,6 +10,7 @@ use Rattle.dex_types.specs.Trader.{trader_at}
 use Rattle.dex_laws.proofs.TraderLaws.{is_same-refl}
 use Rattle.dex_orders.specs.StandsFor.{traders_of}
 use Rattle.dex_state.specs.Addresses.{address_of, all_of_market, market_addresses, times}
+use Rattle.dex_types.specs.declared.limits.Limits.{Limits}
 use Rattle.dex_state.specs.Accepted.{AreAccepted}
 
 -- one where it is so
@@ -52,7 +53,7 @@ among-all address (market ∷ markets) zero d lt = omega (arith, times-append ad
 among-all address (market ∷ markets) (suc k) d lt =
     omega (arith, times-append address (all_of_market market) (flat_map all_of_market markets), among-all address markets k d (omega arith))
 
-pub accounts-distinct : (accounts : PlainAccounts) → AreAccepted accounts → All (λ (market : PlainMarketAccounts). AreDistinct (traders_of market.orders)) accounts.markets
+pub accounts-distinct : {limits : Limits} (accounts : PlainAccounts) → AreAccepted limits accounts → All (λ (market : PlainMarketAccounts). AreDistinct (traders_of market.orders)) accounts.markets
 accounts-distinct accounts accepted k d lt =
     let market : PlainMarketAccounts = get_or accounts.markets k d in
     distinct-of market.orders

@@ -6,6 +6,7 @@ ghost use Rattle.dex_types.specs.Accounts.{accounts_of, market_accounts_of};
 ghost use Rattle.dex_accounts.specs.Accepted.{IsAccepted};
 ghost use Rattle.dex_audit.specs.Audited.{AreGathered};
 ghost use Rattle.dex_state.specs.Accepted.{AreAccepted};
+ghost use Rattle.dex_types.specs.declared.limits.TheConstants.{WIDE};
 ghost use Rattle.dex_audit.specs.Findings as audits;
 ghost use Rattle.dex_audit_rules.specs.RulesOf.{told_by};
 
@@ -74,7 +75,7 @@ fn tell_market_rules(
 /// What an audit finds of accounts: each place where a rule over several accounts fails, by the rule, then by the
 /// accounts' order, then by place. Only a lack of memory can come in the place of the findings.
 pub fn audit(alloc: Global, accounts: &Accounts) -> Result<Vec<Finding>, NoMemory>
-    requires { AreAccepted (accounts_of accounts.now) }
+    requires { AreAccepted WIDE (accounts_of accounts.now) }
     ensures { IfOk result (λ found. found.items ≡ audits.findings (accounts_of accounts.now)) }
 {
     let markets = &accounts.markets;

@@ -5,26 +5,27 @@ ghost use Rattle.std.specs.List.{All};
 ghost use Rattle.dex_types.specs.Accounts.{PlainAccounts};
 ghost use Rattle.dex_accounts.specs.Decoded.{AreSound};
 ghost use Rattle.dex_state.specs.Accepted.{AreAccepted};
+ghost use Rattle.dex_types.specs.declared.limits.Limits.{Limits};
 ghost use Rattle.dex_state.specs.Held.{HoldBytes};
 ghost use Rattle.dex_state.specs.Conserved.{IsConserved};
 ghost use Rattle.dex_audit.specs.Findings.{findings};
 
 /// Accounts without findings are, market by market, those of a sound market.
 pub fn accounts_without_findings_are_of_sound_markets()
-    ensures { (accounts : PlainAccounts) → AreAccepted accounts → HoldBytes accounts → findings accounts ≡ []
-        → All AreSound accounts.markets }
+    ensures { (limits : Limits) (accounts : PlainAccounts) → AreAccepted limits accounts → HoldBytes accounts
+        → findings accounts ≡ [] → All AreSound accounts.markets }
 {}
 
 /// Of accounts without findings each mint is conserved.
 pub fn mints_without_findings_are_conserved()
-    ensures { (accounts : PlainAccounts) → AreAccepted accounts → HoldBytes accounts → findings accounts ≡ []
-        → All (IsConserved accounts) accounts.mints }
+    ensures { (limits : Limits) (accounts : PlainAccounts) → AreAccepted limits accounts → HoldBytes accounts
+        → findings accounts ≡ [] → All (IsConserved accounts) accounts.mints }
 {}
 
 /// Of accepted accounts an audit finds nothing exactly where they are, market by market, those of a sound market, for
 /// which they stand, and each mint is conserved.
 pub fn an_audit_finds_nothing_exactly_where_markets_are_sound_and_mints_conserved()
-    ensures { (accounts : PlainAccounts) → AreAccepted accounts → HoldBytes accounts
+    ensures { (limits : Limits) (accounts : PlainAccounts) → AreAccepted limits accounts → HoldBytes accounts
         → (findings accounts ≡ [])
         ↔ (All AreSound accounts.markets × All (IsConserved accounts) accounts.mints) }
 {}

@@ -7,6 +7,7 @@ ghost use Rattle.dex_token.specs.MintAccount.{IsMint};
 ghost use Rattle.dex_token.specs.TokenAccount.{IsWallet};
 ghost use Rattle.dex_accounts.specs.Accepted.{IsAccepted};
 ghost use Rattle.dex_state.specs.Accepted.{AreAccepted};
+ghost use Rattle.dex_types.specs.declared.limits.TheConstants.{WIDE};
 ghost use Rattle.dex_state.specs.Conserved as spec;
 ghost use Rattle.dex_audit.specs.Supplies.{supply_off};
 ghost use Rattle.dex_totals.specs.Sums.{capped};
@@ -67,7 +68,7 @@ fn in_vaults(mint: Address, markets: &[MarketAccounts]) -> u128
 
 /// What the accounts hold of a mint.
 fn held_of(mint: Address, accounts: &Accounts) -> u128
-    requires { AreAccepted (accounts_of accounts.now) }
+    requires { AreAccepted WIDE (accounts_of accounts.now) }
     ensures { result ≡ capped (spec.held_of mint (accounts_of accounts.now)) }
 {
     let wallets = in_wallets(mint, &accounts.wallets);
@@ -81,7 +82,7 @@ pub fn tell_supplies(
     accounts: &Accounts,
 ) -> Result<(), NoMemory>
     requires mints { All (λ (mint : PlainAccount). IsMint mint.bytes) (map named_of mints.now) }
-    requires accounts { AreAccepted (accounts_of accounts.now) }
+    requires accounts { AreAccepted WIDE (accounts_of accounts.now) }
     ensures { OnOk result (found.new.items ≡ found.old.items
         ++ flat_map (supply_off (accounts_of accounts.now)) (map named_of mints.now)) }
 {

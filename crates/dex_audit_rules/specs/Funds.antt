@@ -51,8 +51,8 @@ abbrev pub totals_in : Market → List Finding
 totals_in m =
     flat_map (λ (entry : Address × Trader). of_open (λ account. total_off Coin m entry.0 account ++ total_off Pc m entry.0 account) entry.1) m.traders
 
--- ---- 8, 9 and 10: deposits are free, resting and owed summed; a vault holds that and what the market earned; the referrer
--- rebates are the accounts' referrer parts and those of pending taker fills
+-- ---- 8, 9 and 10: deposits are free, resting and owed summed; a vault holds that and what the market earned; the
+-- referrer rebates are the accounts' referrer parts and those of pending taker fills
 
 -- what a market's deposits of a token have to be: what accounts have free, what resting orders lock, and what pending
 -- events owe

@@ -46,7 +46,7 @@ unheld owner slot held side [] = None
 unheld owner slot held side (order ∷ others) =
     if is_order_at owner slot order && not (is_held held (order_holding side order)) then Some order.id else unheld owner slot held side others
 
--- the same, of what the slot of an account holds
+-- the id of the first order of a side for this slot of an account that the slot does not hold
 abbrev pub unheld_in : Address → Account → Side → ℕ → List Order → Option ℕ
 unheld_in owner account side slot orders = unheld owner slot (slice_index_or account.slots slot None) side orders
 
@@ -111,8 +111,8 @@ unpaired bids asks events taken =
 abbrev pub unpaired_in : Market → List Finding
 unpaired_in m = flat_map (unpaired m.bids m.asks m.events) (taken_in m.traders)
 
--- ---- 4: a pending event's owner is an open account whose slot holds the event's id, side and client id, and no earlier pending
--- event is a final out of that order
+-- ---- 4: a pending event's owner is an open account whose slot holds the event's id, side and client id, and no
+-- earlier pending event is a final out of that order
 
 -- the event is held, and none of these earlier ones is a final out of its order
 abbrev pub is_placed : Traders → List QueuedEvent → QueuedEvent → Bool

@@ -19,12 +19,12 @@ use crate::pending::tell_astray;
 use crate::resting::tell_homeless;
 use crate::slots::{tell_repeated, tell_ungiven, tell_unpaired};
 use crate::taken::taken_slots;
-use crate::totals::{coin_deposits, pc_deposits, rebates, tell_differs, tell_totals, with_pending};
+use crate::totals::{deposits_of, rebates, tell_differs, tell_totals, with_pending};
 use dex_fields::get_u64;
 use dex_fields::request_queue::NEXT_SEQ_NUM;
 use dex_market::MarketRef;
 use dex_token::WalletRef;
-use dex_totals::{Weight, all_finals, all_resting};
+use dex_totals::{Token, Weight, all_finals, all_resting};
 use dex_types::{Lots, MarketAccounts, NoMemory, Side};
 use std::alloc::Global;
 
@@ -57,6 +57,15 @@ pub enum Rule {
     TooLarge,
 }
 
+/// The words of the market account.
+fn words_of(market: &MarketAccounts) -> MarketRef<'_>
+    ensures { result.bytes.now ≡ (market_accounts_of market.now).market }
+{
+    MarketRef {
+        bytes: &market.market,
+    }
+}
+
 fn tell_orders(
     found: &mut Vec<Finding>,
     market: &MarketAccounts,
@@ -66,9 +75,7 @@ fn tell_orders(
     ensures { OnOk result (found.new.items ≡ found.old.items
         ++ rules.homeless_in (market_in (market_accounts_of market.now))) }
 {
-    let words = MarketRef {
-        bytes: &market.market,
-    };
+    let words = words_of(market);
     tell_homeless(found, book.accounts, words.bids(), book.bids)?;
     tell_homeless(found, book.accounts, words.asks(), book.asks)
 }
@@ -82,9 +89,7 @@ fn tell_locks(
     ensures { OnOk result (found.new.items ≡ found.old.items
         ++ funds.too_large_in (market_in (market_accounts_of market.now))) }
 {
-    let words = MarketRef {
-        bytes: &market.market,
-    };
+    let words = words_of(market);
     tell_too_large(found, book.bids, Side::Bid, book.sizes, words.bids())?;
     tell_too_large(found, book.asks, Side::Ask, book.sizes, words.asks())
 }
@@ -97,11 +102,9 @@ fn tell_deposits(
     requires { IsBookOf book.now (market_accounts_of market.now) }
     ensures { OnOk result (found.new.items ≡ found.old.items ++ funds.deposits_in (market_accounts_of market.now)) }
 {
-    let words = MarketRef {
-        bytes: &market.market,
-    };
-    let coin = coin_deposits(book);
-    let pc = pc_deposits(book);
+    let words = words_of(market);
+    let coin = deposits_of(book, Token::Coin);
+    let pc = deposits_of(book, Token::Pc);
     tell_differs(
         found,
         8,
@@ -122,12 +125,10 @@ fn tell_vaults(
     ensures { OnOk result (found.new.items ≡ found.old.items
         ++ funds.vaults_in (market_in (market_accounts_of market.now))) }
 {
-    let words = MarketRef {
-        bytes: &market.market,
-    };
-    let coin = coin_deposits(book).saturating_add(u128::from(words.coin_fees_accrued()));
+    let words = words_of(market);
+    let coin = deposits_of(book, Token::Coin).saturating_add(u128::from(words.coin_fees_accrued()));
     let earned = u128::from(words.pc_fees_accrued()) + u128::from(words.referrer_rebates_accrued());
-    let pc = pc_deposits(book).saturating_add(earned);
+    let pc = deposits_of(book, Token::Pc).saturating_add(earned);
     let coin_vault = WalletRef {
         bytes: &market.coin_vault,
     };
@@ -147,9 +148,7 @@ fn tell_rebates(
     ensures { OnOk result (found.new.items ≡ found.old.items
         ++ funds.rebates_in (market_in (market_accounts_of market.now))) }
 {
-    let words = MarketRef {
-        bytes: &market.market,
-    };
+    let words = words_of(market);
     tell_differs(
         found,
         10,
@@ -169,17 +168,15 @@ fn tell_beyond(
     ensures { OnOk result (found.new.items ≡ found.old.items
         ++ funds.beyond_in (market_in (market_accounts_of market.now))) }
 {
-    let words = MarketRef {
-        bytes: &market.market,
-    };
+    let words = words_of(market);
     let coin_vault = WalletRef {
         bytes: &market.coin_vault,
     };
     let pc_vault = WalletRef {
         bytes: &market.pc_vault,
     };
-    let coin = with_pending(book, coin_vault.amount(), Weight::LeavingCoin);
-    let pc = with_pending(book, pc_vault.amount(), Weight::LeavingPc);
+    let coin = with_pending(book, coin_vault.amount(), Weight::Leaving(Token::Coin));
+    let pc = with_pending(book, pc_vault.amount(), Weight::Leaving(Token::Pc));
     tell_exceeds(found, 11, words.coin_vault(), 64, coin)?;
     tell_exceeds(found, 11, words.pc_vault(), 64, pc)
 }
@@ -206,9 +203,7 @@ fn tell_events(
     ensures { OnOk result (found.new.items ≡ found.old.items
         ++ rules.astray_in (market_in (market_accounts_of market.now))) }
 {
-    let words = MarketRef {
-        bytes: &market.market,
-    };
+    let words = words_of(market);
     tell_astray(alloc, found, book.accounts, book.events, words.event_q())
 }
 
@@ -242,9 +237,7 @@ fn book_of<'a>(market: &'a MarketAccounts, gathered: &'a Gathered) -> Book<'a>
     ensures book { IsBook result }
     ensures of { IsOf result (market_in (market_accounts_of market.now)) }
 {
-    let words = MarketRef {
-        bytes: &market.market,
-    };
+    let words = words_of(market);
     Book {
         bids: &gathered.bids,
         asks: &gathered.asks,

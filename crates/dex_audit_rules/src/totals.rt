@@ -1,23 +1,24 @@
 //! The rules of sums: totals, deposits, vaults, rebates and bounds.
 
 ghost use Rattle.std.specs.Prelude.{◌≡◌, ℕ, ◌+◌, ◌++◌, OnOk};
-ghost use Rattle.dex_types.specs.Market.{Market};
+ghost use Rattle.dex_types.specs.Market.{Market, orders};
 ghost use Rattle.dex_types.specs.Owed.{referred};
 ghost use Rattle.dex_types.specs.Side.{Coin, Pc};
 ghost use Rattle.dex_types.specs.Solvency.{all_referrers, own_locked};
+ghost use Rattle.dex_types.specs.Tokens.{locking_side};
 ghost use Rattle.dex_types.specs.Totals.{total};
 ghost use Rattle.dex_orders.specs.OrdersAccount.{IsOpen, account_of};
 ghost use Rattle.dex_audit_rules.specs.Books.{IsBook, IsOf};
 ghost use Rattle.dex_audit_rules.specs.Funds as rules;
-ghost use Rattle.dex_totals.specs.Sums.{capped, weight_of};
+ghost use Rattle.dex_totals.specs.Sums.{capped, token_of, weight_of};
 
 use crate::book::Book;
 use crate::finding::{Finding, tell_unless};
 use dex_orders::OrdersRef;
 use dex_totals::{
-    Amount, Weight, opened, sum_amounts, sum_locked, sum_own, sum_own_locked, sum_pending,
+    Amount, Token, Weight, opened, sum_amounts, sum_locked, sum_own, sum_own_locked, sum_pending,
 };
-use dex_types::{Address, NoMemory, Side};
+use dex_types::{Address, NoMemory, Order, Side};
 
 /// Tells an amount that is not the sum that it must be.
 pub fn tell_differs(
@@ -41,47 +42,38 @@ pub fn tell_differs(
     tell_unless(found, u128::from(amount) == sum, finding)
 }
 
-/// What an open account's total of base must be.
-fn coin_total(book: &Book<'_>, owner: Address, free: u64) -> u128
+/// The orders that lock a token, and their side.
+fn locking<'a>(book: &Book<'a>, token: Token) -> (&'a [Order], Side)
+    ensures orders { (m : Market) → IsOf book.now m → result.0.now ≡ orders (locking_side (token_of token)) m }
+    ensures side { result.1 ≡ locking_side (token_of token) }
+{
+    match token {
+        Token::Coin => (book.asks, Side::Ask),
+        Token::Pc => (book.bids, Side::Bid),
+    }
+}
+
+/// What an open account's total of a token must be.
+fn total_of(book: &Book<'_>, token: Token, owner: Address, free: u64) -> u128
     requires { IsBook book.now }
     ensures { (m : Market) → IsOf book.now m → result
-        ≡ capped (free + own_locked Coin owner m + rules.held_kept Coin owner m) }
+        ≡ capped (free + own_locked (token_of token) owner m + rules.held_kept (token_of token) owner m) }
 {
-    let locked = sum_own_locked(book.asks, owner, Side::Ask, book.sizes);
-    let kept = sum_own(book.events, Weight::KeptCoin, book.accounts, owner);
+    let (orders, side) = locking(book, token);
+    let locked = sum_own_locked(orders, owner, side, book.sizes);
+    let kept = sum_own(book.events, Weight::Kept(token), book.accounts, owner);
     u128::from(free).saturating_add(locked).saturating_add(kept)
 }
 
-/// What an open account's total of quote must be.
-fn pc_total(book: &Book<'_>, owner: Address, free: u64) -> u128
+/// What is free, resting and owed of a token.
+pub fn deposits_of(book: &Book<'_>, token: Token) -> u128
     requires { IsBook book.now }
-    ensures { (m : Market) → IsOf book.now m → result
-        ≡ capped (free + own_locked Pc owner m + rules.held_kept Pc owner m) }
+    ensures { (m : Market) → IsOf book.now m → result ≡ capped (rules.deposited (token_of token) m) }
 {
-    let locked = sum_own_locked(book.bids, owner, Side::Bid, book.sizes);
-    let kept = sum_own(book.events, Weight::KeptPc, book.accounts, owner);
-    u128::from(free).saturating_add(locked).saturating_add(kept)
-}
-
-/// What is free, resting and owed of base.
-pub fn coin_deposits(book: &Book<'_>) -> u128
-    requires { IsBook book.now }
-    ensures { (m : Market) → IsOf book.now m → result ≡ capped (rules.deposited Coin m) }
-{
-    let free = sum_amounts(book.accounts, Amount::FreeCoin);
-    let locked = sum_locked(book.asks, Side::Ask, book.sizes);
-    let owed = sum_pending(book.events, Weight::OwedCoin);
-    free.saturating_add(locked).saturating_add(owed)
-}
-
-/// What is free, resting and owed of quote.
-pub fn pc_deposits(book: &Book<'_>) -> u128
-    requires { IsBook book.now }
-    ensures { (m : Market) → IsOf book.now m → result ≡ capped (rules.deposited Pc m) }
-{
-    let free = sum_amounts(book.accounts, Amount::FreePc);
-    let locked = sum_locked(book.bids, Side::Bid, book.sizes);
-    let owed = sum_pending(book.events, Weight::OwedPc);
+    let (orders, side) = locking(book, token);
+    let free = sum_amounts(book.accounts, Amount::Free(token));
+    let locked = sum_locked(orders, side, book.sizes);
+    let owed = sum_pending(book.events, Weight::Owed(token));
     free.saturating_add(locked).saturating_add(owed)
 }
 
@@ -117,8 +109,8 @@ fn tell_totals_of(
         ++ rules.total_off Pc m owner (account_of view.entry.bytes.now))) }
 {
     let funds = view.funds();
-    let coin = coin_total(book, owner, funds.coin_free);
-    let pc = pc_total(book, owner, funds.pc_free);
+    let coin = total_of(book, Token::Coin, owner, funds.coin_free);
+    let pc = total_of(book, Token::Pc, owner, funds.pc_free);
     tell_differs(found, 7, owner, 85, funds.coin_total, coin)?;
     tell_differs(found, 7, owner, 101, funds.pc_total, pc)
 }

@@ -2,11 +2,12 @@
 pub use Rattle.dex_accounts.specs.Accepted.{IsAccepted}
 pub use Rattle.dex_accounts.specs.Decoded.{AreSound, market_in}
 pub use Rattle.dex_act.specs.Wallets.{Fits, SeesCells, is_among, made_of, roles_of, wallet_state_of}
-pub use Rattle.dex_bank.specs.Cells.{AreCells, CanAct, CanWait, CellsState, IsReply, OthersStay, accounts_in, is_market, market_state_of, opened_of, world_of}
+pub use Rattle.dex_bank.specs.Cells.{AreCells, CanAct, CellsState, IsReply, OthersStay, accounts_in, is_market, market_state_of, opened_of, world_of}
 pub use Rattle.dex_bank.specs.CellsInside.{cells_inside}
 pub use Rattle.dex_bank.specs.Closed.{account_in, market_journal_in, wallet_journal_in}
 pub use Rattle.dex_bank.specs.Opened.{market_opened, rows_naming, rows_on, wallet_opened}
-pub use Rattle.dex_bank.specs.Stepping.{HaveActed, IsFirstAt}
+pub use Rattle.dex_act.specs.Acted.{HaveActed}
+pub use Rattle.dex_bank.specs.Stepping.{IsFirstAt}
 pub use Rattle.dex_cell.specs.CellState.{CanHold, IsMarketCell, MarketCellState, call_on, entries_of, step_on}
 pub use Rattle.dex_state.specs.Addresses.{address_of, all_of_market}
 pub use Rattle.dex_state.specs.Accepted.{AreAccepted}

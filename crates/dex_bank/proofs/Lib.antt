@@ -7,3 +7,4 @@ pub mod StepMarkets
 pub mod StepCells
 pub mod StepWorld
 pub mod StepTwo
+pub mod StepBoth

@@ -1,6 +1,7 @@
 -- The cells with which a script starts are cells.
 use Rattle.std.proofs.Common.{◌≡◌, ℕ, suc, Bool, false, ◌||◌, List, [], ◌∷◌, get_or, map, refl, sym, ap, subst, ◌∙◌, arith}
 use Rattle.dex_world.proofs.Common.{Address, All-head, All-map, All-tail, PlainAccount, PlainAccounts, PlainMarketAccounts, PlainRow, is_same}
+use Rattle.dex_types.specs.declared.limits.Limits.{Limits}
 use Rattle.dex_bank.proofs.Common.{AreAccepted, AreCells, AreSound, CellsState, IsAccepted, IsMarketCell, IsStart, IsWalletCell, address_of, is_among, market_opened, wallet_opened}
 use Rattle.std.specs.List.{All}
 use Rattle.dex_cell.specs.CellState as market
@@ -44,12 +45,12 @@ cells-apart rows (first ∷ others) distinct = (
         ap (λ (b : Bool). b || is_among first.address (map (wallet_opened rows) some)) (All-head Away account.address (map address_of some) away)
         ∙ none-among some (All-tail Away account.address (map address_of some) away)
 
-pub wallets-apart : (rows : List PlainRow) (accounts : PlainAccounts) → AreAccepted accounts → AreApart (map (wallet_opened rows) accounts.wallets)
+pub wallets-apart : {limits : Limits} (rows : List PlainRow) (accounts : PlainAccounts) → AreAccepted limits accounts → AreApart (map (wallet_opened rows) accounts.wallets)
 wallets-apart rows accounts accepted = cells-apart rows accounts.wallets (wallets-distinct accounts accepted)
 
 -- ---- all of them
 
-pub AreCells-opened : (start : PlainAccounts) (rows : List PlainRow) (cells : CellsState) → IsStart start → cells.markets ≡ map (market_opened rows) start.markets
+pub AreCells-opened : {limits : Limits} (start : PlainAccounts) (rows : List PlainRow) (cells : CellsState) → IsStart limits start → cells.markets ≡ map (market_opened rows) start.markets
     → cells.wallets ≡ map (wallet_opened rows) start.wallets → All IsWalletCell cells.wallets → AreCells cells
 AreCells-opened start rows cells is markets wallets kept = record {
   markets = subst (All IsMarketCell) (sym markets) (market_cells rows start.markets is.sound is.accepted.markets);

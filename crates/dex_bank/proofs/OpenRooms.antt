@@ -9,11 +9,12 @@ use Rattle.std.proofs.lemmas.List.{get_or-map}
 use Rattle.std.proofs.lemmas.List.Quantifiers.{position-Some}
 use Rattle.std.proofs.lemmas.List.Sums.{count_by-le-length}
 use Rattle.dex_types.specs.declared.rows.RowPlaces.{RowPlaces}
+use Rattle.dex_types.specs.declared.limits.Limits.{Limits}
 use Rattle.dex_script_types.specs.Facts.{IsStart}
 use Rattle.dex_script_types.specs.Places.{IsBeside, IsMarked, IsPlaced, IsRolePlaced}
 use Rattle.dex_script_types.proofs.Apart.{AreDistinct, markets-distinct, wallets-distinct}
 use Rattle.dex_script_types.proofs.PlacedLaws.{position-map}
-use Rattle.dex_bank.proofs.Stands.{some-of}
+use Rattle.dex_act.proofs.BehindLaws.{some-of}
 use Rattle.dex_bank.specs.Counts.{AreCounted, HaveSpare, is_told, one, wallets_told}
 
 -- ---- the place of an address
@@ -58,7 +59,7 @@ on row address = is_same row.market address
 abbrev pub Tells : List Address → (PlainRow → Address → Bool) → PlainRow → List ℕ → Type 0
 Tells addresses names row told = (place : ℕ) (d : Address) → place < length addresses → is_told place told ≡ names row (get_or addresses place d)
 
-module _ (start : PlainAccounts) (is : IsStart start) (row : PlainRow) (places : RowPlaces) (placed : IsPlaced start row places) where
+module _ {limits : Limits} (start : PlainAccounts) (is : IsStart limits start) (row : PlainRow) (places : RowPlaces) (placed : IsPlaced start row places) where
   pub market-tells : Tells (markets_at start.markets) on row (places.market ∷ [])
   market-tells place d within =
       or-false (eqb place places.market)
@@ -83,7 +84,7 @@ module _ (start : PlainAccounts) (is : IsStart start) (row : PlainRow) (places :
           → eqb place there ≡ is_role role (get_or (wallets_at start.wallets) place d)
       told None there is_placed marked =
           differ place there
-          (λ same. omega (arith, same, marked, within, length-map start.wallets (λ (account : PlainAccount). account.address), is.accepted.few_wallets))
+          (λ same. omega (arith, same, marked, within, length-map start.wallets (λ (account : PlainAccount). account.address), is.accepted.few_wallets, is.accepted.within.wallets))
       told (Some wallet) there is_placed marked =
           at-place (wallets_at start.wallets) (wallets-distinct start is.accepted) wallet there place d
           (position-map (λ (account : PlainAccount). account.address) wallet start.wallets ∙ is_placed) within

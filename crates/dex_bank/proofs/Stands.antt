@@ -1,21 +1,20 @@
 -- Where the market and the wallets of rows stand among cells.
-use Rattle.std.proofs.Common.{◌≡◌, ℕ, zero, suc, ◌<◌, Bool, true, false, ◌||◌, List, [], ◌∷◌, Option, None, Some, get_or, length, map, sym, ap, ◌∙◌, arith, ⊎_elim}
-use Rattle.std.proofs.Math.Bool.{or-true}
+use Rattle.std.proofs.Common.{◌≡◌, ℕ, ◌<◌, List, [], ◌∷◌, Option, None, Some, get_or, length, map, sym, ap, ◌∙◌, arith}
 use Rattle.std.proofs.lemmas.Option.{none-some}
-use Rattle.dex_world.proofs.Common.{Address, PlainAccount, PlainAccounts, PlainMarketAccounts, PlainRow, cases_Bool, cond-false, cond-true, false≢true, is_same, is_same-true, length-map, wallet_at}
-use Rattle.dex_bank.proofs.Common.{AreCells, CellState, CellsState, IsFirstAt, MarketCellState, is_among, made_of, market_opened, opened_of, wallet_opened, wallet_state_of}
+use Rattle.dex_world.proofs.Common.{Address, PlainAccount, PlainAccounts, PlainMarketAccounts, PlainRow, is_same, length-map}
+use Rattle.dex_bank.proofs.Common.{AreCells, CellState, CellsState, IsFirstAt, MarketCellState, market_opened, opened_of, wallet_opened}
 use Rattle.std.specs.List.{All}
 use Rattle.std.proofs.lemmas.List.{get_or-map}
 use Rattle.std.proofs.lemmas.List.Quantifiers.{position-Some}
 use Rattle.dex_types.specs.declared.rows.RowPlaces.{RowPlaces}
 use Rattle.dex_types.specs.declared.terms.Program.{Program}
-use Rattle.dex_wallet.specs.CellState.{seen_of}
 use Rattle.dex_script_types.specs.Places.{ArePlaced, IsPlaced, IsRolePlaced, market_place}
 use Rattle.dex_act.specs.declared.places.WalletPlaces.{WalletPlaces}
-use Rattle.dex_act.specs.Wallets.{AreApart, IsAt, IsRoleAt, wallet_places}
+use Rattle.dex_act.specs.Wallets.{IsRoleAt, wallet_places}
 use Rattle.dex_world.proofs.MappedLists.{map-agree, map-map}
 use Rattle.dex_bank.specs.Opened.{opened_with}
 use Rattle.dex_bank.specs.Places.{ArePlacedIn, ArePlacesIn, StandsAt}
+use Rattle.dex_act.proofs.BehindLaws.{places-still, same-at, some-of}
 use Rattle.dex_bank.proofs.StepWorld.{opened_market}
 
 -- ---- a script's rows among the cells with which it starts
@@ -75,23 +74,6 @@ HasItsAddress cell = cell.accounts.address ≡ cell.start.address
 pub its-address : (cells : CellsState) → AreCells cells → All HasItsAddress cells.markets
 its-address cells kept = λ k d within. (kept.markets k d within).one_market.address
 
--- one of the items where there is one
-pub some-of : {A : Type 0} (all : List A) (place : ℕ) → place < length all → A
-some-of [] place none = absurd (omega (arith, none))
-some-of (first ∷ others) place some = first
-
--- lists of the same addresses have the same one at each place
-same-at : {A : Type 0} (of : A → Address) (xs ys : List A) → map of ys ≡ map of xs → (place : ℕ) (default : A) → place < length xs
-    → (place < length ys) × (of (get_or ys place default) ≡ of (get_or xs place default))
-same-at of xs ys same place default within =
-    let long : length ys ≡ length xs = sym (length-map ys of) ∙ ap (λ (addresses : List Address). length addresses) same ∙ length-map xs of in
-    let within_ys : place < length ys = omega (arith, within, long) in (
-      within_ys,
-      sym (get_or-map of ys place default (of default) within_ys)
-          ∙ ap (λ (addresses : List Address). get_or addresses place (of default)) same
-          ∙ get_or-map of xs place default (of default) within,
-    )
-
 module _ (before after : CellsState) (was : All HasItsAddress before.markets) (is : All HasItsAddress after.markets)
     (kept : opened_of after ≡ opened_of before) where
   abbrev market_address : MarketCellState → Address
@@ -105,22 +87,6 @@ module _ (before after : CellsState) (was : All HasItsAddress before.markets) (i
       opened-addresses after.markets is
       ∙ ap (λ (cells : CellsState). map market_address cells.markets) kept
       ∙ sym (opened-addresses before.markets was)
-
-  abbrev wallet_address : CellState → Address
-  wallet_address cell = cell.address
-
-  same-wallets : map wallet_address after.wallets ≡ map wallet_address before.wallets
-  same-wallets =
-      sym (map-map made_of wallet_address after.wallets)
-      ∙ ap (λ (cells : CellsState). map wallet_address cells.wallets) kept
-      ∙ map-map made_of wallet_address before.wallets
-
-  role-still : (role : Option Address) (place : ℕ) → IsRoleAt before.wallets role place → IsRoleAt after.wallets role place
-  role-still None place at = tt
-  role-still (Some address) place at = record {
-    within = (same-at wallet_address before.wallets after.wallets same-wallets place (some-of before.wallets place at.within) at.within).0;
-    here = λ default. ap (is_same address) (same-at wallet_address before.wallets after.wallets same-wallets place default at.within).1 ∙ at.here default;
-  }
 
   first-still : (address : Address) (place : ℕ) → IsFirstAt address before.markets place → IsFirstAt address after.markets place
   first-still address place first = record {
@@ -137,12 +103,7 @@ module _ (before after : CellsState) (was : All HasItsAddress before.markets) (i
   pub stands-still : (row : PlainRow) (place : ℕ) (wallets : WalletPlaces) → StandsAt before row place wallets → StandsAt after row place wallets
   stands-still row place wallets at = record {
     market = first-still row.market place at.market;
-    wallets = record {
-      coin = role-still row.coin wallets.coin at.wallets.coin;
-      pc = role-still row.pc wallets.pc at.wallets.pc;
-      discount = role-still row.discount wallets.discount at.wallets.discount;
-      referrer = role-still row.referrer wallets.referrer at.wallets.referrer;
-    };
+    wallets = places-still before.wallets after.wallets (ap (λ (cells : CellsState). cells.wallets) kept) row wallets at.wallets;
   }
 
   -- and each of these rows
@@ -152,27 +113,3 @@ module _ (before after : CellsState) (was : All HasItsAddress before.markets) (i
   stand-still (row ∷ rows) [] are = absurd are
   stand-still (row ∷ rows) (first ∷ others) are =
       (stands-still row first.market (wallet_places first) are.0, stand-still rows others are.1)
-
--- ---- what stands there is what is seen
-
-among-at : (address : Address) (cells : List CellState) (place : ℕ) → IsAt address cells place → is_among address cells ≡ true
-among-at address [] place at = absurd (omega (arith, at.within))
-among-at address (first ∷ others) zero at = ap (λ (b : Bool). b || is_among address others) (at.here first)
-among-at address (first ∷ others) (suc place) at =
-    let later : IsAt address others place = record { within = omega (arith, at.within); here = at.here } in
-    ap (λ (b : Bool). is_same address first.address || b) (among-at address others place later) ∙ or-true (is_same address first.address)
-
--- the wallet of an address is that of the cell that stands there
-pub found-there : (address : Address) (cells : List CellState) (place : ℕ) (default : CellState) → AreApart cells → IsAt address cells place
-    → wallet_at address (map wallet_state_of cells) ≡ Some (seen_of (get_or cells place default))
-found-there address [] place default apart at = absurd (omega (arith, at.within))
-found-there address (first ∷ others) zero default apart at = cond-true _ _ _ (at.here default)
-found-there address (first ∷ others) (suc place) default apart at =
-    let later : IsAt address others place = record { within = omega (arith, at.within); here = at.here } in
-    let other : is_same address first.address ≡ false =
-    ⊎_elim
-    (λ (same : is_same address first.address ≡ true).
-    absurd (false≢true (sym apart.0 ∙ ap (λ (a : Address). is_among a others) (sym (is_same-true address first.address same)) ∙ among-at address others place later)))
-    (λ away. away)
-    (cases_Bool (is_same address first.address)) in
-    cond-false _ _ _ other ∙ found-there address others place default apart.1 later

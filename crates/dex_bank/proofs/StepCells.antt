@@ -1,55 +1,39 @@
 -- All cells before and after a row.
-use Rattle.std.proofs.Common.{◌≡◌, ℕ, Bool, true, List, map, get_or, set, Option, Some, refl, sym, ap, ◌∙◌, subst}
-use Rattle.dex_world.proofs.Common.{Market, MarketState, PlainMarketAccounts, PlainRow, Reply, Row, Seen, Sees, WalletState, World, act, acted, asked_of, is_same, is_same-true, markets_acted, request_of, row_of, row_step, seen_by, wallet_acted, why, why_in, why_on}
-use Rattle.dex_bank.proofs.Common.{AreCells, CanAct, CanHold, CanWait, CellState, CellsState, Fits, IsFirstAt, IsMarketCell, IsReply, MarketCellState, SeesCells, made_of, opened_of, roles_of, wallet_state_of, world_of}
-use Rattle.std.specs.List.{All}
+use Rattle.std.proofs.Common.{◌≡◌, ℕ, Bool, true, List, map, get_or, set, Option, Some, sym, ap, ◌∙◌}
+use Rattle.dex_world.proofs.Common.{Market, MarketState, PlainMarketAccounts, PlainRow, Reply, Seen, WalletState, World, act, acted, is_same, is_same-true, markets_acted, request_of, row_step, seen_by, wallet_acted, why, why_in, why_on}
+use Rattle.dex_bank.proofs.Common.{AreCells, CanAct, CellState, CellsState, IsFirstAt, IsMarketCell, IsReply, MarketCellState, made_of, opened_of, wallet_state_of, world_of}
 use Rattle.std.proofs.lemmas.List.Elements.{All-get_or, All-set}
 use Rattle.std.proofs.Math.Seq.{map-set_same}
 use Rattle.dex_cell.specs.CellState as market
 use Rattle.dex_world.specs.World.{market_at}
-use Rattle.dex_act.proofs.Sights.{row-sees, sees-cells}
+use Rattle.dex_world.specs.Items.{doing}
+use Rattle.dex_act.specs.declared.places.WalletPlaces.{WalletPlaces}
+use Rattle.dex_act.specs.Steps.{CanStep, HasDone}
+use Rattle.dex_bank.specs.Places.{StandsAt}
 use Rattle.dex_bank.specs.Stepped.{HasActedOrWaited}
-use Rattle.dex_bank.specs.Stepping.{CanActOn, HasDone, doing}
 use Rattle.dex_bank.proofs.StepMarkets.{become-first, market-found, others-stay}
 use Rattle.dex_bank.proofs.StepWorld.{opened_market}
 
-module _ (row : Row) (seen : Seen) (place : ℕ) (cells : CellsState) (seen_is : seen ≡ seen_by (row_of row) (world_of cells))
-    (first : IsFirstAt row.market cells.markets place) where
-  abbrev world : World
-  world = world_of cells
+-- ---- before
 
-  -- ---- before
+-- a row can act where its market and its wallets stand
+module _ (row : PlainRow) (place : ℕ) (places : WalletPlaces) (cells : CellsState) (at : StandsAt cells row place places) (are : AreCells cells)
+    (can : CanAct row cells) (default : MarketCellState) where
+  pub can-step : CanStep row places (get_or cells.markets place default) cells.wallets
+  can-step = record {
+    on = is_same-true row.market (get_or cells.markets place default).accounts.address (at.market.here default);
+    market = All-get_or IsMarketCell cells.markets place default at.market.within are.markets;
+    spare =
+        All-get_or (λ (cell : MarketCellState). is_same row.market cell.accounts.address ≡ true → market.HasSpare cell) cells.markets place default at.market.within
+        can.market_spare (at.market.here default);
+    wallets = record { apart = are.apart; kept = are.wallets; spare = can.wallet_spare; at = at.wallets };
+  }
 
-  row-seen : CanAct (row_of row) cells → Sees (asked_of (row_of row)) seen
-  row-seen can = subst (Sees (asked_of (row_of row))) (sym seen_is) (row-sees (row_of row) world cells.wallets refl can.wallets)
-
-  module _ (default : MarketCellState) where
-    abbrev cell : MarketCellState
-    cell = get_or cells.markets place default
-
-    -- a row can act where its market stands
-    pub can-act-on : AreCells cells → CanAct (row_of row) cells → All Fits (roles_of seen) → CanActOn row seen cell cells.wallets
-    can-act-on are can fits = record {
-      for = record { market = is_same-true row.market cell.accounts.address (first.here default); sees = row-seen can };
-      market = All-get_or IsMarketCell cells.markets place default first.within are.markets;
-      spare =
-          All-get_or (λ (cell : MarketCellState). is_same row.market cell.accounts.address ≡ true → market.HasSpare cell) cells.markets place default first.within can.market_spare
-          (first.here default);
-      sees =
-          subst (λ (s : Seen). SeesCells s cells.wallets) (sym seen_is)
-          (sees-cells (row_of row) world cells.wallets refl are.apart are.wallets can.wallets can.wallet_spare
-          (subst (λ (s : Seen). All Fits (roles_of s)) seen_is fits));
-    }
-
-    -- it is refused there or nowhere
-    pub refused-here : why (request_of (row_of row)) seen (market.market_at cell) ≡ why_in world (row_of row)
-    refused-here =
-        ap (λ (s : Seen). why (request_of (row_of row)) s (market.market_at cell)) seen_is
-        ∙ ap (why_on (row_of row) (seen_by (row_of row) world)) (sym (market-found row.market cells.markets place default first))
-
-    -- and is held back there
-    pub can-hold : CanWait (row_of row) cells → CanHold row seen cell
-    can-hold can = record { take = can.take; spared = refused-here ∙ can.spared }
+-- it is refused there or nowhere
+pub refused-here : (row : PlainRow) (place : ℕ) (cells : CellsState) → IsFirstAt row.market cells.markets place → (default : MarketCellState)
+    → why (request_of row) (seen_by row (world_of cells)) (market.market_at (get_or cells.markets place default)) ≡ why_in (world_of cells) row
+refused-here row place cells first default =
+    ap (why_on row (seen_by row (world_of cells))) (sym (market-found row.market cells.markets place default first))
 
 -- ---- after
 

@@ -1,12 +1,11 @@
 -- Cells of markets, the first of whose at an address acts.
-use Rattle.std.proofs.Common.{◌≡◌, ℕ, zero, suc, true, false, List, [], ◌∷◌, ◌++◌, map, set, get_or, Some, refl, sym, ap, ◌∙◌, arith}
-use Rattle.dex_world.proofs.Common.{Address, Call, Entry, Market, MarketState, PlainMarketAccounts, PlainRow, Row, Seen, Step, cond-false, cond-true, entry_by, false≢true, idle-step, idle_row, is_same, market_acted, markets_acted, row_of}
-use Rattle.dex_bank.proofs.Common.{IsFirstAt, MarketCellState, OthersStay, call_on, entries_of, market_state_of, step_on}
+use Rattle.std.proofs.Common.{◌≡◌, ℕ, zero, suc, ◌<◌, true, false, List, [], ◌∷◌, ◌++◌, map, set, get_or, length, take, drop, Some, refl, sym, ap, ◌∙◌, arith}
+use Rattle.dex_world.proofs.Common.{Address, MarketState, PlainMarketAccounts, PlainRow, Seen, cond-false, cond-true, false≢true, is_same, is_same-true, market_acted, markets_acted}
+use Rattle.dex_bank.proofs.Common.{IsFirstAt, MarketCellState, OthersStay, market_state_of}
 use Rattle.dex_accounts.specs.Decoded.{market_in}
-use Rattle.std.proofs.lemmas.List.{map-append}
 use Rattle.dex_cell.specs.CellState as cells
-use Rattle.dex_cell.specs.CellState.{HasActed, held_made, held_on}
 use Rattle.dex_world.specs.World.{market_at}
+use Rattle.dex_act.proofs.BehindLaws.{some-of}
 
 -- the address of the market that accounts tell is theirs
 listing-address : (accounts : PlainMarketAccounts) → (market_in accounts).listing.address ≡ accounts.address
@@ -39,26 +38,6 @@ market-found address (cell ∷ others) (suc place) default first =
 
 -- ---- the step of a row
 
--- a cell that acted, and its journal
-pub acted-state : (row : Row) (seen : Seen) (cell after : MarketCellState) → HasActed row seen cell after
-    → market_state_of after ≡ market_acted (row_of row) seen (market_state_of cell)
-acted-state row seen cell after acted =
-    let entry : Call → Entry = λ call. call.entry in
-    let state : Market → List Entry → MarketState = λ m entries. record { market = m; entries = entries } in
-    ap (λ (m : Market). state m (entries_of after)) acted.market
-    ∙ ap (state (step_on row seen cell).market) (ap (map entry) acted.calls ∙ map-append entry cell.calls (call_on row seen cell ∷ []))
-
--- and where it is held back, as a row with nothing to do
-pub held-state : (row : Row) (seen : Seen) (cell : MarketCellState) → market_state_of (held_on row seen cell) ≡ market_acted (idle_row (row_of row)) seen (market_state_of cell)
-held-state row seen cell =
-    let entry : Call → Entry = λ call. call.entry in
-    let m : Market = cells.market_at cell in
-    let state : Step → MarketState = λ s.
-    record { market = s.market; entries = entries_of cell ++ entry_by (row_of row) seen s.reply s.transfers ∷ [] } in
-    let of : List Entry → MarketState = λ entries. record { market = m; entries = entries } in
-    ap of (map-append entry cell.calls (held_made (row_of row) seen ∷ []))
-    ∙ ap state (sym (idle-step (row_of row) seen m))
-
 -- the markets after it
 pub become-first : (doing : PlainRow) (seen : Seen) (markets : List MarketCellState) (place : ℕ) (after default : MarketCellState) → IsFirstAt doing.market markets place
     → market_state_of after ≡ market_acted doing seen (market_state_of (get_or markets place default))
@@ -84,3 +63,57 @@ others-stay address (old ∷ others) zero cell first =
     all-stay address (one ∷ cells) = ((λ other. refl), all-stay address cells)
 others-stay address (old ∷ others) (suc place) cell first =
     ((λ other. refl), others-stay address others place cell (first-later address old others place first).1)
+
+-- ---- two places of a list in two parts
+
+behind-front : {A : Type 0} (xs : List A) (k : ℕ) (x : A) → k < length xs → take k xs ++ set (drop k xs) 0 x ≡ set xs k x
+behind-front [] k x within = absurd (omega (arith, within))
+behind-front (y ∷ xs) zero x within = refl
+behind-front (y ∷ xs) (suc k) x within = ap (λ (l : List _). y ∷ l) (behind-front xs k x (omega (arith, within)))
+
+-- one in the front, and the first behind it
+pub set-parts : {A : Type 0} (xs : List A) (one two : ℕ) (x y : A) → one < two → two < length xs
+    → set (take two xs) one x ++ set (drop two xs) 0 y ≡ set (set xs one x) two y
+set-parts [] one two x y lower within = absurd (omega (arith, within))
+set-parts (z ∷ xs) one zero x y lower within = absurd (omega (arith, lower))
+set-parts (z ∷ xs) zero (suc two) x y lower within = ap (λ (l : List _). x ∷ l) (behind-front xs two y (omega (arith, within)))
+set-parts (z ∷ xs) (suc one) (suc two) x y lower within =
+    ap (λ (l : List _). z ∷ l) (set-parts xs one two x y (omega (arith, lower)) (omega (arith, within)))
+
+-- one behind, and the other in front of it
+pub set-parts-back : {A : Type 0} (xs : List A) (one two : ℕ) (x y : A) → two < one → one < length xs
+    → set (take one xs) two y ++ set (drop one xs) 0 x ≡ set (set xs one x) two y
+set-parts-back [] one two x y lower within = absurd (omega (arith, within))
+set-parts-back (z ∷ xs) zero two x y lower within = absurd (omega (arith, lower))
+set-parts-back (z ∷ xs) (suc one) zero x y lower within = ap (λ (l : List _). y ∷ l) (behind-front xs one x (omega (arith, within)))
+set-parts-back (z ∷ xs) (suc one) (suc two) x y lower within =
+    ap (λ (l : List _). z ∷ l) (set-parts-back xs one two x y (omega (arith, lower)) (omega (arith, within)))
+
+-- another place stays
+pub other-at : {A : Type 0} (xs : List A) (one two : ℕ) (x default : A) → (one ≡ two → ⊥) → get_or (set xs one x) two default ≡ get_or xs two default
+other-at [] one two x default apart = refl
+other-at (z ∷ xs) zero zero x default apart = absurd (apart refl)
+other-at (z ∷ xs) zero (suc two) x default apart = refl
+other-at (z ∷ xs) (suc one) zero x default apart = refl
+other-at (z ∷ xs) (suc one) (suc two) x default apart = other-at xs one two x default (λ same. apart (ap suc same))
+
+-- what stands in the front, and first behind it
+pub front-at : {A : Type 0} (xs : List A) (mid k : ℕ) (d e : A) → k < mid → k < length xs → get_or (take mid xs) k d ≡ get_or xs k e
+front-at [] mid k d e lower within = absurd (omega (arith, within))
+front-at (x ∷ xs) zero k d e lower within = absurd (omega (arith, lower))
+front-at (x ∷ xs) (suc mid) zero d e lower within = refl
+front-at (x ∷ xs) (suc mid) (suc k) d e lower within = front-at xs mid k d e (omega (arith, lower)) (omega (arith, within))
+
+pub back-at : {A : Type 0} (xs : List A) (mid : ℕ) (d e : A) → mid < length xs → get_or (drop mid xs) 0 d ≡ get_or xs mid e
+back-at [] mid d e within = absurd (omega (arith, within))
+back-at (x ∷ xs) zero d e within = refl
+back-at (x ∷ xs) (suc mid) d e within = back-at xs mid d e (omega (arith, within))
+
+-- two markets stand at two places
+pub apart-places : (one other : Address) (markets : List MarketCellState) (p q : ℕ) → IsFirstAt one markets p → IsFirstAt other markets q
+    → is_same one other ≡ false → p ≡ q → ⊥
+apart-places one other markets p q first second apart same =
+    let d : MarketCellState = some-of markets p first.within in
+    let here : other ≡ (get_or markets p d).accounts.address =
+    is_same-true other (get_or markets q d).accounts.address (second.here d) ∙ ap (λ (k : ℕ). (get_or markets k d).accounts.address) (sym same) in
+    false≢true (sym apart ∙ ap (is_same one) here ∙ first.here d)

@@ -1,5 +1,5 @@
 -- The cells of an exchange, and the world that they are.
-use Rattle.std.specs.Prelude.{◌≡◌, Bool, true, false, List, [], ◌∷◌, map, All, Option, Some, None, is_some}
+use Rattle.std.specs.Prelude.{◌≡◌, Bool, true, false, List, [], ◌∷◌, map, All, Option, Some, is_some}
 use Rattle.std.specs.List.{AllZip, list_any}
 use Rattle.dex_types.specs.declared.addresses.Address.{Address}
 use Rattle.dex_types.specs.declared.replies.Reply.{Reply}
@@ -62,11 +62,6 @@ pub record CanAct (row : PlainRow) (cells : CellsState) : Type 0 where
       All (λ (cell : MarketCellState). is_same row.market cell.accounts.address ≡ true → market_cell.HasSpare cell)
       cells.markets
   pub wallet_spare : All (λ (cell : CellState). names row cell.address ≡ true → wallet_cell.HasSpare cell) cells.wallets
-
--- a take that would not be refused in the world that the cells are
-pub record CanWait (row : PlainRow) (cells : CellsState) : Type 0 where
-  pub take : is_take (decoded row.bytes) ≡ true
-  pub spared : why_in (world_of cells) row ≡ None
 
 -- what is no take is refused in the world that the cells are
 abbrev pub IsTakeOrRefused : PlainRow → CellsState → Type 0

@@ -13,7 +13,7 @@ pub record StandsAt (cells : CellsState) (row : PlainRow) (place : ℕ) (places 
   pub market : IsFirstAt row.market cells.markets place
   pub wallets : ArePlacesAmong cells.wallets row places
 
--- the same of the places of a row
+-- the market of the row and the wallets that it names stand at the places beside it
 abbrev pub ArePlacesIn : CellsState → PlainRow → RowPlaces → Type 0
 ArePlacesIn cells row places = StandsAt cells row places.market (wallet_places places)
 

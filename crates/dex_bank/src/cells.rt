@@ -7,12 +7,12 @@ use crate::copying::accounts_copy;
 use crate::opening::opened;
 use crate::room::Room;
 use crate::standing::Standing;
-use crate::stepping::{act_or_wait, stepped_both};
-use dex_act::AsRow;
+use crate::stepping::{stepped, stepped_both};
+use dex_act::{AsRow, Terms};
 use dex_cell::MarketCell;
 use dex_script_types::{RowList, Script};
 use dex_state::Outcome;
-use dex_types::{Address, Named, NoMemory, Program, Reply, RowPlaces};
+use dex_types::{Named, NoMemory, Reply, RowPlaces};
 use dex_wallet::WalletCell;
 use std::alloc::Global;
 use std::marker::Model;
@@ -21,11 +21,9 @@ use std::marker::Model;
 #[derive(Drop)]
 pub struct Cells {
     pub(crate) mints: Vec<Named>,
-    pub(crate) srm: Option<Address>,
-    pub(crate) msrm: Option<Address>,
+    pub(crate) terms: Terms,
     pub(crate) markets: Vec<MarketCell>,
     pub(crate) wallets: Vec<WalletCell>,
-    pub(crate) program: Program,
 }
 
 impl Model for Cells {
@@ -46,7 +44,7 @@ impl Cells {
     ghost use Rattle.dex_script_types.specs.Facts.{IsScript};
     ghost use Rattle.dex_script_types.specs.Places.{AreBeside, ArePlaced};
     ghost use Rattle.dex_bank.specs.Cells.{AreCells, CanAct, CanActBoth};
-    ghost use Rattle.dex_bank.specs.CellsInside.{cells_by};
+    ghost use Rattle.dex_bank.specs.CellsInside.{cells_by, terms_of};
     ghost use Rattle.dex_bank.specs.Closed as left;
     ghost use Rattle.dex_bank.specs.Opened as first;
     ghost use Rattle.dex_bank.specs.Places.{ArePlacedIn, ArePlacesIn};
@@ -80,31 +78,35 @@ impl Cells {
             places,
             lanes: _,
             program,
+            limits: _,
         } = script;
         let cells = opened(alloc, start, &rows, &places, program)?;
         Ok((cells, rows, places))
     }
 
-    /// The cells of these markets and wallets, beside mints and program.
+    /// The cells of these markets and wallets, beside mints and what rows see of no wallet.
     pub fn of(
         mints: Vec<Named>,
-        srm: Option<Address>,
-        msrm: Option<Address>,
+        terms: Terms,
         markets: Vec<MarketCell>,
         wallets: Vec<WalletCell>,
-        program: Program,
     ) -> Cells
-        requires cells { AreCells (cells_by mints.items srm msrm markets.items wallets.items program) }
-        ensures { result ≡ cells_by mints.items srm msrm markets.items wallets.items program }
+        requires cells { AreCells (cells_by mints.items terms markets.items wallets.items) }
+        ensures { result ≡ cells_by mints.items terms markets.items wallets.items }
     {
         Cells {
             mints,
-            srm,
-            msrm,
+            terms,
             markets,
             wallets,
-            program,
         }
+    }
+
+    /// What rows see beside their wallets.
+    pub fn terms(&self) -> Terms
+        ensures { result ≡ terms_of self.now }
+    {
+        self.terms
     }
 
     /// Takes all cells apart: the mints, the markets and the wallets.
@@ -131,7 +133,7 @@ impl Cells {
         ensures { HasStepped (row_of (W.is row.entry.now)) result self.old self.new }
     {
         let standing = Standing::of(self, row);
-        act_or_wait(self, row.row(), &standing, false)
+        stepped(self, row.row(), &standing)
     }
 
     /// Two legs of one swap act, both or neither, and these are their markets' replies. Where they come without the

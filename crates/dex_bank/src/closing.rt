@@ -86,11 +86,9 @@ pub(crate) fn left_by(cells: Cells, room: Room) -> Outcome
 {
     let Cells {
         mints,
-        srm,
-        msrm,
+        terms,
         markets,
         wallets,
-        program: _,
     } = cells;
     let Room {
         of_markets,
@@ -101,8 +99,8 @@ pub(crate) fn left_by(cells: Cells, room: Room) -> Outcome
     Outcome {
         accounts: Accounts {
             mints,
-            srm,
-            msrm,
+            srm: terms.srm,
+            msrm: terms.msrm,
             wallets: wallets.accounts,
             markets: markets.accounts,
         },

@@ -3,6 +3,7 @@
 ghost use Rattle.std.specs.Prelude.{◌≡◌, ◌==◌, ◌&&◌, not, ℕ, IfOk, map};
 ghost use Rattle.dex_types.specs.Accounts.{accounts_of};
 ghost use Rattle.dex_types.specs.Rows.{row_of};
+ghost use Rattle.dex_types.specs.declared.limits.Limits.{Limits};
 ghost use Rattle.dex_script_types.specs.Facts.{IsStart};
 ghost use Rattle.dex_script_types.specs.Places.{AreBeside, ArePlaced};
 ghost use Rattle.dex_bank.specs.Counts as spec;
@@ -56,7 +57,7 @@ pub(crate) fn row_counts(
     rows: &RowList,
     places: &[RowPlaces],
 ) -> Result<RowCounts, NoMemory>
-    requires start { IsStart (accounts_of start.now) }
+    requires start { (limits : Limits) × IsStart limits (accounts_of start.now) }
     requires places { ArePlaced (accounts_of start.now) (map row_of rows.now) places.now }
     requires beside { AreBeside (map row_of rows.now) places.now }
     ensures markets { IfOk result (λ counts. counts.markets.items

@@ -10,6 +10,7 @@ ghost use Rattle.dex_accounts.specs.Accepted.{IsAccepted};
 ghost use Rattle.dex_accounts.specs.Decoded.{AreSound};
 ghost use Rattle.dex_token.specs.TokenAccount.{IsWallet};
 ghost use Rattle.dex_cell.specs.CellState as market;
+ghost use Rattle.dex_types.specs.declared.limits.Limits.{Limits};
 ghost use Rattle.dex_script_types.specs.Facts.{IsStart};
 ghost use Rattle.dex_script_types.specs.Places.{AreBeside, ArePlaced};
 ghost use Rattle.dex_wallet.specs.CellState as wallet;
@@ -19,6 +20,7 @@ ghost use Rattle.dex_bank.specs.Opened as first;
 
 use crate::cells::Cells;
 use crate::counting::row_counts;
+use dex_act::Terms;
 use dex_cell::MarketCell;
 use dex_script_types::RowList;
 use dex_token::WalletRef;
@@ -111,7 +113,7 @@ pub(crate) fn opened(
     places: &[RowPlaces],
     program: Program,
 ) -> Result<Cells, NoMemory>
-    requires start { IsStart (accounts_of start) }
+    requires start { (limits : Limits) × IsStart limits (accounts_of start) }
     requires places { ArePlaced (accounts_of start) (map row_of rows.now) places.now }
     requires beside { AreBeside (map row_of rows.now) places.now }
     ensures { IfOk result (λ cells. cells ≡ first.opened_with (accounts_of start) (map row_of rows.now) program) }
@@ -126,12 +128,11 @@ pub(crate) fn opened(
     } = start;
     let markets = market_cells(alloc, markets, &rooms.markets)?;
     let wallets = wallet_cells(alloc, wallets, &rooms.wallets)?;
+    let terms = Terms { srm, msrm, program };
     Ok(Cells {
         mints,
-        srm,
-        msrm,
+        terms,
         markets,
         wallets,
-        program,
     })
 }

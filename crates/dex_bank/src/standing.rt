@@ -48,14 +48,14 @@ impl Standing {
         ensures { StandsAt cells.now (row_of row.entry.now) result.market result.wallets }
     {
         Standing {
-            market: place_of(&cells.markets, row.market),
+            market: market_cell_place(&cells.markets, row.market),
             wallets: places_in(&cells.wallets, row),
         }
     }
 }
 
 /// The place of the first market of an address.
-fn place_of(markets: &[MarketCell], address: Address) -> usize
+fn market_cell_place(markets: &[MarketCell], address: Address) -> usize
     requires { is_market address markets.now ≡ true }
     ensures { IsFirstAt address markets.now result }
 {
@@ -64,5 +64,6 @@ fn place_of(markets: &[MarketCell], address: Address) -> usize
             return place;
         }
     }
+    // By the condition one of them has the address.
     unreachable!()
 }

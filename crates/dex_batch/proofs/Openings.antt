@@ -31,9 +31,9 @@ use Rattle.dex_script_types.specs.Known.{has_account}
 use Rattle.dex_script_types.specs.Starts.{market_state, wallet_state}
 use Rattle.dex_script_types.proofs.Apart.{markets-distinct, wallets-distinct}
 use Rattle.dex_script_types.proofs.Roles.{roles-all}
-use Rattle.dex_team.specs.Acting.{AreDistinct, AreDistinctCells, CanAllAct, HaveActed, IsHere, market_addresses, wallet_addresses}
-use Rattle.dex_team.specs.Rooms.{MarketRoom, WalletRoom}
-use Rattle.dex_team.proofs.RoomLaws.{listing-address, market_room, wallet_room}
+use Rattle.dex_batch.specs.Acting.{AreDistinct, AreDistinctCells, CanAllAct, HaveActed, IsHere, market_addresses, wallet_addresses}
+use Rattle.dex_batch.specs.Rooms.{MarketRoom, WalletRoom}
+use Rattle.dex_batch.proofs.RoomLaws.{listing-address, market_room, wallet_room}
 
 module _ (script : PlainScript) (is : IsScript script) where
   abbrev first : CellsState
@@ -111,7 +111,7 @@ module _ (script : PlainScript) (is : IsScript script) where
       is-left script left (are-of-script script left (so.kept ∙ opened-opened script first refl)) are (items_of script.rows) is.start.accepted
       (so.acted ∙ ap (fold script.rows) (opened-world script) ∙ sym (script-acts script single))
 
-  -- the same of cells and rows that are these
+  -- cells and rows that are these can all act
   pub can-cells : (cells : CellsState) → cells ≡ first → (rows : List PlainRow) → rows ≡ script.rows → (places : List RowPlaces) → ArePlacedIn cells rows places
       → CanAllAct rows places cells
   can-cells cells made rows same places placed =

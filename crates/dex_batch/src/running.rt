@@ -7,13 +7,12 @@ ghost use Rattle.dex_replay.specs.Replays.{IsReplayOf};
 ghost use Rattle.dex_replay.specs.Runs.{IsRunOf};
 ghost use Rattle.dex_script_types.specs.Facts.{HasNoSwap};
 
+use crate::windows::{Sizes, work_all};
 use dex_bank::Cells;
 use dex_io::Pace;
 use dex_replay::laws::{a_replay_is_in_one_order, what_one_order_leaves_is_a_run};
 use dex_script_types::{RowList, Script};
-use dex_stage::Terms;
 use dex_state::Outcome;
-use dex_team::{Sizes, work_all};
 use dex_types::{NoMemory, Row};
 use std::alloc::Global;
 use std::marker::{Send, Sync};
@@ -28,8 +27,8 @@ fn in_one_piece(alloc: Global, rows: Vec<Row>) -> Result<RowList, NoMemory>
     Ok(list)
 }
 
-/// What is left when all rows of a script have acted in their order, on so many threads, and the rows. Rows that share no market and no
-/// wallet may act side by side. The script's accounts themselves go into the outcome: none is copied.
+/// What is left when all rows of a script have acted in their order, on so many threads, and the rows. Rows that share
+/// no market and no wallet may act side by side. The script's accounts themselves go into the outcome: none is copied.
 pub fn run_batch_with_rows<R: Threads + Sync, P: Pace + Sync>(
     rt: &R,
     alloc: Global,
@@ -45,7 +44,6 @@ pub fn run_batch_with_rows<R: Threads + Sync, P: Pace + Sync>(
 {
     a_replay_is_in_one_order();
     what_one_order_leaves_is_a_run();
-    let terms = Terms::of(&script);
     let sizes = Sizes {
         markets: script.start.markets.len(),
         wallets: script.start.wallets.len(),
@@ -56,7 +54,6 @@ pub fn run_batch_with_rows<R: Threads + Sync, P: Pace + Sync>(
         rt,
         alloc,
         cells,
-        terms,
         sizes,
         &rows,
         &places,
@@ -69,7 +66,7 @@ pub fn run_batch_with_rows<R: Threads + Sync, P: Pace + Sync>(
     }
 }
 
-/// The same without the rows.
+/// Runs a batch and answers the outcome alone.
 pub fn run_batch<R: Threads + Sync, P: Pace + Sync>(
     rt: &R,
     alloc: Global,

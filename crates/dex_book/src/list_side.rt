@@ -3,7 +3,7 @@
 ghost use Rattle.std.specs.Prelude.{◌≡◌, [], IfOk};
 ghost use Rattle.dex_book.specs.ListSide.{IsListed};
 
-use crate::places::{order_at, order_with, place_of, resting_place};
+use crate::places::{order_at, order_with, place_in_book, resting_place};
 use dex_types::{NoMemory, Order, Side, SideBook, SideRead};
 use std::alloc::Global;
 use std::marker::Model;
@@ -90,7 +90,7 @@ impl SideBook for ListSide {
     ghost chains = { λ _ _ _ _ _. tt };
 
     fn insert(&mut self, order: Order) {
-        let place = place_of(self.side, &self.orders, order.id);
+        let place = place_in_book(self.side, &self.orders, order.id);
         self.orders.insert(place, order).unwrap();
     }
 

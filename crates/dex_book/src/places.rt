@@ -20,7 +20,7 @@ fn precedes(side: Side, id: u128, other: u128) -> bool
 }
 
 /// How many of the side's orders stand before an order with this id.
-pub fn place_of(side: Side, orders: &[Order], id: u128) -> usize
+pub fn place_in_book(side: Side, orders: &[Order], id: u128) -> usize
     requires { InBookOrder side orders.now }
     ensures place { result ≡ posted.place_of side id orders.now }
     ensures within { result ≤ length orders.now }
@@ -47,7 +47,7 @@ pub fn order_with(side: Side, orders: &[Order], id: u128) -> Option<Order>
     requires { InBookOrder side orders.now }
     ensures { result ≡ cancel.order_with id orders.now }
 {
-    let place = place_of(side, orders, id);
+    let place = place_in_book(side, orders, id);
     with_id(order_at(orders, place), id)
 }
 
@@ -57,5 +57,5 @@ pub fn resting_place(side: Side, orders: &[Order], id: u128) -> usize
     requires rests { IsSome (cancel.order_with id orders.now) }
     ensures { places.IsPlace id orders.now result }
 {
-    place_of(side, orders, id)
+    place_in_book(side, orders, id)
 }

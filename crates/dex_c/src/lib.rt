@@ -1,10 +1,12 @@
-//! The commands on one thread for C, and for all that can call C. Each function calls that of `dex_call` and says its clause again.
+//! The commands on one thread for C, and for all that can call C. Each function calls that of `dex_call` and says its
+//! clause again.
 #![tactic(auto)]
 
 ghost use Rattle.std.specs.Prelude.{◌≡◌, ◌<◌, ◌⊎◌, []};
 ghost use Rattle.dex_words.specs.declared.command.PlainCommand.TheVariants.{Audit, Bulk, Dump, Make, Migrate, Replay, Worth};
 ghost use Rattle.dex_answers.specs.declared.status.Status.TheVariants as status;
-ghost use Rattle.dex_call.specs.Calls.{Ends, EndsWith, HasStopped, done};
+ghost use Rattle.dex_types.specs.declared.limits.TheConstants.{STANDARD, WIDE};
+ghost use Rattle.dex_call.specs.Calls.{Ends, EndsWith, EndsWithin, HasStopped, done};
 ghost use Rattle.dex_call.specs.PartsTexts.{SaysParts, SaysShards};
 
 use std::alloc::Global;
@@ -87,7 +89,7 @@ pub extern "C" fn dex_bulk(
 /// The shard of each market, each wallet and each row of a script.
 #[unsafe(no_mangle)]
 pub extern "C" fn dex_shards(alloc: Global, script: &[u8], room: &mut [u8], size: &mut usize) -> u8
-    ensures { EndsWith (SaysShards script.now) (done room.old room.new result size.new) }
+    ensures { EndsWith (SaysShards STANDARD script.now) (done room.old room.new result size.new) }
 {
     dex_call::shards(alloc, script, room, size)
 }
@@ -101,8 +103,104 @@ pub extern "C" fn dex_chained(
     room: &mut [u8],
     size: &mut usize,
 ) -> u8
-    ensures { ((0 < rows) × EndsWith (SaysParts rows script.now) (done room.old room.new result size.new))
+    ensures { ((0 < rows) × EndsWith (SaysParts STANDARD rows script.now) (done room.old room.new result size.new))
         ⊎ ((rows ≡ 0) × HasStopped status.Usage (done room.old room.new result size.new)) }
 {
     dex_call::chained(alloc, rows, script, room, size)
+}
+
+/// The report of what is left when all rows of a script within the widest limits have acted.
+#[unsafe(no_mangle)]
+pub extern "C" fn dex_replay_wide(
+    alloc: Global,
+    script: &[u8],
+    room: &mut [u8],
+    size: &mut usize,
+) -> u8
+    ensures { EndsWithin WIDE Replay script.now (done room.old room.new result size.new) }
+{
+    dex_call::replay_wide(alloc, script, room, size)
+}
+
+/// The dump of the accounts that a script within the widest limits leaves.
+#[unsafe(no_mangle)]
+pub extern "C" fn dex_dump_wide(
+    alloc: Global,
+    script: &[u8],
+    room: &mut [u8],
+    size: &mut usize,
+) -> u8
+    ensures { EndsWithin WIDE Dump script.now (done room.old room.new result size.new) }
+{
+    dex_call::dump_wide(alloc, script, room, size)
+}
+
+/// What an audit of a dump within the widest limits finds.
+#[unsafe(no_mangle)]
+pub extern "C" fn dex_audit_wide(
+    alloc: Global,
+    dump: &[u8],
+    room: &mut [u8],
+    size: &mut usize,
+) -> u8
+    ensures { EndsWithin WIDE Audit dump.now (done room.old room.new result size.new) }
+{
+    dex_call::audit_wide(alloc, dump, room, size)
+}
+
+/// What each account of each market is worth when all rows of a script within the widest limits have acted.
+#[unsafe(no_mangle)]
+pub extern "C" fn dex_worth_wide(
+    alloc: Global,
+    script: &[u8],
+    room: &mut [u8],
+    size: &mut usize,
+) -> u8
+    ensures { EndsWithin WIDE Worth script.now (done room.old room.new result size.new) }
+{
+    dex_call::worth_wide(alloc, script, room, size)
+}
+
+/// The dump of the same accounts, within the widest limits, with sides of so many nodes and event queues for so many
+/// events.
+#[unsafe(no_mangle)]
+pub extern "C" fn dex_migrate_wide(
+    alloc: Global,
+    nodes: u32,
+    events: u32,
+    dump: &[u8],
+    room: &mut [u8],
+    size: &mut usize,
+) -> u8
+    ensures { EndsWithin WIDE (Migrate nodes events) dump.now (done room.old room.new result size.new) }
+{
+    dex_call::migrate_wide(alloc, nodes, events, dump, room, size)
+}
+
+/// The shard of each market, each wallet and each row of a script within the widest limits.
+#[unsafe(no_mangle)]
+pub extern "C" fn dex_shards_wide(
+    alloc: Global,
+    script: &[u8],
+    room: &mut [u8],
+    size: &mut usize,
+) -> u8
+    ensures { EndsWith (SaysShards WIDE script.now) (done room.old room.new result size.new) }
+{
+    dex_call::shards_wide(alloc, script, room, size)
+}
+
+/// How many rows each part of a chain has, for parts of at most so many, of a script within the widest limits.
+#[unsafe(no_mangle)]
+pub extern "C" fn dex_chained_wide(
+    alloc: Global,
+    rows: u32,
+    script: &[u8],
+    room: &mut [u8],
+    size: &mut usize,
+) -> u8
+    ensures { ((0 < rows) × EndsWith (SaysParts WIDE rows script.now) (done room.old room.new result size.new))
+        ⊎ ((rows ≡ 0) × HasStopped status.Usage (done room.old room.new result size.new)) }
+{
+    dex_call::chained_wide(alloc, rows, script, room, size)
 }

@@ -3,7 +3,9 @@ use Rattle.std.specs.Prelude.{ℕ, ◌≡◌, ◌≤◌, ◌<◌, ◌++◌, ◌�
 use Rattle.dex_words.specs.declared.command.PlainCommand.{PlainCommand}
 use Rattle.dex_words.specs.Spelling.{IsWithin}
 use Rattle.dex_words.specs.Threads.{of_plain}
-use Rattle.dex_answers.specs.Answers.{Answers}
+use Rattle.dex_types.specs.declared.limits.Limits.{Limits}
+use Rattle.dex_types.specs.declared.limits.TheConstants.{STANDARD}
+use Rattle.dex_answers.specs.Answers.{AnswersWithin}
 use Rattle.dex_answers.specs.ExitCodes.{exit_code}
 use Rattle.dex_types.specs.declared.terms.NoMemory.{NoMemory}
 use Rattle.dex_answers.specs.Told.{text_of}
@@ -11,7 +13,8 @@ use Rattle.dex_answers.specs.declared.told.StatusText.{StatusText}
 use Rattle.dex_answers.specs.declared.status.Status.{Status}
 use Rattle.dex_answers.specs.declared.status.Status.TheVariants as status
 
--- a text was written into a room: where it fits, to its front, and what stood behind is as it was; else all is as it was
+-- a text was written into a room: where it fits, to its front, and what stood behind is as it was; else all is as it
+-- was
 pub record IsWritten (text before after : List ℕ) : Type 0 where
   pub fits : length text ≤ length before → after ≡ text ++ drop (length text) before
   pub large : length before < length text → after ≡ before
@@ -43,12 +46,17 @@ pub record HasStopped (stood : Status) (call : Done) : Type 0 where
   pub size : call.size ≡ 0
   pub same : call.after ≡ call.before
 
--- how a call of a command ends: with its answer; for want of memory; or since its numbers are not within their limits
-abbrev pub Ends : PlainCommand → List ℕ → Done → Type 0
-Ends command bytes call =
-    (IsWithin (of_plain command) × HasAnswered (Answers (of_plain command) bytes) call)
+-- how a call of a command within these limits ends: with its answer; for want of memory; or since its numbers are not
+-- within theirs
+abbrev pub EndsWithin : Limits → PlainCommand → List ℕ → Done → Type 0
+EndsWithin limits command bytes call =
+    (IsWithin (of_plain command) × HasAnswered (AnswersWithin limits (of_plain command) bytes) call)
     ⊎ HasStopped status.NoMemory call
     ⊎ (¬ (IsWithin (of_plain command)) × HasStopped status.Usage call)
+
+-- within the program's limits
+abbrev pub Ends : PlainCommand → List ℕ → Done → Type 0
+Ends command bytes call = EndsWithin STANDARD command bytes call
 
 -- how a call ends that asks for no command: with an answer of which this holds, or for want of memory
 abbrev pub EndsWith : (Status → List ℕ → Type 0) → Done → Type 0

@@ -3,8 +3,9 @@ use Rattle.std.specs.Prelude.{◌≡◌, ◌⊎◌, ℕ, false, List, ◌∷◌,
 use Rattle.std.specs.Fmt.{decimal}
 use Rattle.std.specs.List.{flat_map}
 use Rattle.dex_types.specs.Text.{spaced}
+use Rattle.dex_types.specs.declared.limits.Limits.{Limits}
 use Rattle.dex_script_types.specs.PlainScript.{PlainScript}
-use Rattle.dex_script.specs.Scripts.{Reads}
+use Rattle.dex_script.specs.Scripts.{ReadsWithin}
 use Rattle.dex_parts.specs.Cuts.{AreCutBy, numbers_of}
 use Rattle.dex_parts.specs.Sharded.{AreShardsOf}
 use Rattle.dex_answers.specs.Answers.{IsNoScript}
@@ -42,27 +43,29 @@ parts_text counts = flat_map part_line counts ++ end_line
 
 -- ---- what they say
 
--- the bytes are a script, and the text tells shards into which it falls
-pub record TellsShards (bytes text : List ℕ) : Type 0 where
+-- the bytes are a script within these limits, and the text tells shards into which it falls
+pub record TellsShards (limits : Limits) (bytes text : List ℕ) : Type 0 where
   pub script : PlainScript
-  pub reads : Reads false bytes script
+  pub reads : ReadsWithin limits false bytes script
   pub markets : List ℕ
   pub wallets : List ℕ
   pub rows : List ℕ
   pub shards : AreShardsOf script markets wallets rows
   pub text_is : text ≡ shards_text markets wallets rows
 
--- the bytes are a script, and the text tells how many rows each part of a chain has, for parts of at most so many
-pub record TellsParts (most : ℕ) (bytes text : List ℕ) : Type 0 where
+-- the bytes are a script within these limits, and the text tells how many rows each part of a chain has, for parts of
+-- at most so many
+pub record TellsParts (limits : Limits) (most : ℕ) (bytes text : List ℕ) : Type 0 where
   pub script : PlainScript
-  pub reads : Reads false bytes script
+  pub reads : ReadsWithin limits false bytes script
   pub counts : List ℕ
   pub cut : AreCutBy most counts (numbers_of script.rows)
   pub text_is : text ≡ parts_text counts
 
 -- so they do, or the text says why the bytes are no script
-abbrev pub SaysShards : List ℕ → Status → List ℕ → Type 0
-SaysShards bytes stood text = ((stood ≡ status.Ok) × TellsShards bytes text) ⊎ IsNoScript false bytes stood text
+abbrev pub SaysShards : Limits → List ℕ → Status → List ℕ → Type 0
+SaysShards limits bytes stood text = ((stood ≡ status.Ok) × TellsShards limits bytes text) ⊎ IsNoScript limits false bytes stood text
 
-abbrev pub SaysParts : ℕ → List ℕ → Status → List ℕ → Type 0
-SaysParts most bytes stood text = ((stood ≡ status.Ok) × TellsParts most bytes text) ⊎ IsNoScript false bytes stood text
+abbrev pub SaysParts : Limits → ℕ → List ℕ → Status → List ℕ → Type 0
+SaysParts limits most bytes stood text =
+    ((stood ≡ status.Ok) × TellsParts limits most bytes text) ⊎ IsNoScript limits false bytes stood text

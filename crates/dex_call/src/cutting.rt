@@ -3,13 +3,14 @@
 ghost use Rattle.std.specs.Prelude.{◌≡◌, ◌<◌, ◌++◌, IfOk, OnOk};
 ghost use Rattle.std.specs.List.{flat_map};
 ghost use Rattle.std.specs.String.{string_bytes};
+ghost use Rattle.dex_types.specs.Limits.{AreLimits};
 ghost use Rattle.dex_answers.specs.Told.{text_of};
 ghost use Rattle.dex_call.specs.PartsTexts as texts;
 
 use dex_answers::{Status, StatusText, no_script};
 use dex_parts::{Shards, chained, shards_of};
-use dex_script::read_script;
-use dex_types::NoMemory;
+use dex_script::read_script_within;
+use dex_types::{Limits, NoMemory};
 use std::alloc::{AllocError, Global};
 use std::fmt::Write;
 
@@ -53,8 +54,8 @@ fn write_parts(text: &mut String, counts: &[usize]) -> Result<(), AllocError>
     Ok(())
 }
 
-/// The lines of shards: `market SHARD` for each market and `wallet SHARD` for each wallet, in declared order, `row SHARD` for each row, in
-/// its order, and `end`.
+/// The lines of shards: `market SHARD` for each market and `wallet SHARD` for each wallet, in declared order,
+/// `row SHARD` for each row, in its order, and `end`.
 fn shards_text(alloc: Global, shards: &Shards) -> Result<String, AllocError>
     ensures { IfOk result (λ text. string_bytes text
         ≡ texts.shards_text shards.now.markets.items shards.now.wallets.items shards.now.rows.items) }
@@ -77,11 +78,16 @@ fn parts_text(alloc: Global, counts: &[usize]) -> Result<String, AllocError>
     Ok(text)
 }
 
-/// The shards of a script, or why the bytes are none.
-pub(crate) fn shards_answer(alloc: Global, bytes: &[u8]) -> Result<StatusText, NoMemory>
-    ensures { IfOk result (λ told. texts.SaysShards bytes.now told.status (text_of told)) }
+/// The shards of a script, or why the bytes are none within these limits.
+pub(crate) fn shards_answer(
+    alloc: Global,
+    bytes: &[u8],
+    limits: &Limits,
+) -> Result<StatusText, NoMemory>
+    requires { AreLimits limits.now }
+    ensures { IfOk result (λ told. texts.SaysShards limits.now bytes.now told.status (text_of told)) }
 {
-    match read_script(alloc, bytes, false) {
+    match read_script_within(alloc, bytes, false, limits) {
         Ok(script) => {
             let shards = shards_of(alloc, &script)?;
             let text = shards_text(alloc, &shards)?;
@@ -91,12 +97,18 @@ pub(crate) fn shards_answer(alloc: Global, bytes: &[u8]) -> Result<StatusText, N
     }
 }
 
-/// The parts of a chain, of at most so many rows each, or why the bytes are no script.
-pub(crate) fn parts_answer(alloc: Global, bytes: &[u8], most: usize) -> Result<StatusText, NoMemory>
-    requires { 0 < most }
-    ensures { IfOk result (λ told. texts.SaysParts most bytes.now told.status (text_of told)) }
+/// The parts of a chain, of at most so many rows each, or why the bytes are no script within these limits.
+pub(crate) fn parts_answer(
+    alloc: Global,
+    bytes: &[u8],
+    most: usize,
+    limits: &Limits,
+) -> Result<StatusText, NoMemory>
+    requires some { 0 < most }
+    requires limits { AreLimits limits.now }
+    ensures { IfOk result (λ told. texts.SaysParts limits.now most bytes.now told.status (text_of told)) }
 {
-    match read_script(alloc, bytes, false) {
+    match read_script_within(alloc, bytes, false, limits) {
         Ok(script) => {
             let counts = chained(alloc, &script, most)?;
             let text = parts_text(alloc, &counts)?;

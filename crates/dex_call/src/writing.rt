@@ -20,7 +20,8 @@ pub(crate) fn size_of(pieces: &[Piece]) -> Option<usize>
     Some(size)
 }
 
-/// Writes the pieces of a text of this length to the front of the room that is there, if it fits whole; else the room stays as it is.
+/// Writes the pieces of a text of this length to the front of the room that is there, if it fits whole; else the room
+/// stays as it is.
 pub(crate) fn put(pieces: &[Piece], size: usize, room: &mut [u8])
     requires { size ≡ length (flat_map piece_text pieces.now) }
     ensures { IsWritten (flat_map piece_text pieces.now) room.old room.new }

@@ -177,11 +177,14 @@ pub fn apply_cancel<B: SideBook, A: SideBook>(
     asks: &mut A,
     ring: &mut RingView<'_>,
 ) -> u32
+    // The cancel was decided on a sound market.
     requires bids { B.holds bids.old }
     requires asks { A.holds asks.old }
     requires market { AreOfSoundMarket (handed sizes B.orders A.orders bids.old asks.old ring.old) }
     requires decided { IsOk (decided (named_by what.now) account (B.orders bids.old) (A.orders asks.old)
         (room_of (ring_of ring.old.bytes.now))) }
+
+    // The orders that it names are gone, in the bytes and as they are read.
     ensures count { let before = handed sizes B.orders A.orders bids.old asks.old ring.old in
         result ≡ length (named_in (named_by what.now) account before) }
     ensures does { let before = handed sizes B.orders A.orders bids.old asks.old ring.old in
@@ -190,6 +193,8 @@ pub fn apply_cancel<B: SideBook, A: SideBook>(
     ensures events { let before = handed sizes B.orders A.orders bids.old asks.old ring.old in
         ring_of ring.new.bytes.now ≡ (with_outs sizes (named_in (named_by what.now) account before)
         (queue_of before.queue)).list }
+
+    // Sides and queue stay where they lie.
     ensures bids { KeepsSide B.holds B.same_place B.side B.room bids.old bids.new }
     ensures asks { KeepsSide A.holds A.same_place A.side A.room asks.old asks.new }
     ensures ring { KeepsEvents ring.old ring.new }

@@ -79,12 +79,15 @@ pub fn apply_cancel_by_slots<B: SideBook, A: SideBook>(
     asks: &mut A,
     ring: &mut RingView<'_>,
 ) -> u32
+    // The cancel was decided on a sound market.
     requires bids { B.holds bids.old }
     requires asks { A.holds asks.old }
     requires market { let before = handed sizes B.orders A.orders bids.old asks.old ring.old in
         IsGiven cancel_given before owner.account owner.orders.bytes.now }
     requires decided { let room = room_of (ring_of ring.old.bytes.now) in
         IsOk (decided (named_by what.now) owner.account (B.orders bids.old) (A.orders asks.old) room) }
+
+    // The orders that it names are gone, in the bytes and as they are read.
     ensures count { let before = handed sizes B.orders A.orders bids.old asks.old ring.old in
         result ≡ length (named_in (named_by what.now) owner.entry.account before) }
     ensures does { let before = handed sizes B.orders A.orders bids.old asks.old ring.old in
@@ -93,6 +96,8 @@ pub fn apply_cancel_by_slots<B: SideBook, A: SideBook>(
     ensures events { let before = handed sizes B.orders A.orders bids.old asks.old ring.old in
         let gone = named_in (named_by what.now) owner.entry.account before in
         ring_of ring.new.bytes.now ≡ (with_outs sizes gone (queue_of before.queue)).list }
+
+    // Sides and queue stay where they lie.
     ensures bids { KeepsSide B.holds B.same_place B.side B.room bids.old bids.new }
     ensures asks { KeepsSide A.holds A.same_place A.side A.room asks.old asks.new }
     ensures ring { KeepsEvents ring.old ring.new }

@@ -4,13 +4,13 @@ ghost use Rattle.std.specs.Prelude.{◌≡◌, ◌<◌, ◌-◌, ◌++◌, ◌�
 ghost use Rattle.dex_ring.specs.PendingFills.{pending_fills_of};
 ghost use Rattle.dex_ring.specs.Ring.{IsEventQueue, ring_of};
 
-use crate::amounts::amounts_of;
 use crate::call_record::CallRecord;
 use crate::journal::write_down;
-use crate::payouts::{Payouts, Vaults, pay};
+use crate::payouts::{Deposits, Payouts, Vaults, pay};
 use dex_decide::Plan;
 use dex_fills::{PendingFills, pending_fills};
 use dex_movements::Amounts;
+use dex_purse::amounts_of;
 use dex_ring::RingRef;
 use dex_stamps::{Kept, Log};
 use dex_types::{Entry, MarketAccounts, NoMemory, Refusal, Reply, Row, Seen};
@@ -61,6 +61,8 @@ impl MarketCell {
     ghost use Rattle.dex_accounts.specs.Accepted.{IsAccepted};
     ghost use Rattle.dex_accounts.specs.Decoded.{AreSound};
     ghost use Rattle.dex_history.specs.Journal.{Call, Sees, asked_of, is_refusal};
+    ghost use Rattle.dex_movements.specs.Amounts.{transfers_of};
+    ghost use Rattle.dex_plan.specs.Owing.{plan_transfers};
     ghost use Rattle.dex_wallet.specs.TokenAmount.{held_in};
     ghost use Rattle.dex_cell.specs.CellState as cells;
     ghost use Rattle.dex_cell.specs.CellState.{CanHold, HasActed, HasHeld, HasSpare, HasTaken, IsFor, IsMarketCell};
@@ -159,39 +161,38 @@ impl MarketCell {
         ensures acted { HasActed row.entry.now seen.now self.old self.new }
         ensures cell { IsMarketCell self.new }
     {
-        let payouts = self.carry_out(row, seen, &plan, coin, pc);
+        let payouts = self.carry_out(row, seen, &plan, &amounts_of(&plan), Deposits { coin, pc });
         (self.last().reply, payouts)
     }
 
-    /// Does a row as `apply` does, with the plan lent; its reply is that of the last entry.
+    /// Does a row as `apply` does, with the plan and what it moves lent; its reply is that of the last entry.
     pub fn carry_out(
         &mut self,
         row: &Row,
         seen: &Seen,
         plan: &Plan,
-        coin: Option<Parcel>,
-        pc: Option<Parcel>,
+        amounts: &Amounts,
+        deposits: Deposits,
     ) -> Payouts
         requires row { IsFor row.now seen.now self.old }
         requires decided { Ok plan.now ≡ answer_on row.now seen.now self.old }
-        requires coin { coin ≡ paid_in Coin plan.now (market_at self.old) }
-        requires pc { pc ≡ paid_in Pc plan.now (market_at self.old) }
+        requires amounts { transfers_of amounts.now ≡ plan_transfers plan.now }
+        requires coin { deposits.coin ≡ paid_in Coin plan.now (market_at self.old) }
+        requires pc { deposits.pc ≡ paid_in Pc plan.now (market_at self.old) }
         requires spare { HasSpare self.old }
         ensures done { is_refusal (step_on row.entry.now seen.now self.old).reply ≡ false }
         ensures paid { result ≡ paid_out (market_at self.old) (step_on row.entry.now seen.now self.old).transfers }
         ensures taken { HasTaken row.entry.now seen.now self.old self.new }
     {
-        let amounts = amounts_of(plan);
         let reply = dex_step::apply(&mut self.accounts, row, seen, plan, &mut self.pending);
         let payouts = pay(
             &mut self.vaults.coin,
             &mut self.vaults.pc,
-            &amounts,
-            coin,
-            pc,
+            amounts,
+            deposits,
         );
         let MarketCell { calls, entries, .. } = self;
-        write_down(calls, entries, row, seen, reply, &amounts);
+        write_down(calls, entries, row, seen, reply, amounts);
         payouts
     }
 

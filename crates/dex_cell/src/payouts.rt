@@ -6,9 +6,16 @@ ghost use Rattle.dex_cell.specs.Paying.{CanMoveShare, moved_share, parcel_of};
 use dex_movements::Amounts;
 use dex_wallet::Parcel;
 
+/// The parcels that a row's wallets pay in, each None exactly where it pays nothing: the `coin` wallet's in the base
+/// mint of the market, the `pc` wallet's in its quote mint.
+#[derive(Debug)]
+pub struct Deposits {
+    pub coin: Option<Parcel>,
+    pub pc: Option<Parcel>,
+}
+
 /// The parcels that a row pays out, each None exactly where it pays nothing: the `coin` wallet's in the market's base
-/// mint, the
-/// `pc` wallet's and the `referrer` wallet's in its quote mint.
+/// mint, the `pc` wallet's and the `referrer` wallet's in its quote mint.
 #[derive(Debug)]
 pub struct Payouts {
     pub coin: Option<Parcel>,
@@ -61,11 +68,10 @@ pub(crate) fn pay(
     coin: &mut Parcel,
     pc: &mut Parcel,
     amounts: &Amounts,
-    coin_in: Option<Parcel>,
-    pc_in: Option<Parcel>,
+    deposits: Deposits,
 ) -> Payouts
-    requires coin { CanMoveShare coin.old amounts.now.coin_out amounts.now.coin_in coin_in }
-    requires pc { CanMoveShare pc.old (amounts.now.pc_out + amounts.now.referrer_out) amounts.now.pc_in pc_in }
+    requires coin { CanMoveShare coin.old amounts.now.coin_out amounts.now.coin_in deposits.coin }
+    requires pc { CanMoveShare pc.old (amounts.now.pc_out + amounts.now.referrer_out) amounts.now.pc_in deposits.pc }
     ensures paid { result ≡ record {
       coin = parcel_of coin.old.mint amounts.now.coin_out;
       pc = parcel_of pc.old.mint amounts.now.pc_out;
@@ -74,6 +80,10 @@ pub(crate) fn pay(
     ensures coin { coin.new ≡ moved_share coin.old amounts.now.coin_out amounts.now.coin_in }
     ensures pc { pc.new ≡ moved_share pc.old (amounts.now.pc_out + amounts.now.referrer_out) amounts.now.pc_in }
 {
+    let Deposits {
+        coin: coin_in,
+        pc: pc_in,
+    } = deposits;
     let payouts = Payouts {
         coin: take_out(coin, amounts.coin_out),
         pc: take_out(pc, amounts.pc_out),

@@ -1,5 +1,5 @@
-//! Public calls of the step crates that do what they decided, by their own names: on the bytes of a sound market, and on
-//! a copy of one account that is open there. Rows do the same with all accounts in place.
+//! Public calls of the step crates that do what they decided, by their own names: on the bytes of a sound market, and
+//! on a copy of one account that is open there. Rows do the same with all accounts in place.
 
 ghost use Rattle.dex_accounts.specs.Decoded.{AreSound};
 ghost use Rattle.dex_accounts.specs.Parts.{HasOpen, parts_of as market_parts};
@@ -101,7 +101,7 @@ fn order_on(
     ))
 }
 
-/// The same on the accounts of a market, and on a copy of that of the order.
+/// Does an order on the accounts of a market, and on a copy of the account that it is of.
 fn order_among(
     accounts: &mut MarketAccounts,
     held: &mut [u8],
@@ -243,8 +243,8 @@ fn have_one_mint(role: Option<WalletSeen>, other: Option<WalletSeen>) -> bool
     }
 }
 
-/// Settling is decided and done: what is paid, and the account's bytes; none where the account is not open, or where the
-/// coin wallet has another role.
+/// Settling is decided and done: what is paid, and the account's bytes; none where the account is not open, or where
+/// the coin wallet has another role.
 pub(crate) fn settle(
     alloc: Global,
     accounts: &mut MarketAccounts,

@@ -5,6 +5,7 @@ use Rattle.dex_words.specs.declared.command.Command.TheVariants.{Replay, Run, Du
 use Rattle.dex_words.specs.declared.command.PlainCommand.{PlainCommand}
 use Rattle.dex_words.specs.declared.command.PlainCommand.TheVariants as plain
 use Rattle.dex_words.specs.Threads.{of_plain}
+use Rattle.dex_types.specs.declared.limits.TheConstants.{STANDARD}
 use Rattle.dex_answers.specs.Answers.{Answers, IsNoScript}
 use Rattle.dex_answers.specs.Suits.{Suits}
 use Rattle.dex_answers.specs.declared.status.Status.{Status}
@@ -24,11 +25,11 @@ plain_answers (plain.Bulk number rows) bytes stood text told = told
 plain_answers (plain.Migrate nodes events) bytes stood text told = told
 
 -- bytes that are no script are not run, on lanes or in a batch
-pub no-run : (bytes : List ℕ) (stood : Status) (text : List ℕ) → IsNoScript false bytes stood text → AnswersRun bytes stood text
+pub no-run : (bytes : List ℕ) (stood : Status) (text : List ℕ) → IsNoScript STANDARD false bytes stood text → AnswersRun bytes stood text
 no-run bytes status.Ok text why = absurd why
 no-run bytes _ text why = why
 
-pub no-batch : (bytes : List ℕ) (stood : Status) (text : List ℕ) → IsNoScript true bytes stood text → AnswersBatch bytes stood text
+pub no-batch : (bytes : List ℕ) (stood : Status) (text : List ℕ) → IsNoScript STANDARD true bytes stood text → AnswersBatch bytes stood text
 no-batch bytes status.Ok text why = absurd why
 no-batch bytes _ text why = why
 
@@ -36,9 +37,9 @@ no-batch bytes _ text why = why
 pub all-answered : (command : Command) (bytes : List ℕ) (stood : Status) (text : List ℕ) → Suits command bytes → AnswersAll command bytes stood text
     → stood ≡ status.Ok
 all-answered Run bytes status.Ok text suits told = refl
-all-answered Run bytes stood text suits told = absurd (read-told false bytes suits.0 stood text suits.1 told)
+all-answered Run bytes stood text suits told = absurd (read-told STANDARD false bytes suits.0 stood text suits.1 told)
 all-answered (Batch workers) bytes status.Ok text suits told = refl
-all-answered (Batch workers) bytes stood text suits told = absurd (read-told true bytes suits.0 stood text suits.1 told)
+all-answered (Batch workers) bytes stood text suits told = absurd (read-told STANDARD true bytes suits.0 stood text suits.1 told)
 all-answered Replay bytes stood text suits told = answered Replay bytes stood text suits told
 all-answered Dump bytes stood text suits told = answered Dump bytes stood text suits told
 all-answered Worth bytes stood text suits told = answered Worth bytes stood text suits told

@@ -3,6 +3,7 @@ use Rattle.std.proofs.Common.{◌≡◌, ◌∙◌, ℕ, Bool, true, false, List
 use Rattle.std.specs.Io.KnownBytes.{append_known}
 use Rattle.dex_words.specs.declared.command.Command.{Command}
 use Rattle.dex_words.specs.declared.command.Command.TheVariants.{Batch, Replay}
+use Rattle.dex_types.specs.declared.limits.TheConstants.{STANDARD}
 use Rattle.dex_answers.specs.declared.status.Status.{Status}
 use Rattle.dex_answers.specs.declared.status.Status.TheVariants as status
 use Rattle.dex_answers.specs.Answers.{Reported}
@@ -11,7 +12,7 @@ use Rattle.dex_commands.specs.Ending.{Ends, HasRead, Input, Output}
 use Rattle.dex_commands.specs.Listed.{IsListed, ListedOrder, WhereListed}
 
 -- what was written of what was read, where the source told these bytes
-listed-end : (batch : Bool) (i : Input) (o : Output) (bytes all text : List ℕ) → HasRead i bytes → Reported batch bytes text
+listed-end : (batch : Bool) (i : Input) (o : Output) (bytes all text : List ℕ) → HasRead i bytes → Reported STANDARD batch bytes text
     → o.taken_after ≡ append_known o.taken text → i.left ≡ Some all → ListedOrder batch all o
 listed-end batch i o bytes all text read a taken told =
     let same : bytes ≡ all = rw told at read.told in

@@ -5,6 +5,7 @@ use Rattle.dex_words.specs.declared.command.Command.TheVariants.{Batch, Run}
 use Rattle.dex_script_types.specs.PlainScript.{PlainScript}
 use Rattle.dex_script_types.specs.Facts.{HasNoSwap}
 use Rattle.dex_script.specs.Scripts.{Reads}
+use Rattle.dex_types.specs.declared.limits.TheConstants.{STANDARD}
 use Rattle.dex_state.specs.Outcomes.{PlainOutcome}
 use Rattle.dex_report.specs.Report.{report_text}
 use Rattle.dex_report.specs.Telling.{IsToldOutcome}
@@ -35,12 +36,12 @@ Ran bytes text =
 -- what `run` answers to bytes: the status and the text
 abbrev pub AnswersRun : List ℕ → Status → List ℕ → Type 0
 AnswersRun bytes status.Ok text = Ran bytes text
-AnswersRun bytes stood text = IsNoScript false bytes stood text
+AnswersRun bytes stood text = IsNoScript STANDARD false bytes stood text
 
 -- what `batch` answers to bytes: what `replay` does, of a script for batches, which has no swap
 abbrev pub AnswersBatch : List ℕ → Status → List ℕ → Type 0
-AnswersBatch bytes status.Ok text = Reported true bytes text
-AnswersBatch bytes stood text = IsNoScript true bytes stood text
+AnswersBatch bytes status.Ok text = Reported STANDARD true bytes text
+AnswersBatch bytes stood text = IsNoScript STANDARD true bytes stood text
 
 -- what each command answers to bytes, on one thread or on several
 abbrev pub AnswersAll : Command → List ℕ → Status → List ℕ → Type 0

@@ -3,7 +3,8 @@
 ghost use Rattle.std.specs.Prelude.{IfOk};
 ghost use Rattle.dex_words.specs.Spelling.{IsWithin};
 ghost use Rattle.dex_words.specs.Threads.{of_plain};
-ghost use Rattle.dex_answers.specs.Answers.{Answers};
+ghost use Rattle.dex_types.specs.Limits.{AreLimits};
+ghost use Rattle.dex_answers.specs.Answers.{Answers, AnswersWithin};
 ghost use Rattle.dex_answers.specs.Told.{text_of};
 
 use crate::worth::worth_answer;
@@ -11,7 +12,7 @@ use dex_answers::{
     StatusText, audit_answer, bulk_answer, dump_answer, make_answer, migrate_answer, replay_answer,
     replay_taken,
 };
-use dex_types::NoMemory;
+use dex_types::{Limits, NoMemory, STANDARD};
 use dex_words::PlainCommand;
 use std::alloc::Global;
 
@@ -21,14 +22,30 @@ pub fn answer_to(alloc: Global, command: PlainCommand, bytes: &[u8]) -> Result<S
     requires { IsWithin (of_plain command) }
     ensures { IfOk result (λ told. Answers (of_plain command) bytes.now told.status (text_of told)) }
 {
+    answer_within(alloc, command, bytes, &STANDARD)
+}
+
+/// Like `answer_to`, within these limits. What `make` and `bulk` answer is of the program's.
+pub fn answer_within(
+    alloc: Global,
+    command: PlainCommand,
+    bytes: &[u8],
+    limits: &Limits,
+) -> Result<StatusText, NoMemory>
+    requires command { IsWithin (of_plain command) }
+    requires limits { AreLimits limits.now }
+    ensures { IfOk result (λ told. AnswersWithin limits.now (of_plain command) bytes.now told.status (text_of told)) }
+{
     match command {
-        PlainCommand::Replay => replay_answer(alloc, bytes),
-        PlainCommand::Dump => dump_answer(alloc, bytes),
-        PlainCommand::Audit => audit_answer(alloc, bytes),
-        PlainCommand::Worth => worth_answer(alloc, bytes),
+        PlainCommand::Replay => replay_answer(alloc, bytes, limits),
+        PlainCommand::Dump => dump_answer(alloc, bytes, limits),
+        PlainCommand::Audit => audit_answer(alloc, bytes, limits),
+        PlainCommand::Worth => worth_answer(alloc, bytes, limits),
         PlainCommand::Make { number, rows } => make_answer(alloc, number, rows),
         PlainCommand::Bulk { number, rows } => bulk_answer(alloc, number, rows),
-        PlainCommand::Migrate { nodes, events } => migrate_answer(alloc, bytes, nodes, events),
+        PlainCommand::Migrate { nodes, events } => {
+            migrate_answer(alloc, bytes, nodes, events, limits)
+        }
     }
 }
 
@@ -42,7 +59,7 @@ pub fn answer_taking(
     ensures { IfOk result (λ told. Answers (of_plain command) bytes.items told.status (text_of told)) }
 {
     match command {
-        PlainCommand::Replay => replay_taken(alloc, bytes),
+        PlainCommand::Replay => replay_taken(alloc, bytes, &STANDARD),
         other => answer_to(alloc, other, &bytes),
     }
 }

@@ -2,6 +2,7 @@
 
 ghost use Rattle.std.specs.Prelude.{◌≡◌, ℕ, Bool, List};
 ghost use Rattle.dex_words.specs.declared.command.Command.{Command};
+ghost use Rattle.dex_types.specs.declared.limits.TheConstants.{STANDARD};
 ghost use Rattle.dex_answers.specs.Answers.{Reported};
 ghost use Rattle.dex_answers.specs.Suits.{Suits};
 ghost use Rattle.dex_answers.specs.declared.status.Status.{Status};
@@ -20,8 +21,8 @@ pub fn what_suits_a_command_is_answered()
 pub fn one_report_is_of_one_outcome()
     ensures run { (bytes others text : List ℕ)
         (one : Ran bytes text) (other : Ran others text) → one.1 ≡ other.1 }
-    ensures replay { (batch twin : Bool) (bytes others text : List ℕ) (one : Reported batch bytes text)
-        (other : Reported twin others text) → one.1 ≡ other.1 }
+    ensures replay { (batch twin : Bool) (bytes others text : List ℕ) (one : Reported STANDARD batch bytes text)
+        (other : Reported STANDARD twin others text) → one.1 ≡ other.1 }
     ensures both { (batch : Bool) (bytes others text : List ℕ)
-        (one : Ran bytes text) (other : Reported batch others text) → one.1 ≡ other.1 }
+        (one : Ran bytes text) (other : Reported STANDARD batch others text) → one.1 ≡ other.1 }
 {}

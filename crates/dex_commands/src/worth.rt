@@ -8,11 +8,12 @@ ghost use Rattle.dex_words.specs.declared.command.Command.TheVariants.{Worth};
 ghost use Rattle.dex_replay.specs.Lawful.{IsLawful};
 ghost use Rattle.dex_replay.specs.WorthText.{worth_text};
 ghost use Rattle.dex_replay.specs.WorthTold.{table_told};
+ghost use Rattle.dex_types.specs.Limits.{AreLimits};
 ghost use Rattle.dex_state.specs.Outcomes.{outcome_of};
 ghost use Rattle.dex_script_types.specs.PlainScript.{PlainScript};
 ghost use Rattle.dex_script_types.specs.Facts.{IsScript};
 ghost use Rattle.dex_worth.specs.Rows.{plain_row};
-ghost use Rattle.dex_answers.specs.Answers.{Answers};
+ghost use Rattle.dex_answers.specs.Answers.{AnswersWithin};
 ghost use Rattle.dex_answers.specs.Telling.{IsText};
 ghost use Rattle.dex_answers.specs.Told.{text_of};
 ghost use Rattle.dex_answers.specs.declared.status.Status.TheVariants as status;
@@ -20,17 +21,22 @@ ghost use Rattle.dex_answers.specs.declared.status.Status.TheVariants as status;
 use dex_answers::{Status, StatusText, no_script};
 use dex_replay::laws::without_swaps_rows_act_one_by_one;
 use dex_replay::replay_with_rows;
-use dex_script::read_script;
+use dex_script::read_script_within;
 use dex_state::Outcome;
-use dex_types::{NoMemory, Row};
+use dex_types::{Limits, NoMemory, Row};
 use dex_worth::{WorthRow, worth_table, worth_text};
 use std::alloc::Global;
 
-/// The worth of each account when all rows of a script have acted, or why the bytes are no script.
-pub(crate) fn worth_answer(alloc: Global, bytes: &[u8]) -> Result<StatusText, NoMemory>
-    ensures { IfOk result (λ told. Answers Worth bytes.now told.status (text_of told)) }
+/// The worth of each account when all rows of a script have acted, or why the bytes are no script within these limits.
+pub(crate) fn worth_answer(
+    alloc: Global,
+    bytes: &[u8],
+    limits: &Limits,
+) -> Result<StatusText, NoMemory>
+    requires { AreLimits limits.now }
+    ensures { IfOk result (λ told. AnswersWithin limits.now Worth bytes.now told.status (text_of told)) }
 {
-    match read_script(alloc, bytes, false) {
+    match read_script_within(alloc, bytes, false, limits) {
         Ok(script) => {
             let markets = script.start.markets.len();
             let (outcome, rows) = replay_with_rows(alloc, script)?;

@@ -2,6 +2,8 @@
 use Rattle.std.proofs.Common.{◌≡◌, ◌∙◌, ℕ, ℤ, get_or, map, ◌+◌, ◌-◌, ◌^◌, ◌≤◌, ◌<◌, ◌||◌, ◌==◌, Bool, true, false, max, nat_le, List, [], ◌∷◌, ◌++◌, All, Option, Some, None, Result, Ok, Err, ap, append_assoc, arith, length, refl, subst, sym}
 use Rattle.std.specs.List.{position}
 use Rattle.std.proofs.lemmas.Option.{none-some}
+use Rattle.dex_types.specs.declared.limits.Limits.{Limits}
+use Rattle.dex_types.specs.declared.limits.TheConstants.{WIDE}
 use Rattle.dex_types.specs.declared.account_bytes.MarketAccounts.{MarketAccounts}
 use Rattle.dex_types.specs.Rows.{PlainRow}
 use Rattle.dex_statement.specs.declared.faults.FaultKind.{FaultKind}
@@ -74,7 +76,7 @@ block-more block after row is more start program =
       read = ap (λ d. draft_after d is.first (is.rows ++ row ∷ [])) (ap (λ s. no_rows_of s after.script.program is.clock) start ∙ ap (λ p. no_rows_of block.draft.script.start p is.clock) program)
           ∙ read-more (no_rows_of block.draft.script.start block.draft.script.program is.clock) is.first is.rows block.draft after row is.read here;
       next = ap next_number is.next ∙ sym (number-more is.first is.rows row);
-      start = subst IsStart (sym start) is.start;
+      start = subst (IsStart WIDE) (sym start) is.start;
     }
 
 -- ---- a block is a script so far
@@ -84,17 +86,15 @@ is-script block is =
     let first = no_rows_of block.draft.script.start block.draft.script.program is.clock in
     let given : Ok block.draft.script ≡ script_from first is.first is.rows =
     sym (ap (λ (r : Result PlainDraft Refusal). r >>= λ last. Ok last.script) is.read) in
-    record {
-      start = is.start;
-      rows = (from-rows is.first first is.rows block.draft.script (first-good is.first first refl refl refl is.small) given).rows;
-    }
+    let gives = from-rows is.first first is.rows block.draft.script (first-good is.first first refl refl refl is.small) given in
+    record { start = subst (λ (l : Limits). IsStart l block.draft.script.start) (sym gives.limits) is.start; rows = gives.rows }
 
 -- ---- blocks as the code makes them
 
-pub fresh-block : (start : PlainAccounts) (program : Program) (clock : ℤ) (number : ℕ) (rows : List PlainRow) → rows ≡ [] → number ≤ 2 ^ 32 - 1 → IsStart start
+pub fresh-block : (start : PlainAccounts) (program : Program) (clock : ℤ) (number : ℕ) (rows : List PlainRow) → rows ≡ [] → number ≤ 2 ^ 32 - 1 → IsStart WIDE start
     → IsBlock (record {
       draft = record {
-        script = record { start = start; rows = rows; lanes = 1; program = program };
+        script = record { start = start; rows = rows; lanes = 1; program = program; limits = WIDE };
         taken = [];
         clock = clock;
         is_first = false;
@@ -175,7 +175,7 @@ number-small number (row ∷ rows) small = number-small (next_number number) row
 
 pub next-is : (block : PlainBlock) → IsBlock block → is_full block.draft block.number ≡ false → next_number block.number ≡ block.number + 1
 next-is block is room =
-    let other : block.number ≡ 2 ^ 32 - 1 → ⊥ = eqb-false block.number (2 ^ 32 - 1) (or-none (nat_le 100000 block.draft.items) (block.number == 2 ^ 32 - 1) room).1 in
+    let other : block.number ≡ 2 ^ 32 - 1 → ⊥ = eqb-false block.number (2 ^ 32 - 1) (or-none (nat_le block.draft.script.limits.items block.draft.items) (block.number == 2 ^ 32 - 1) room).1 in
     let small : block.number ≤ 2 ^ 32 - 1 = rw is.next (number-small is.first is.rows is.small) in
     omega (arith, other, small)
 

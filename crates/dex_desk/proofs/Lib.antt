@@ -6,5 +6,6 @@ mod AskLaws
 mod BookLaws
 mod TalkLaws
 mod LineLaws
+mod CallLaws
 mod SessionLaws
 mod WholeLaws

@@ -29,6 +29,15 @@ went-on rows more before between after old mid new one two = record {
   said = two.said ∙ ap (λ (l : List ℕ). l ++ text_said two.steps) one.said ∙ append_assoc old (text_said one.steps) (text_said two.steps) ∙ ap (λ (l : List ℕ). old ++ l) (sym (flat_map-append said_at one.steps two.steps));
 }
 
+-- behind what was said before
+pub went-behind : (rows : List Fields) (before after : PlainBlock) (said old new : List ℕ) → Went rows before after old new → Went rows before after (said ++ old) (said ++ new)
+went-behind rows before after said old new went = record {
+  steps = went.steps;
+  are = went.are;
+  taken = went.taken;
+  said = ap (λ (l : List ℕ). said ++ l) went.said ∙ sym (append_assoc said old (text_said went.steps));
+}
+
 -- rows acted
 pub went-acted : (before after : PlainBlock) (old new : List ℕ) → ActedIn before after old new → Went [] before after old new
 went-acted before after old new acted = record {

@@ -69,7 +69,7 @@ talked-turn (Some old) new turn x y is told = (turn ∷ [], is, (x, y, went-stil
 
 -- what was heard
 pub talked-heard : (old new : Option (List Turn)) (bytes : List ℕ) (session : Session) → new ≡ and_then old (Heard bytes) → IsListening session
-    → length (heard_so_far session) ≤ 67108864 → Talked old new (talk session []) (talk (heard bytes session) [])
+    → length (heard_so_far session) ≤ 1099511627776 → Talked old new (talk session []) (talk (heard bytes session) [])
 talked-heard old new bytes session is listens few =
     talked-turn old new (Heard bytes) (talk session []) (talk (heard bytes session) []) is (refl, listens, refl, few)
 

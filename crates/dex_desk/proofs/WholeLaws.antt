@@ -5,6 +5,7 @@ use Rattle.std.proofs.lemmas.Bool.{eqb-false, eqb-true}
 use Rattle.std.proofs.lemmas.List.{append-nil, map-append}
 use Rattle.std.proofs.lemmas.List.Concat.{flat_map-append}
 use Rattle.std.proofs.lemmas.List.Elements.{All-append, All-nil, All-push, All-weaker}
+use Rattle.dex_types.specs.declared.limits.TheConstants.{WIDE}
 use Rattle.dex_types.specs.declared.terms.Program.{Program}
 use Rattle.dex_types.specs.Rows.{PlainRow}
 use Rattle.dex_rows.specs.Records.{rows_of}
@@ -23,10 +24,10 @@ use Rattle.dex_replay.specs.Replays.{IsReplayOf}
 use Rattle.dex_script.specs.Drafts.{PlainDraft, behind_dump, no_rows}
 use Rattle.dex_script.specs.Pieces.{number_after}
 use Rattle.dex_script.specs.Rows.{instruction_row, is_full, with_instruction, with_item, with_row, with_swap}
-use Rattle.dex_script.specs.Scripts.{AnswersBy, Reads, Refusal, begins_with_dump, behind, draft_after, script_from, unless_found}
+use Rattle.dex_script.specs.Scripts.{AnswersBy, ReadsWithin, Refusal, begins_with_dump, behind, draft_after, script_from, unless_found}
 use Rattle.dex_script.proofs.FaultLaws.{bind-ok, ok-same, or-none}
 use Rattle.dex_script.proofs.ItemRows.{first_leg, instruction-row, second_leg, swap-row}
-use Rattle.dex_script.proofs.OrderLaws.{by-row, first-row, last_script}
+use Rattle.dex_script.proofs.OrderLaws.{by-row, first-row, last_script, read-limits}
 use Rattle.dex_script_types.specs.PlainScript.{PlainScript}
 use Rattle.dex_state.specs.Outcomes.{PlainOutcome}
 use Rattle.dex_desk.specs.declared.ends.Over.{Over}
@@ -36,13 +37,14 @@ use Rattle.dex_desk.specs.Asking.PlainAsked.{Dumps, Instructs, Sets as SetsTime,
 use Rattle.dex_desk.specs.Blocks.{PlainBlock, behind_row, with_both, with_time, with_words}
 use Rattle.dex_desk.specs.Replies.{Acted, ActedIn, HadNone, HaveActed}
 use Rattle.dex_desk.specs.SetUps.{IsOpened}
-use Rattle.dex_desk.specs.Steps.{Added, AreSteps, IsStepBy, PlainStep, SaidBehind, SaidIn, TookBy, Went, row_taken, rows_taken, text_said, told_row}
+use Rattle.dex_desk.specs.Steps.{Added, AreSteps, IsStepBy, PlainStep, SaidBehind, SaysDump, TookBy, Went, text_said}
 use Rattle.dex_desk.specs.Talks.{Does, DoesAll, DoesBy, EndsWell, HasNoEnd, IsListening, Session, Stops, StopsBy, Talk, Talks, first, heard, last_line, is_opening, open_line}
 use Rattle.dex_desk.specs.Talks.Session.{Closes, Ended, Serves, Sets}
 use Rattle.dex_desk.specs.Turns.{Turn}
 use Rattle.dex_desk.specs.Turns.Turn.{Heard, Said}
-use Rattle.dex_desk.specs.Whole.{AreAmong, AreAsked, AreLinked, HasEnded, HasRefused, IsHeard, IsOneReplay, IsRefused, IsWhole, PlainHeard, PlainPart, PlainRefused, answers_in, ended, heard_in, last_rows, left_in, rows_asked, rows_in, said_in, with_rows}
+use Rattle.dex_desk.specs.Whole.{AreAmong, AreLinked, HasEnded, HasRefused, HasTaken, IsHeard, IsOneReplay, IsRefused, IsWhole, PlainHeard, PlainPart, PlainRefused, accepted_by, accepted_in, accepted_of, answers_in, ended, heard_in, last_rows, left_in, rows_in, said_in, where_taken, with_rows}
 use Rattle.dex_desk.proofs.BlockLaws.{number-small}
+use Rattle.dex_desk.proofs.StepLaws.{went-acted, went-behind, went-none, went-on}
 
 -- ---- parts
 
@@ -103,189 +105,102 @@ below-more : (low next : ℕ) (rows : List PlainRow) → low ≤ next → AreBel
 below-more low next rows later below =
     All-weaker (λ (row : PlainRow). row.number < low) (λ (row : PlainRow). row.number < next) (λ row less. omega (arith, later, less)) rows below
 
--- ---- rows that were asked for
+-- ---- what is so of a block at any time
 
-asked-skip : (fields : List Fields) (rows : List PlainRow) (row : Fields) → AreAsked fields rows → AreAsked (fields ++ row ∷ []) rows
-asked-skip [] rows row are = inl are
-asked-skip (one ∷ fields) rows row (inl skips) = inl (asked-skip fields rows row skips)
-asked-skip (one ∷ fields) rows row (inr some) = inr (some.0, some.1, some.2, some.3, asked-skip fields some.2 row some.4)
-
-asked-push : (fields : List Fields) (rows : List PlainRow) (row : Fields) (number : ℕ) (clock : ℤ) → AreAsked fields rows
-    → AreAsked (fields ++ row ∷ []) (rows ++ rows_asked (asked_of row) number clock)
-asked-push [] rows row number clock are =
-    let new = rows_asked (asked_of row) number clock in
-    inr (number, clock, [], ap (λ (l : List PlainRow). l ++ new) are ∙ sym (append-nil new), refl)
-asked-push (one ∷ fields) rows row number clock (inl skips) = inl (asked-push fields rows row number clock skips)
-asked-push (one ∷ fields) rows row number clock (inr some) =
-    let new = rows_asked (asked_of row) number clock in
-    inr (
-      some.0,
-      some.1,
-      some.2 ++ new,
-      ap (λ (l : List PlainRow). l ++ new) some.3 ∙ append_assoc (rows_asked (asked_of one) some.0 some.1) some.2 new,
-      asked-push fields some.2 row number clock some.4,
-    )
-
--- ---- what is so of a desk at any time
-
--- all that was heard, where no row of the rest was taken
-abbrev here : List ℕ → List ℕ → PlainHeard
-here text rest = record { text = text; rest = rest; more = [] }
-
--- these rows of the rest were taken too
-abbrev behind_rows : PlainHeard → List Fields → PlainHeard
-behind_rows at rows = record { text = at.text; rest = at.rest; more = at.more ++ rows }
-
-record Since (at : PlainHeard) (block : PlainBlock) (said : List ℕ) : Type 0 where
-  one : IsOneReplay at block.draft.script.start block.draft.script.rows said
-  program : block.draft.script.program ≡ one.script.program
+-- behind what a script left, rows that were accepted have acted in parts, or are still to act
+record Since (script : PlainScript) (begin : PlainOutcome) (accepted : List PlainRow) (block : PlainBlock) (said : List ℕ) : Type 0 where
+  parts : List PlainPart
+  rows : rows_in parts ++ block.draft.script.rows ≡ accepted
+  links : AreLinked script.program begin.accounts parts
+  replay : IsReplayOf (with_rows script (rows_in parts)) (left_in begin parts)
+  left : block.draft.script.start ≡ (left_in begin parts).accounts
+  told : AreAmong (map answers_in parts) said
+  program : block.draft.script.program ≡ script.program
+  limits : block.draft.script.limits ≡ script.limits
   low : ℕ
-  done : AreBelow low (one.script.rows ++ rows_in one.parts)
+  done : AreBelow low (script.rows ++ rows_in parts)
   above : AreFrom low block.draft.script.rows
   below : AreBelow block.number block.draft.script.rows
   wide : low ≤ block.number
   small : block.number ≤ 2 ^ 32 - 1
 
-more-said : (at : PlainHeard) (block : PlainBlock) (said more : List ℕ) → Since at block said → Since at block (said ++ more)
-more-said at block said more since =
-    let one = since.one in
-    record {
-      one = record {
-        set_up = one.set_up;
-        lines = one.lines;
-        is = one.is;
-        script = one.script;
-        reads = one.reads;
-        begin = one.begin;
-        first = one.first;
-        parts = one.parts;
-        asked = one.asked;
-        links = one.links;
-        replay = one.replay;
-        left = one.left;
-        told = among-more (map answers_in one.parts) said more one.told;
-      };
-      program = since.program;
-      low = since.low;
-      done = since.done;
-      above = since.above;
-      below = since.below;
-      wide = since.wide;
-      small = since.small;
-    }
-
--- where more was heard, or was taken that asks for no row
-heard-more : (at next : PlainHeard) (block : PlainBlock) (said : List ℕ) (since : Since at block said) (lines : List (List ℕ))
-    → IsHeard next.text since.one.set_up lines next.rest → AreAsked (flat_map rows_of lines ++ next.more) (rows_in since.one.parts ++ block.draft.script.rows)
-    → Since next block said
-heard-more at next block said since lines is asked =
-    let one = since.one in
-    record {
-      one = record {
-        set_up = one.set_up;
-        lines = lines;
-        is = is;
-        script = one.script;
-        reads = one.reads;
-        begin = one.begin;
-        first = one.first;
-        parts = one.parts;
-        asked = asked;
-        links = one.links;
-        replay = one.replay;
-        left = one.left;
-        told = one.told;
-      };
-      program = since.program;
-      low = since.low;
-      done = since.done;
-      above = since.above;
-      below = since.below;
-      wide = since.wide;
-      small = since.small;
-    }
-
-skipped : (at : PlainHeard) (row : Fields) (block : PlainBlock) (said : List ℕ) → Since at block said → Since (behind_rows at (row ∷ [])) block said
-skipped at row block said since =
-    let one = since.one in
-    let rows = rows_in one.parts ++ block.draft.script.rows in
-    heard-more at (behind_rows at (row ∷ [])) block said since one.lines one.is
-    (subst (λ (l : List Fields). AreAsked l rows) (append_assoc (flat_map rows_of one.lines) at.more (row ∷ []))
-    (asked-skip (flat_map rows_of one.lines ++ at.more) rows row one.asked))
-
-none-taken : (at : PlainHeard) (block : PlainBlock) (said : List ℕ) → Since at block said → Since (behind_rows at []) block said
-none-taken at block said since =
-    let one = since.one in
-    let rows = rows_in one.parts ++ block.draft.script.rows in
-    heard-more at (behind_rows at []) block said since one.lines one.is
-    (subst (λ (l : List Fields). AreAsked (flat_map rows_of one.lines ++ l) rows) (sym (append-nil at.more)) one.asked)
+more-said : (script : PlainScript) (begin : PlainOutcome) (accepted : List PlainRow) (block : PlainBlock) (said more : List ℕ)
+    → Since script begin accepted block said → Since script begin accepted block (said ++ more)
+more-said script begin accepted block said more since = record {
+  parts = since.parts;
+  rows = since.rows;
+  links = since.links;
+  replay = since.replay;
+  left = since.left;
+  told = among-more (map answers_in since.parts) said more since.told;
+  program = since.program;
+  limits = since.limits;
+  low = since.low;
+  done = since.done;
+  above = since.above;
+  below = since.below;
+  wide = since.wide;
+  small = since.small;
+}
 
 -- rows acted
-have-acted : (at : PlainHeard) (block after : PlainBlock) (said answers more : List ℕ) → Since at block said → HaveActed block after answers
-    → Since at after (said ++ (answers ++ more))
-have-acted at block after said answers more since have =
-    let one = since.one in
+have-acted : (script : PlainScript) (begin : PlainOutcome) (accepted : List PlainRow) (block after : PlainBlock) (said answers more : List ℕ)
+    → Since script begin accepted block said → HaveActed block after answers → Since script begin accepted after (said ++ (answers ++ more))
+have-acted script begin accepted block after said answers more since have =
     let rows = block.draft.script.rows in
     let part : PlainPart = record { script = block.draft.script; outcome = have.outcome } in
-    let parts : List PlainPart = one.parts ++ part ∷ [] in
-    let all : one.script.rows ++ rows_in parts ≡ (one.script.rows ++ rows_in one.parts) ++ rows =
-    ap (λ (l : List PlainRow). one.script.rows ++ l) (rows-push one.parts part) ∙ sym (append_assoc one.script.rows (rows_in one.parts) rows) in
-    let whole = with_rows one.script (rows_in parts) in
-    let front = with_rows one.script (rows_in one.parts) in
-    let left : left_in one.begin parts ≡ outcome_behind (left_in one.begin one.parts) have.outcome = left-push one.begin one.parts part in
-    let two : AreTwoParts whole front (left_in one.begin one.parts) block.draft.script =
+    let parts : List PlainPart = since.parts ++ part ∷ [] in
+    let all : script.rows ++ rows_in parts ≡ (script.rows ++ rows_in since.parts) ++ rows =
+    ap (λ (l : List PlainRow). script.rows ++ l) (rows-push since.parts part) ∙ sym (append_assoc script.rows (rows_in since.parts) rows) in
+    let whole = with_rows script (rows_in parts) in
+    let front = with_rows script (rows_in since.parts) in
+    let left : left_in begin parts ≡ outcome_behind (left_in begin since.parts) have.outcome = left-push begin since.parts part in
+    let two : AreTwoParts whole front (left_in begin since.parts) block.draft.script =
     record {
       rows = all;
-      cut = apart since.low (one.script.rows ++ rows_in one.parts) rows since.done since.above;
+      cut = apart since.low (script.rows ++ rows_in since.parts) rows since.done since.above;
       start = refl;
-      goes_on = one.left;
+      goes_on = since.left;
       program = refl;
       same_program = since.program;
+      limits = refl;
+      same_limits = since.limits;
     } in
-    let fields = flat_map rows_of one.lines ++ at.more in
-    let now : rows_in one.parts ++ rows ≡ rows_in parts ++ [] = sym (rows-push one.parts part) ∙ sym (append-nil (rows_in parts)) in
-    subst (λ (b : PlainBlock). Since at b (said ++ (answers ++ more))) (sym have.left)
+    subst (λ (b : PlainBlock). Since script begin accepted b (said ++ (answers ++ more))) (sym have.left)
     (record {
-      one = record {
-        set_up = one.set_up;
-        lines = one.lines;
-        is = one.is;
-        asked = subst (AreAsked fields) now one.asked;
-        script = one.script;
-        reads = one.reads;
-        begin = one.begin;
-        first = one.first;
-        parts = parts;
-        links = linked-push one.script.program one.begin one.parts part one.links one.left since.program have.replay;
-        replay = subst (IsReplayOf whole) (sym left) (two-are-one whole front block.draft.script (left_in one.begin one.parts) have.outcome two one.replay have.replay);
-        left = ap (λ (o : PlainOutcome). o.accounts) (sym left);
-        told = subst (λ (l : List ℕ). AreAmong (map answers_in parts) (said ++ (l ++ more))) (sym have.told)
-            (subst (λ (pieces : List (List ℕ)). AreAmong pieces (said ++ (answers_in part ++ more))) (sym (map-append answers_in one.parts (part ∷ [])))
-            (among-push (map answers_in one.parts) said (answers_in part) more one.told));
-      };
+      parts = parts;
+      rows = append-nil (rows_in parts) ∙ rows-push since.parts part ∙ since.rows;
+      links = linked-push script.program begin since.parts part since.links since.left since.program have.replay;
+      replay = subst (IsReplayOf whole) (sym left) (two-are-one whole front block.draft.script (left_in begin since.parts) have.outcome two since.replay have.replay);
+      left = ap (λ (o : PlainOutcome). o.accounts) (sym left);
+      told = subst (λ (l : List ℕ). AreAmong (map answers_in parts) (said ++ (l ++ more))) (sym have.told)
+          (subst (λ (pieces : List (List ℕ)). AreAmong pieces (said ++ (answers_in part ++ more))) (sym (map-append answers_in since.parts (part ∷ [])))
+          (among-push (map answers_in since.parts) said (answers_in part) more since.told));
       program = since.program;
+      limits = since.limits;
       low = block.number;
       done = subst (AreBelow block.number) (sym all)
-          (All-append (λ (row : PlainRow). row.number < block.number) (one.script.rows ++ rows_in one.parts) rows
-          (below-more since.low block.number (one.script.rows ++ rows_in one.parts) since.wide since.done) since.below);
+          (All-append (λ (row : PlainRow). row.number < block.number) (script.rows ++ rows_in since.parts) rows
+          (below-more since.low block.number (script.rows ++ rows_in since.parts) since.wide since.done) since.below);
       above = All-nil (λ (row : PlainRow). block.number ≤ row.number);
       below = All-nil (λ (row : PlainRow). row.number < block.number);
       wide = omega arith;
       small = since.small;
     })
 
-acted : (at : PlainHeard) (block after : PlainBlock) (said answers more : List ℕ) → Since at block said → Acted block after answers
-    → Since at after (said ++ (answers ++ more))
-acted at block after said answers more since is =
+acted : (script : PlainScript) (begin : PlainOutcome) (accepted : List PlainRow) (block after : PlainBlock) (said answers more : List ℕ)
+    → Since script begin accepted block said → Acted block after answers → Since script begin accepted after (said ++ (answers ++ more))
+acted script begin accepted block after said answers more since is =
     ⊎_elim
     (λ (none : HadNone block after answers).
-    subst (λ (b : PlainBlock). Since at b (said ++ (answers ++ more))) (sym none.same) (more-said at block said (answers ++ more) since))
-    (λ (have : HaveActed block after answers). have-acted at block after said answers more since have) is
+    subst (λ (b : PlainBlock). Since script begin accepted b (said ++ (answers ++ more))) (sym none.same)
+    (more-said script begin accepted block said (answers ++ more) since))
+    (λ (have : HaveActed block after answers). have-acted script begin accepted block after said answers more since have) is
 
-said-behind : (at : PlainHeard) (block after : PlainBlock) (said text new : List ℕ) → Since at block said → SaidBehind block after text new
-    → Since at after (said ++ new)
-said-behind at block after said text new since is =
-    subst (λ (l : List ℕ). Since at after (said ++ l)) (sym is.is) (acted at block after said is.answers text since is.acted)
+behind-answers : (script : PlainScript) (begin : PlainOutcome) (accepted : List PlainRow) (block after : PlainBlock) (said text new : List ℕ)
+    → Since script begin accepted block said → SaidBehind block after text new → Since script begin accepted after (said ++ new)
+behind-answers script begin accepted block after said text new since is =
+    subst (λ (l : List ℕ). Since script begin accepted after (said ++ l)) (sym is.is) (acted script begin accepted block after said is.answers text since is.acted)
 
 -- no row is left where rows acted
 none-left : (block after : PlainBlock) (answers : List ℕ) → Acted block after answers → after.draft.script.rows ≡ []
@@ -296,40 +211,23 @@ none-left block after answers is =
 -- ---- rows that are accepted
 
 -- the block with rows of its number more
-grown : (at : PlainHeard) (row : Fields) (block after : PlainBlock) (said : List ℕ) (rows : List PlainRow) (lane : ℕ) → Since at block said
-    → rows ≡ rows_asked (asked_of row) block.number block.draft.clock → is_full block.draft block.number ≡ false
-    → All (λ (r : PlainRow). r.number ≡ block.number) rows → after ≡ record { draft = with_item block.draft rows lane; number = next_number block.number }
-    → Since (behind_rows at (row ∷ [])) after said
-grown at row block after said rows lane since asks room same is =
-    let one = since.one in
-    let other : block.number ≡ 2 ^ 32 - 1 → ⊥ = eqb-false block.number (2 ^ 32 - 1) (or-none (nat_le 100000 block.draft.items) (block.number == 2 ^ 32 - 1) room).1 in
+grown : (script : PlainScript) (begin : PlainOutcome) (accepted : List PlainRow) (block after : PlainBlock) (said : List ℕ) (rows : List PlainRow) (lane : ℕ)
+    → Since script begin accepted block said → is_full block.draft block.number ≡ false → All (λ (r : PlainRow). r.number ≡ block.number) rows
+    → after ≡ record { draft = with_item block.draft rows lane; number = next_number block.number } → Since script begin (accepted ++ rows) after said
+grown script begin accepted block after said rows lane since room same is =
+    let other : block.number ≡ 2 ^ 32 - 1 → ⊥ = eqb-false block.number (2 ^ 32 - 1) (or-none (nat_le block.draft.script.limits.items block.draft.items) (block.number == 2 ^ 32 - 1) room).1 in
     let next : next_number block.number ≡ block.number + 1 = omega (arith, other, since.small) in
     let old = block.draft.script.rows in
-    let fields = flat_map rows_of one.lines in
-    let pushed : AreAsked ((fields ++ at.more) ++ row ∷ []) ((rows_in one.parts ++ old) ++ rows) =
-    subst (λ (l : List PlainRow). AreAsked ((fields ++ at.more) ++ row ∷ []) ((rows_in one.parts ++ old) ++ l)) (sym asks)
-    (asked-push (fields ++ at.more) (rows_in one.parts ++ old) row block.number block.draft.clock one.asked) in
-    let asked : AreAsked (fields ++ (at.more ++ row ∷ [])) (rows_in one.parts ++ (old ++ rows)) =
-    subst (λ (l : List Fields). AreAsked l (rows_in one.parts ++ (old ++ rows))) (append_assoc fields at.more (row ∷ []))
-    (subst (AreAsked ((fields ++ at.more) ++ row ∷ [])) (append_assoc (rows_in one.parts) old rows) pushed) in
-    subst (λ (b : PlainBlock). Since (behind_rows at (row ∷ [])) b said) (sym is)
+    subst (λ (b : PlainBlock). Since script begin (accepted ++ rows) b said) (sym is)
     (record {
-      one = record {
-        set_up = one.set_up;
-        lines = one.lines;
-        is = one.is;
-        script = one.script;
-        reads = one.reads;
-        begin = one.begin;
-        first = one.first;
-        parts = one.parts;
-        asked = asked;
-        links = one.links;
-        replay = one.replay;
-        left = one.left;
-        told = one.told;
-      };
+      parts = since.parts;
+      rows = sym (append_assoc (rows_in since.parts) old rows) ∙ ap (λ (l : List PlainRow). l ++ rows) since.rows;
+      links = since.links;
+      replay = since.replay;
+      left = since.left;
+      told = since.told;
       program = since.program;
+      limits = since.limits;
       low = since.low;
       done = since.done;
       above = All-append (λ (r : PlainRow). since.low ≤ r.number) old rows since.above
@@ -341,36 +239,44 @@ grown at row block after said rows lane since asks room same is =
       small = omega arith;
     })
 
-with-instruction : (at : PlainHeard) (row : Fields) (block after : PlainBlock) (said : List ℕ) (words : PlainInstruction) → asked_of row ≡ Ok (Instructs words)
-    → Since at block said → with_words block words ≡ Ok after → Since (behind_rows at (row ∷ [])) after said
-with-instruction at row block after said words asks since is =
+with-instruction : (script : PlainScript) (begin : PlainOutcome) (accepted : List PlainRow) (block after : PlainBlock) (said : List ℕ) (words : PlainInstruction)
+    → Since script begin accepted block said → with_words block words ≡ Ok after
+    → Since script begin (accepted ++ instruction_row block.number block.draft.clock words ∷ []) after said
+with-instruction script begin accepted block after said words since is =
     let a = bind-ok (with_instruction block.draft block.number words) (behind_row block) after is in
     let kept = instruction-row block.number block.draft a.0 words a.1 in
     let made : after ≡ record { draft = a.0; number = next_number block.number } = sym (ok-same {E = FaultKind} _ after a.2) in
-    grown at row block after said (instruction_row block.number block.draft.clock words ∷ []) words.lane since
-    (ap (λ (r : Result PlainAsked FaultKind). rows_asked r block.number block.draft.clock) (sym asks)) kept.room
+    grown script begin accepted block after said (instruction_row block.number block.draft.clock words ∷ []) words.lane since kept.room
     (All-push (λ (r : PlainRow). r.number ≡ block.number) [] (instruction_row block.number block.draft.clock words) (All-nil (λ (r : PlainRow). r.number ≡ block.number)) refl)
     (made ∙ ap (λ (d : PlainDraft). record { draft = d; number = next_number block.number }) (sym kept.is))
 
-with-legs : (at : PlainHeard) (row : Fields) (block after : PlainBlock) (said : List ℕ) (words : PlainSwap) → asked_of row ≡ Ok (Swaps words)
-    → Since at block said → with_both block words ≡ Ok after → Since (behind_rows at (row ∷ [])) after said
-with-legs at row block after said words asks since is =
+with-legs : (script : PlainScript) (begin : PlainOutcome) (accepted : List PlainRow) (block after : PlainBlock) (said : List ℕ) (words : PlainSwap)
+    → Since script begin accepted block said → with_both block words ≡ Ok after
+    → Since script begin
+    (accepted ++ instruction_row block.number block.draft.clock (first_leg words) ∷ instruction_row block.number block.draft.clock (second_leg words) ∷ []) after said
+with-legs script begin accepted block after said words since is =
     let a = bind-ok (with_swap block.draft block.number words) (behind_row block) after is in
     let kept = swap-row block.number block.draft a.0 words a.1 in
     let made : after ≡ record { draft = a.0; number = next_number block.number } = sym (ok-same {E = FaultKind} _ after a.2) in
     let one = instruction_row block.number block.draft.clock (first_leg words) in
     let other = instruction_row block.number block.draft.clock (second_leg words) in
     let Same : PlainRow → Type 0 = λ (r : PlainRow). r.number ≡ block.number in
-    grown at row block after said (one ∷ other ∷ []) words.lane since
-    (ap (λ (r : Result PlainAsked FaultKind). rows_asked r block.number block.draft.clock) (sym asks)) kept.room
+    grown script begin accepted block after said (one ∷ other ∷ []) words.lane since kept.room
     (All-push Same (one ∷ []) other (All-push Same [] one (All-nil Same) refl) refl)
     (made ∙ ap (λ (d : PlainDraft). record { draft = d; number = next_number block.number }) (sym kept.is))
 
 -- behind a `clock` row
-later : (at : PlainHeard) (block : PlainBlock) (now : ℤ) (said : List ℕ) → Since at block said → Since at (with_time block now) said
-later at block now said since = record {
-  one = since.one;
+later : (script : PlainScript) (begin : PlainOutcome) (accepted : List PlainRow) (block : PlainBlock) (now : ℤ) (said : List ℕ)
+    → Since script begin accepted block said → Since script begin accepted (with_time block now) said
+later script begin accepted block now said since = record {
+  parts = since.parts;
+  rows = since.rows;
+  links = since.links;
+  replay = since.replay;
+  left = since.left;
+  told = since.told;
   program = since.program;
+  limits = since.limits;
   low = since.low;
   done = since.done;
   above = since.above;
@@ -381,65 +287,59 @@ later at block now said since = record {
 
 -- ---- steps
 
-added : (at : PlainHeard) (row : Fields) (meant : Result PlainBlock FaultKind) (block : PlainBlock) (said : List ℕ) (step : PlainStep) → Since at block said
-    → ((after : PlainBlock) → meant ≡ Ok after → Since (behind_rows at (row ∷ [])) after said) → Added meant block step
-    → Since (behind_rows at (row ∷ [])) step.after (said ++ step.said)
-added at row (Ok after) block said step since more is =
-    subst (λ (b : PlainBlock). Since (behind_rows at (row ∷ [])) b (said ++ step.said)) (sym is.1)
-    (more-said (behind_rows at (row ∷ [])) after said step.said (more after refl))
-added at row (Err kind) block said step since more is =
-    skipped at row step.after (said ++ step.said) (said-behind at block step.after said _ step.said since is)
+-- a row that was not accepted
+none-more : (script : PlainScript) (begin : PlainOutcome) (accepted : List PlainRow) (block : PlainBlock) (said : List ℕ)
+    → Since script begin accepted block said → Since script begin (accepted ++ []) block said
+none-more script begin accepted block said since = subst (λ (l : List PlainRow). Since script begin l block said) (sym (append-nil accepted)) since
 
-took : (at : PlainHeard) (row : Fields) (asked : Result PlainAsked FaultKind) (block : PlainBlock) (said : List ℕ) (step : PlainStep) → asked_of row ≡ asked
-    → Since at block said → TookBy asked block step → Since (behind_rows at (row ∷ [])) step.after (said ++ step.said)
-took at row (Ok (Instructs words)) block said step asks since is =
-    added at row (with_words block words) block said step since (λ after same. with-instruction at row block after said words asks since same) is
-took at row (Ok (Swaps words)) block said step asks since is =
-    added at row (with_both block words) block said step since (λ after same. with-legs at row block after said words asks since same) is
-took at row (Ok (SetsTime now)) block said step asks since is =
-    skipped at row step.after (said ++ step.said)
-    (subst (λ (b : PlainBlock). Since at b (said ++ step.said)) (sym is.2) (later at is.0 now (said ++ step.said) (said-behind at block is.0 said _ step.said since is.1)))
-took at row (Ok (Shows market depth)) block said step asks since is =
-    skipped at row step.after (said ++ step.said) (said-behind at block step.after said _ step.said since is)
-took at row (Ok Dumps) block said step asks since is =
-    skipped at row step.after (said ++ step.said) (said-behind at block step.after said _ step.said since is)
-took at row (Err kind) block said step asks since is =
-    skipped at row step.after (said ++ step.said) (said-behind at block step.after said _ step.said since is)
+added : (script : PlainScript) (begin : PlainOutcome) (accepted rows : List PlainRow) (meant : Result PlainBlock FaultKind) (block : PlainBlock) (said : List ℕ) (step : PlainStep)
+    → Since script begin accepted block said → ((after : PlainBlock) → meant ≡ Ok after → Since script begin (accepted ++ rows) after said) → Added meant block step
+    → Since script begin (accepted ++ where_taken meant rows) step.after (said ++ step.said)
+added script begin accepted rows (Ok after) block said step since more is =
+    subst (λ (b : PlainBlock). Since script begin (accepted ++ rows) b (said ++ step.said)) (sym is.1)
+    (more-said script begin (accepted ++ rows) after said step.said (more after refl))
+added script begin accepted rows (Err kind) block said step since more is =
+    none-more script begin accepted step.after (said ++ step.said) (behind-answers script begin accepted block step.after said _ step.said since is)
 
-stepped : (at : PlainHeard) (row : Option Fields) (block : PlainBlock) (said : List ℕ) (step : PlainStep) → Since at block said → IsStepBy row block step
-    → Since (behind_rows at (told_row row)) step.after (said ++ step.said)
-stepped at None block said step since is =
-    none-taken at step.after (said ++ step.said)
-    (subst (λ (l : List ℕ). Since at step.after (said ++ l)) (append-nil step.said) (acted at block step.after said step.said [] since is))
-stepped at (Some row) block said step since is = took at row (asked_of row) block said step refl since is
+took : (script : PlainScript) (begin : PlainOutcome) (accepted : List PlainRow) (asked : Result PlainAsked FaultKind) (block : PlainBlock) (said : List ℕ) (step : PlainStep)
+    → Since script begin accepted block said → TookBy asked block step → Since script begin (accepted ++ accepted_by block asked) step.after (said ++ step.said)
+took script begin accepted (Ok (Instructs words)) block said step since is =
+    added script begin accepted (instruction_row block.number block.draft.clock words ∷ []) (with_words block words) block said step since
+    (λ after same. with-instruction script begin accepted block after said words since same) is
+took script begin accepted (Ok (Swaps words)) block said step since is =
+    added script begin accepted
+    (instruction_row block.number block.draft.clock (first_leg words) ∷ instruction_row block.number block.draft.clock (second_leg words) ∷ [])
+    (with_both block words) block said step since (λ after same. with-legs script begin accepted block after said words since same) is
+took script begin accepted (Ok (SetsTime now)) block said step since is =
+    none-more script begin accepted step.after (said ++ step.said)
+    (subst (λ (b : PlainBlock). Since script begin accepted b (said ++ step.said)) (sym is.2)
+    (later script begin accepted is.0 now (said ++ step.said) (behind-answers script begin accepted block is.0 said _ step.said since is.1)))
+took script begin accepted (Ok (Shows market depth)) block said step since is =
+    none-more script begin accepted step.after (said ++ step.said) (behind-answers script begin accepted block step.after said _ step.said since is)
+took script begin accepted (Ok Dumps) block said step since is =
+    none-more script begin accepted step.after (said ++ step.said) (behind-answers script begin accepted block step.after said _ step.said since is)
+took script begin accepted (Err kind) block said step since is =
+    none-more script begin accepted step.after (said ++ step.said) (behind-answers script begin accepted block step.after said _ step.said since is)
 
-steps-on : (at : PlainHeard) (block : PlainBlock) (steps : List PlainStep) (after : PlainBlock) (said : List ℕ) → Since at block said
-    → AreSteps block steps after → Since (behind_rows at (rows_taken steps)) after (said ++ text_said steps)
-steps-on at block [] after said since are =
-    none-taken at after (said ++ []) (subst (λ (b : PlainBlock). Since at b (said ++ [])) (sym are) (more-said at block said [] since))
-steps-on at block (step ∷ steps) after said since are =
-    let next = behind_rows at (row_taken step) in
-    let rest : Since (behind_rows next (rows_taken steps)) after ((said ++ step.said) ++ text_said steps) =
-    steps-on next step.after steps after (said ++ step.said) (stepped at step.row block said step since are.0) are.1 in
-    subst (λ (l : List Fields). Since (record { text = at.text; rest = at.rest; more = l }) after (said ++ (step.said ++ text_said steps)))
-    (append_assoc at.more (row_taken step) (rows_taken steps))
-    (subst (λ (l : List ℕ). Since (behind_rows next (rows_taken steps)) after l) (append_assoc said step.said (text_said steps)) rest)
+stepped : (script : PlainScript) (begin : PlainOutcome) (accepted : List PlainRow) (row : Option Fields) (block : PlainBlock) (said : List ℕ) (step : PlainStep)
+    → Since script begin accepted block said → IsStepBy row block step → Since script begin (accepted ++ accepted_of block row) step.after (said ++ step.said)
+stepped script begin accepted None block said step since is =
+    none-more script begin accepted step.after (said ++ step.said)
+    (subst (λ (l : List ℕ). Since script begin accepted step.after (said ++ l)) (append-nil step.said)
+    (acted script begin accepted block step.after said step.said [] since is))
+stepped script begin accepted (Some row) block said step since is = took script begin accepted (asked_of row) block said step since is
 
--- what was said already, and what is still to be said
-went : (at : PlainHeard) (rows : List Fields) (block after : PlainBlock) (said old new : List ℕ) → Since at block (said ++ old)
-    → Went rows block after old new → Since (behind_rows at rows) after (said ++ new)
-went at rows block after said old new since is =
-    subst (λ (l : List Fields). Since (behind_rows at l) after (said ++ new)) is.taken
-    (subst (λ (l : List ℕ). Since (behind_rows at (rows_taken is.steps)) after l)
-    (append_assoc said old (text_said is.steps) ∙ ap (λ (l : List ℕ). said ++ l) (sym is.said))
-    (steps-on at block is.steps after (said ++ old) since is.are))
-
-acted-in : (at : PlainHeard) (block after : PlainBlock) (said old new : List ℕ) → Since at block (said ++ old) → ActedIn block after old new
-    → Since at after (said ++ new)
-acted-in at block after said old new since is =
-    subst (λ (l : List ℕ). Since at after l)
-    (ap (λ (l : List ℕ). (said ++ old) ++ l) (append-nil is.said) ∙ append_assoc said old is.said ∙ ap (λ (l : List ℕ). said ++ l) (sym is.text))
-    (acted at block after (said ++ old) is.said [] since is.acted)
+steps-on : (script : PlainScript) (begin : PlainOutcome) (accepted : List PlainRow) (block : PlainBlock) (steps : List PlainStep) (after : PlainBlock) (said : List ℕ)
+    → Since script begin accepted block said → AreSteps block steps after → Since script begin (accepted ++ accepted_in block steps) after (said ++ text_said steps)
+steps-on script begin accepted block [] after said since are =
+    none-more script begin accepted after (said ++ [])
+    (subst (λ (b : PlainBlock). Since script begin accepted b (said ++ [])) (sym are) (more-said script begin accepted block said [] since))
+steps-on script begin accepted block (step ∷ steps) after said since are =
+    let new = accepted_of block step.row in
+    let rest = steps-on script begin (accepted ++ new) step.after steps after (said ++ step.said)
+    (stepped script begin accepted step.row block said step since are.0) are.1 in
+    subst (λ (l : List PlainRow). Since script begin l after (said ++ (step.said ++ text_said steps))) (append_assoc accepted new (accepted_in step.after steps))
+    (subst (λ (l : List ℕ). Since script begin ((accepted ++ new) ++ accepted_in step.after steps) after l) (append_assoc said step.said (text_said steps)) rest)
 
 -- ---- a set-up
 
@@ -470,7 +370,7 @@ next-numbered number before after fields is =
     with-rows : (rows : List PlainRow) (lane : ℕ) → is_full before number ≡ false → All Same rows → with_item before rows lane ≡ after
         → IsNumbered (next_number number) after
     with-rows rows lane room same made =
-        let other : number ≡ 2 ^ 32 - 1 → ⊥ = eqb-false number (2 ^ 32 - 1) (or-none (nat_le 100000 before.items) (number == 2 ^ 32 - 1) room).1 in
+        let other : number ≡ 2 ^ 32 - 1 → ⊥ = eqb-false number (2 ^ 32 - 1) (or-none (nat_le before.script.limits.items before.items) (number == 2 ^ 32 - 1) room).1 in
         let next : next_number number ≡ number + 1 = omega (arith, other, is.small) in
         subst (IsNumbered (next_number number)) made
         (record {
@@ -511,48 +411,41 @@ none-found : {A : Type 0} (found : List Finding) (next : Result A Refusal) (x : 
 none-found [] next x is = is
 none-found (finding ∷ found) next x is = absurd (cc)
 
-script-below : (text : List ℕ) (script : PlainScript) → Reads false text script → AreBelow (number_after 1 (rows_of text)) script.rows
+script-below : (text : List ℕ) (script : PlainScript) → ReadsWithin WIDE false text script → AreBelow (number_after 1 (rows_of text)) script.rows
 script-below text script reads = by (rows_of text) (begins_with_dump (rows_of text)) reads
   where
-    behind-dump : (rows : List Fields) (dump : PlainAnswer) → AnswersDump rows dump → Ok script ≡ behind false dump → AreBelow (number_after 1 rows) script.rows
+    behind-dump : (rows : List Fields) (dump : PlainAnswer) → AnswersDump WIDE rows dump → Ok script ≡ behind WIDE false dump → AreBelow (number_after 1 rows) script.rows
     behind-dump rows (Err fault) told is = absurd (cc)
     behind-dump [] (Ok dump) told is = absurd (cc)
     behind-dump (row ∷ rows) (Ok dump) told is =
-        let draft = behind_dump false dump.accounts in
+        let draft = behind_dump WIDE false dump.accounts in
         let a = none-found (findings dump.accounts) (script_from draft (next_number dump.count) dump.behind) script is in
         let below = from-numbered (next_number dump.count) draft dump.behind script
         (record { below = All-nil (λ (r : PlainRow). r.number < next_number dump.count); small = omega arith }) a in
-        ⊎_elim (λ whole. subst (λ (n : ℕ). AreBelow n script.rows) (counted 2 start rows dump whole.1) below) (λ other. absurd (cc)) told
+        ⊎_elim (λ whole. subst (λ (n : ℕ). AreBelow n script.rows) (counted 2 (start WIDE) rows dump whole.1) below) (λ other. absurd (cc)) told
 
-    by : (rows : List Fields) (dump : Bool) → AnswersBy false dump rows (Ok script) → AreBelow (number_after 1 rows) script.rows
+    by : (rows : List Fields) (dump : Bool) → AnswersBy WIDE false dump rows (Ok script) → AreBelow (number_after 1 rows) script.rows
     by rows true is = behind-dump rows is.0 is.1 is.2
     by rows false is =
-        from-numbered 1 (no_rows false) rows script (record { below = All-nil (λ (r : PlainRow). r.number < 1); small = omega arith }) is
+        from-numbered 1 (no_rows WIDE false) rows script (record { below = All-nil (λ (r : PlainRow). r.number < 1); small = omega arith }) is
 
-opened : (text all rest : List ℕ) (block : PlainBlock) (said : List ℕ) → IsHeard all text [] rest → IsOpened text block → Since (here all rest) block said
-opened text all rest block said before is =
+-- no row was accepted yet
+none-yet : (text : List ℕ) (block : PlainBlock) (is : IsOpened text block) → Since is.script is.outcome [] block []
+none-yet text block is =
     let script = is.script in
     let number = number_after 1 (rows_of text) in
     let rows : script.rows ++ [] ≡ script.rows = append-nil script.rows in
     let below = script-below text script is.reads in
-    subst (λ (b : PlainBlock). Since (here all rest) b said) (sym is.fresh)
+    subst (λ (b : PlainBlock). Since script is.outcome [] b []) (sym is.fresh)
     (record {
-      one = record {
-        set_up = text;
-        lines = [];
-        is = before;
-        script = script;
-        reads = is.reads;
-        begin = is.outcome;
-        first = is.replay;
-        parts = [];
-        asked = refl;
-        links = tt;
-        replay = subst (λ (l : List PlainRow). IsReplayOf (record script { rows = l }) is.outcome) (sym rows) is.replay;
-        left = refl;
-        told = tt;
-      };
+      parts = [];
+      rows = refl;
+      links = tt;
+      replay = subst (λ (l : List PlainRow). IsReplayOf (record script { rows = l }) is.outcome) (sym rows) is.replay;
+      left = refl;
+      told = tt;
       program = refl;
+      limits = sym (read-limits WIDE false text script is.reads);
       low = number;
       done = subst (AreBelow number) (sym rows) below;
       above = All-nil (λ (row : PlainRow). number ≤ row.number);
@@ -560,6 +453,21 @@ opened text all rest block said before is =
       wide = omega arith;
       small = number-small 1 (rows_of text) (omega arith);
     })
+
+-- what a desk took is one replay
+one-replay : (heard : PlainHeard) (block : PlainBlock) (said : List ℕ) → HasTaken heard block said → IsOneReplay heard block said
+one-replay heard block said taken =
+    let opened = taken.opened in
+    let since = steps-on opened.script opened.outcome [] taken.begin taken.went.steps block [] (none-yet taken.set_up taken.begin opened) taken.went.are in
+    record {
+      taken = taken;
+      parts = since.parts;
+      accepted = since.rows;
+      links = since.links;
+      replay = since.replay;
+      left = since.left;
+      told = since.told;
+    }
 
 -- ---- what was heard
 
@@ -598,7 +506,7 @@ refused-more before kept line rest old told all one is none =
     )
 
 -- the set-up that opens a desk
-heard-opening : (before old kept text line rest all : List ℕ) → HasRefused before old → is_opening line ≡ true → all ≡ before ++ (kept ++ text)
+abbrev heard-opening : (before old kept text line rest all : List ℕ) → HasRefused before old → is_opening line ≡ true → all ≡ before ++ (kept ++ text)
     → text ≡ line ++ 10 ∷ rest → IsHeard all kept [] rest
 heard-opening before old kept text line rest all refused opening is cut = record {
   before = before;
@@ -611,7 +519,7 @@ heard-opening before old kept text line rest all refused opening is cut = record
 }
 
 -- a line of a session
-heard-line : (all set_up text line rest : List ℕ) (lines : List (List ℕ)) → IsHeard all set_up lines text → text ≡ line ++ 10 ∷ rest
+abbrev heard-line : (all set_up text line rest : List ℕ) (lines : List (List ℕ)) → IsHeard all set_up lines text → text ≡ line ++ 10 ∷ rest
     → HasNoEnd line → IsHeard all set_up (lines ++ line ∷ []) rest
 heard-line all set_up text line rest lines is cut none =
     let front = flat_map ended lines in
@@ -630,7 +538,7 @@ heard-line all set_up text line rest lines is cut none =
     }
 
 -- more bytes
-heard-bytes : (all set_up text bytes : List ℕ) (lines : List (List ℕ)) → IsHeard all set_up lines text → IsHeard (all ++ bytes) set_up lines (text ++ bytes)
+abbrev heard-bytes : (all set_up text bytes : List ℕ) (lines : List (List ℕ)) → IsHeard all set_up lines text → IsHeard (all ++ bytes) set_up lines (text ++ bytes)
 heard-bytes all set_up text bytes lines is =
     let front = flat_map ended lines in record {
       before = is.before;
@@ -646,59 +554,127 @@ heard-bytes all set_up text bytes lines is =
           (append_assoc (ended is.line) (front ++ text) bytes ∙ ap (λ (l : List ℕ). ended is.line ++ l) (append_assoc front text bytes)));
     }
 
+-- ---- what was taken
+
+-- all that was heard, where no row of the rest was taken
+abbrev here : List ℕ → List ℕ → PlainHeard
+here text rest = record { text = text; rest = rest; more = [] }
+
+-- these rows of the rest were taken
+abbrev behind_rows : List ℕ → List ℕ → List Fields → PlainHeard
+behind_rows text rest rows = record { text = text; rest = rest; more = rows }
+
+-- the rows of lines, and no other
+none-more-rows : (lines : List (List ℕ)) → flat_map rows_of lines ++ [] ≡ flat_map rows_of lines
+none-more-rows lines = append-nil (flat_map rows_of lines)
+
+-- a desk was opened
+just-opened : (text all rest old owed : List ℕ) (block : PlainBlock) (is : IsHeard all text [] rest) → is.told ≡ old ++ owed → IsOpened text block
+    → HasTaken (here all rest) block (old ++ (owed ++ open_line block.number))
+just-opened text all rest old owed block is told opened = record {
+  set_up = text;
+  lines = [];
+  is = is;
+  begin = block;
+  opened = opened;
+  went = subst (λ (l : List ℕ). Went [] block block (is.told ++ open_line block.number) l)
+      (ap (λ (l : List ℕ). l ++ open_line block.number) told ∙ append_assoc old owed (open_line block.number)) (went-none block (is.told ++ open_line block.number));
+}
+
+-- rows of the rest were taken
+rows-taken : (all text : List ℕ) (rows : List Fields) (block after : PlainBlock) (said old new : List ℕ) → HasTaken (here all text) block (said ++ old)
+    → Went rows block after old new → HasTaken (behind_rows all text rows) after (said ++ new)
+rows-taken all text rows block after said old new taken went =
+    let whole = went-on (flat_map rows_of taken.lines ++ []) rows taken.begin block after (taken.is.told ++ open_line taken.begin.number) (said ++ old) (said ++ new)
+    taken.went (went-behind rows block after said old new went) in record {
+      set_up = taken.set_up;
+      lines = taken.lines;
+      is = taken.is;
+      begin = taken.begin;
+      opened = taken.opened;
+      went = subst (λ (l : List Fields). Went l taken.begin after (taken.is.told ++ open_line taken.begin.number) (said ++ new))
+          (ap (λ (l : List Fields). l ++ rows) (none-more-rows taken.lines)) whole;
+    }
+
+-- rows acted
+acted-in : (at : PlainHeard) (block after : PlainBlock) (said old new : List ℕ) → HasTaken at block (said ++ old) → ActedIn block after old new
+    → HasTaken at after (said ++ new)
+acted-in at block after said old new taken is =
+    let rows = flat_map rows_of taken.lines ++ at.more in
+    let whole = went-on rows [] taken.begin block after (taken.is.told ++ open_line taken.begin.number) (said ++ old) (said ++ new)
+    taken.went (went-behind [] block after said old new (went-acted block after old new is)) in record {
+      set_up = taken.set_up;
+      lines = taken.lines;
+      is = taken.is;
+      begin = taken.begin;
+      opened = taken.opened;
+      went = subst (λ (l : List Fields). Went l taken.begin after (taken.is.told ++ open_line taken.begin.number) (said ++ new)) (append-nil rows) whole;
+    }
+
 -- a line was taken
 line-taken : (all text line rest : List ℕ) (block : PlainBlock) (said : List ℕ) → text ≡ line ++ 10 ∷ rest → HasNoEnd line
-    → Since (behind_rows (here all text) (rows_of line)) block said → Since (here all rest) block said
-line-taken all text line rest block said cut none since =
-    let one = since.one in
-    let rows = rows_in one.parts ++ block.draft.script.rows in
-    let same : flat_map rows_of one.lines ++ rows_of line ≡ flat_map rows_of (one.lines ++ line ∷ []) ++ [] =
-    ap (λ (l : List Fields). flat_map rows_of one.lines ++ l) (sym (append-nil (rows_of line)))
-    ∙ sym (flat_map-append rows_of one.lines (line ∷ [])) ∙ sym (append-nil (flat_map rows_of (one.lines ++ line ∷ []))) in
-    heard-more (behind_rows (here all text) (rows_of line)) (here all rest) block said since (one.lines ++ line ∷ [])
-    (heard-line all one.set_up text line rest one.lines one.is cut none) (subst (λ (l : List Fields). AreAsked l rows) same one.asked)
+    → HasTaken (behind_rows all text (rows_of line)) block said → HasTaken (here all rest) block said
+line-taken all text line rest block said cut none taken =
+    let lines = taken.lines ++ line ∷ [] in
+    let same : flat_map rows_of taken.lines ++ rows_of line ≡ flat_map rows_of lines ++ [] =
+    ap (λ (l : List Fields). flat_map rows_of taken.lines ++ l) (sym (append-nil (rows_of line)))
+    ∙ sym (flat_map-append rows_of taken.lines (line ∷ [])) ∙ sym (none-more-rows lines) in record {
+      set_up = taken.set_up;
+      lines = lines;
+      is = heard-line all taken.set_up text line rest taken.lines taken.is cut none;
+      begin = taken.begin;
+      opened = taken.opened;
+      went = subst (λ (l : List Fields). Went l taken.begin block (taken.is.told ++ open_line taken.begin.number) said) same taken.went;
+    }
+
+-- more was heard
+bytes-taken : (all text bytes : List ℕ) (block : PlainBlock) (said : List ℕ) → HasTaken (here all text) block said
+    → HasTaken (here (all ++ bytes) (text ++ bytes)) block said
+bytes-taken all text bytes block said taken = record {
+  set_up = taken.set_up;
+  lines = taken.lines;
+  is = heard-bytes all taken.set_up text bytes taken.lines taken.is;
+  begin = taken.begin;
+  opened = taken.opened;
+  went = taken.went;
+}
 
 -- ---- a talk
 
 -- what is so where a session stands that heard this and said this
 abbrev IsSo : Session → List ℕ → List ℕ → Type 0
 IsSo (Sets kept text) all said = IsWhole (Sets kept text) all said
-IsSo (Serves block text) all said = Since (here all text) block said
-IsSo (Closes block text) all said = Since (here all text) block said
+IsSo (Serves block text) all said = HasTaken (here all text) block said
+IsSo (Closes block text) all said = HasTaken (here all text) block said
 IsSo (Ended why) all said = IsWhole (Ended why) all said
 
 whole : (session : Session) (all said : List ℕ) → IsSo session all said → IsWhole session all said
 whole (Sets kept text) all said is = is
-whole (Serves block text) all said is = is.one
-whole (Closes block text) all said is = is.one
+whole (Serves block text) all said is = one-replay (here all text) block said is
+whole (Closes block text) all said is = one-replay (here all text) block said is
 whole (Ended why) all said is = is
 
 -- the accounts are written, and then a line
 dumped : (why : Over) (all rest : List ℕ) (block left : PlainBlock) (said old new : List ℕ)
-    → Since (record { text = all; rest = rest; more = last_rows why rest }) block (said ++ old) → SaidIn block left (dump_text left.draft.script.start) old new
-    → HasEnded why all (said ++ (new ++ last_line why))
-dumped why all rest block left said old new since is =
-    let at : PlainHeard = record { text = all; rest = rest; more = last_rows why rest } in
+    → HasTaken (behind_rows all rest (last_rows why rest)) block (said ++ old) → SaysDump block left old new → HasEnded why all (said ++ (new ++ last_line why))
+dumped why all rest block left said old new taken is =
+    let at : PlainHeard = behind_rows all rest (last_rows why rest) in
     let line = last_line why in
     let dump = dump_text left.draft.script.start in
     let answers = is.behind.answers in
-    let last = acted at block left (said ++ old) answers [] since is.behind.acted in
-    let before = (said ++ old) ++ (answers ++ []) in
-    let one : IsOneReplay at left.draft.script.start [] before =
-    subst (λ (rows : List PlainRow). IsOneReplay at left.draft.script.start rows before) (none-left block left answers is.behind.acted) last.one in
+    let before = said ++ (old ++ answers) in
+    let last = acted-in at block left said old (old ++ answers) taken (record { said = answers; text = refl; acted = is.behind.acted }) in
     let text : said ++ (new ++ line) ≡ (before ++ dump) ++ line =
-    ap (λ (l : List ℕ). said ++ (l ++ line)) (is.is ∙ ap (λ (l : List ℕ). old ++ l) is.behind.is)
-    ∙ sym (append_assoc said (old ++ (answers ++ dump)) line)
-    ∙ ap (λ (l : List ℕ). l ++ line)
-    (sym (append_assoc said old (answers ++ dump)) ∙ sym (append_assoc (said ++ old) answers dump)
-    ∙ ap (λ (l : List ℕ). ((said ++ old) ++ l) ++ dump) (sym (append-nil answers))) in
-    inr (rest, before, left.draft.script.start, one, text)
+    ap (λ (l : List ℕ). said ++ (l ++ line)) (is.is ∙ ap (λ (l : List ℕ). old ++ l) is.behind.is ∙ sym (append_assoc old answers dump))
+    ∙ sym (append_assoc said ((old ++ answers) ++ dump) line)
+    ∙ ap (λ (l : List ℕ). l ++ line) (sym (append_assoc said (old ++ answers) dump)) in
+    inr (rest, before, left, one-replay at left before last, none-left block left answers is.behind.acted, text)
 
 -- at the end of input
-ends-well : (block : PlainBlock) (all text said owed : List ℕ) (after : Talk) → Since (here all text) block (said ++ owed) → EndsWell block text owed after
+ends-well : (block : PlainBlock) (all text said owed : List ℕ) (after : Talk) → HasTaken (here all text) block (said ++ owed) → EndsWell block text owed after
     → IsSo after.session all (said ++ after.owed)
-ends-well block all text said owed after since ends =
-    let mid = went (here all text) (rows_of text) block ends.between said owed ends.mid since ends.went in
+ends-well block all text said owed after taken ends =
+    let mid = rows-taken all text (rows_of text) block ends.between said owed ends.mid taken ends.went in
     subst (λ (t : Talk). IsSo t.session all (said ++ t.owed)) (sym ends.is)
     (subst (λ (l : List ℕ). HasEnded over.Input all (said ++ l)) (append-nil ends.said)
     (dumped over.Input all text ends.between ends.left said ends.mid ends.said mid ends.dump))
@@ -739,8 +715,8 @@ does before after all said is =
         subst (λ (t : Talk). IsSo t.session all (said ++ t.owed)) (sym keeps.is) (is.0, is.1, kept-line is.0 kept text keeps.line keeps.rest all is.2 keeps.cut.parts)
     by (Sets kept text) owed is (inr (inl opens)) =
         subst (λ (t : Talk). IsSo t.session all (said ++ t.owed)) (sym opens.is)
-        (opened kept all opens.rest opens.block (said ++ (owed ++ open_line opens.block.number))
-        (heard-opening is.0 (said ++ owed) kept text opens.line opens.rest all is.1 opens.opening is.2 opens.cut.parts) opens.opened)
+        (just-opened kept all opens.rest said owed opens.block
+        (heard-opening is.0 (said ++ owed) kept text opens.line opens.rest all is.1 opens.opening is.2 opens.cut.parts) refl opens.opened)
     by (Sets kept text) owed is (inr (inr refuses)) =
         let more = refused-more is.0 kept refuses.line refuses.rest (said ++ owed) refuses.told all is.1
         (is.2 ∙ ap (λ (l : List ℕ). is.0 ++ (kept ++ l)) refuses.cut.parts) (refuses.opening, refuses.status, refuses.none) in
@@ -749,7 +725,7 @@ does before after all said is =
     by (Serves block text) owed is (inl takes) =
         subst (λ (t : Talk). IsSo t.session all (said ++ t.owed)) (sym takes.is)
         (line-taken all text takes.line takes.rest takes.left (said ++ takes.said) takes.cut.parts takes.cut.whole
-        (went (here all text) (rows_of takes.line) block takes.left said owed takes.said is takes.went))
+        (rows-taken all text (rows_of takes.line) block takes.left said owed takes.said is takes.went))
     by (Serves block text) owed is (inr acts) =
         subst (λ (t : Talk). IsSo t.session all (said ++ t.owed)) (sym acts.is) (acted-in (here all text) block acts.left said owed acts.said is acts.acted)
     by (Closes block text) owed is ends = ends-well block all text said owed after is ends
@@ -763,17 +739,14 @@ does-all before (next ∷ others) after all said is are = does-all next others a
 heard-so : (bytes : List ℕ) (session : Session) (all said : List ℕ) → IsListening session → IsSo session all said → IsSo (heard bytes session) (all ++ bytes) said
 heard-so [] (Sets kept text) all said listens is =
     inl (is.0, kept ++ text, said, is.1, append-nil all ∙ is.2, sym (append-nil said))
-heard-so [] (Serves block text) all said listens is = subst (λ (l : List ℕ). Since (here l text) block said) (sym (append-nil all)) is
+heard-so [] (Serves block text) all said listens is = subst (λ (l : List ℕ). HasTaken (here l text) block said) (sym (append-nil all)) is
 heard-so (byte ∷ bytes) (Sets kept text) all said listens is =
     let more = byte ∷ bytes in (
       is.0,
       is.1,
       ap (λ (l : List ℕ). l ++ more) is.2 ∙ append_assoc is.0 (kept ++ text) more ∙ ap (λ (l : List ℕ). is.0 ++ l) (append_assoc kept text more),
     )
-heard-so (byte ∷ bytes) (Serves block text) all said listens is =
-    let more = byte ∷ bytes in
-    heard-more (here all text) (here (all ++ more) (text ++ more)) block said is is.one.lines
-    (heard-bytes all is.one.set_up text more is.one.lines is.one.is) is.one.asked
+heard-so (byte ∷ bytes) (Serves block text) all said listens is = bytes-taken all text (byte ∷ bytes) block said is
 heard-so [] (Closes block text) all said listens is = absurd listens
 heard-so [] (Ended why) all said listens is = absurd listens
 heard-so (byte ∷ bytes) (Closes block text) all said listens is = absurd listens

@@ -2,6 +2,7 @@
 use Rattle.std.specs.Prelude.{[], false, true, map}
 use Rattle.dex_types.specs.Accounts.{accounts_of}
 use Rattle.dex_types.specs.Rows.{row_of}
+use Rattle.dex_types.specs.declared.limits.TheConstants.{WIDE}
 use Rattle.dex_script_types.specs.Places.{AreBeside, ArePlaced}
 use Rattle.dex_desk.specs.declared.block.Block.TheInside.{Inside}
 use Rattle.dex_desk.specs.Blocks.{IsBlock, PlainBlock}
@@ -16,6 +17,7 @@ block_inside inside = record {
       rows = map row_of inside.rows.items;
       lanes = inside.lanes;
       program = inside.program;
+      limits = WIDE;
     };
     taken = [];
     clock = inside.clock;

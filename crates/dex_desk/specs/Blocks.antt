@@ -1,6 +1,7 @@
 -- A block: rows that were accepted, and have not acted yet. It is a script so far, of the accounts that the blocks
 -- before it left.
 use Rattle.std.specs.Prelude.{◌≡◌, ℕ, ◌≤◌, ◌-◌, ◌^◌, ℤ, true, false, List, [], Result, Ok, Err}
+use Rattle.dex_types.specs.declared.limits.TheConstants.{WIDE}
 use Rattle.dex_types.specs.declared.terms.Program.{Program}
 use Rattle.dex_types.specs.Accounts.{PlainAccounts}
 use Rattle.dex_statement.specs.declared.faults.FaultKind.{FaultKind}
@@ -24,7 +25,7 @@ pub record PlainBlock : Type 0 where
 -- of these accounts, under this program and clock, no row was accepted yet
 abbrev pub no_rows_of : PlainAccounts → Program → ℤ → PlainDraft
 no_rows_of start program clock = record {
-  script = record { start = start; rows = []; lanes = 1; program = program };
+  script = record { start = start; rows = []; lanes = 1; program = program; limits = WIDE };
   taken = [];
   clock = clock;
   is_first = false;
@@ -39,9 +40,10 @@ pub record IsBlock (block : PlainBlock) : Type 0 where
   pub clock : ℤ
   pub rows : List Fields
   pub small : first ≤ 2 ^ 32 - 1
-  pub read : draft_after (no_rows_of block.draft.script.start block.draft.script.program clock) first rows ≡ Ok block.draft
+  pub read :
+      draft_after (no_rows_of block.draft.script.start block.draft.script.program clock) first rows ≡ Ok block.draft
   pub next : block.number ≡ number_after first rows
-  pub start : IsStart block.draft.script.start
+  pub start : IsStart WIDE block.draft.script.start
 
 -- the block behind a row that left this draft
 abbrev pub behind_row : PlainBlock → PlainDraft → Result PlainBlock FaultKind

@@ -42,14 +42,17 @@ side_lines side zero orders = []
 side_lines side (suc depth) [] = []
 side_lines side (suc depth) (order ∷ orders) =
     let price = price_of order.id in
-    level_text side price (capped (lots_at price (order ∷ orders))) ++ side_lines side depth (behind_price price (order ∷ orders))
+    level_text side price (capped (lots_at price (order ∷ orders)))
+    ++ side_lines side depth (behind_price price (order ∷ orders))
 
 -- the book of a market
 abbrev pub book_text : ℕ → PlainMarketAccounts → List ℕ
 book_text depth accounts =
-    line (codes "book") ++ side_lines Bid depth (resting Bid accounts.bids) ++ side_lines Ask depth (resting Ask accounts.asks)
-    ++ line (codes "end")
+    line (codes "book") ++ side_lines Bid depth (resting Bid accounts.bids)
+    ++ side_lines Ask depth (resting Ask accounts.asks) ++ line (codes "end")
 
 -- the first market of an address
 abbrev pub found_market : Address → List PlainMarketAccounts → Option PlainMarketAccounts
-found_market address markets = first_of (λ (accounts : PlainMarketAccounts). is_same address accounts.address) (λ (accounts : PlainMarketAccounts). accounts) markets
+found_market address markets =
+    first_of (λ (accounts : PlainMarketAccounts). is_same address accounts.address)
+    (λ (accounts : PlainMarketAccounts). accounts) markets

@@ -23,7 +23,8 @@ entry_of number entries = first_of (λ (entry : Entry). entry.row == number) (λ
 -- what a row is answered: the line of the entry that has its number, in its market's journal
 abbrev pub answer_to : List PlainMarketJournal → PlainRow → List ℕ
 answer_to journals row = line_told
-    (first_of (λ (journal : PlainMarketJournal). is_same row.market journal.address) (λ journal. entry_of row.number journal.entries) journals)
+    (first_of (λ (journal : PlainMarketJournal). is_same row.market journal.address)
+    (λ journal. entry_of row.number journal.entries) journals)
 
 -- what rows are answered, one after the other
 abbrev pub answers_to : List PlainMarketJournal → List PlainRow → List ℕ
@@ -38,7 +39,10 @@ pub record HaveActed (before after : PlainBlock) (said : List ℕ) : Type 0 wher
   pub run : IsRunOf before.draft.script outcome
   pub told : said ≡ answers_to outcome.markets before.draft.script.rows
   pub left :
-      after ≡ record { draft = no_rows_of outcome.accounts before.draft.script.program before.draft.clock; number = before.number }
+      after ≡ record {
+        draft = no_rows_of outcome.accounts before.draft.script.program before.draft.clock;
+        number = before.number;
+      }
 
 -- there was no row, and nothing was said
 pub record HadNone (before after : PlainBlock) (said : List ℕ) : Type 0 where

@@ -1,8 +1,10 @@
 -- What the calls of a session tell each other.
-use Rattle.std.specs.Prelude.{◌≡◌, ◌≤◌, ℕ, false, List, [], ◌∷◌, ◌++◌, Option, Some, None, Result, Ok, Err}
+use Rattle.std.specs.Prelude.{◌≡◌, ◌≤◌, ℕ, false, IfErr, IfOk, List, [], ◌∷◌, ◌++◌, Option, Some, None, Result, Ok, Err}
+use Rattle.dex_types.specs.declared.limits.TheConstants.{WIDE}
 use Rattle.dex_answers.specs.Answers.{IsNoScript}
+use Rattle.dex_answers.specs.ExitCodes.{exit_code}
 use Rattle.dex_answers.specs.declared.status.Status.{Status}
-use Rattle.dex_dump.specs.DumpText.{dump_text}
+use Rattle.dex_answers.specs.declared.status.Status.TheVariants as status
 use Rattle.dex_io.specs.Faults.{Rose}
 use Rattle.dex_desk.specs.declared.ends.Over.{Over}
 use Rattle.dex_desk.specs.declared.ends.Over.TheVariants as over
@@ -16,8 +18,9 @@ use Rattle.dex_desk.specs.declared.speaking.Ear.{Ear}
 use Rattle.dex_desk.specs.declared.speaking.Ear.TheVariants as ear
 use Rattle.dex_desk.specs.Blocks.{PlainBlock}
 use Rattle.dex_desk.specs.SetUps.{IsOpened}
-use Rattle.dex_desk.specs.Steps.{SaidIn}
-use Rattle.dex_desk.specs.Talks.{Does, EndsWell, HasNoEnd, IsGoingOn, Session, Talk, Talked, WentOn, last_line, open_line, talk}
+use Rattle.dex_desk.specs.Steps.{SaysDump}
+use Rattle.dex_desk.specs.Talks.{Does, EndsWell, HasNoEnd, IsGoingOn, IsServed, Session, Talk, Talked, WentOn}
+use Rattle.dex_desk.specs.Talks.{last_line, open_line, talk}
 use Rattle.dex_desk.specs.Talks.Session.{Ended, Serves, Sets}
 use Rattle.dex_desk.specs.Turns.{Turn, and_then}
 use Rattle.dex_desk.specs.Turns.Turn.{Heard}
@@ -51,6 +54,14 @@ StopsAt stop.WriteFault at = Unit {0}
 abbrev pub Stopped : Stop → Option (List Turn) → Option (List Turn) → Talk → Type 0
 Stopped why old new before = (at : Talk) × Talked old new before at × StopsAt why at
 
+-- what a call with a desk tells where it stops
+abbrev pub MayStop : {A : Type 0} → Result A Stop → Option (List Turn) → Option (List Turn) → Talk → Type 0
+MayStop result old new before = IfErr result (λ why. Stopped why old new before)
+
+-- what it tells where the session is over and all is said
+abbrev pub MayEnd : Result Over Stop → Option (List Turn) → Option (List Turn) → Talk → Type 0
+MayEnd result old new before = IfOk result (λ why. Talked old new before (talk (Ended why) []))
+
 -- a write fault comes only where saying failed
 abbrev pub StoppedFor : Stop → ℕ → ℕ → Type 0
 StoppedFor stop.WriteFault mute mute_new = Rose mute mute_new
@@ -69,7 +80,8 @@ EarFor _ deaf deaf_new = Unit {0}
 
 -- a desk was opened, and that was said; or the session is over
 abbrev pub TellsSetUp : SetUp → Option (List Turn) → Option (List Turn) → Talk → List ℕ → List ℕ → Type 0
-TellsSetUp (set_up.Open block) old new before inbox text = Talked old new before (talk (Serves block inbox) []) × (text ≡ [])
+TellsSetUp (set_up.Open block) old new before inbox text =
+    Talked old new before (talk (Serves block inbox) []) × (text ≡ [])
 TellsSetUp (set_up.Over why) old new before inbox text = Talked old new before (talk (Ended why) text)
 
 abbrev pub SetUpFor : SetUp → ℕ → ℕ → Type 0
@@ -77,7 +89,8 @@ SetUpFor (set_up.Open block) deaf deaf_new = Unit {0}
 SetUpFor (set_up.Over why) deaf deaf_new = EndedFor why deaf deaf_new
 
 -- or neither, yet
-abbrev pub TellsWaiting : Option SetUp → Option (List Turn) → Option (List Turn) → Talk → List ℕ → List ℕ → List ℕ → Type 0
+abbrev pub TellsWaiting : Option SetUp → Option (List Turn) → Option (List Turn) → Talk → List ℕ → List ℕ → List ℕ
+    → Type 0
 TellsWaiting None old new before kept inbox text = Talked old new before (talk (Sets kept inbox) []) × (text ≡ [])
 TellsWaiting (Some found) old new before kept inbox text = TellsSetUp found old new before inbox text
 
@@ -112,7 +125,8 @@ HaveSetUp found before kept inbox text = WentOn before (talk (session_of found k
 
 -- a set-up was opened, or refused
 abbrev pub OpensOrRefuses : Option PlainBlock → List ℕ → List ℕ → List ℕ → Type 0
-OpensOrRefuses None kept old new = (status : Status) × (told : List ℕ) × IsNoScript false kept status told × (new ≡ old ++ told)
+OpensOrRefuses None kept old new =
+    (status : Status) × (told : List ℕ) × IsNoScript WIDE false kept status told × (new ≡ old ++ told)
 OpensOrRefuses (Some block) kept old new = IsOpened kept block × (new ≡ old ++ open_line block.number)
 
 -- ---- rows
@@ -136,8 +150,19 @@ TellsClosed (Err stop.WriteFault) block text old new = ⊥
 -- the accounts are written, and then the last line, or there is no memory
 abbrev pub TellsCutOff : Result Goes Stop → Over → PlainBlock → List ℕ → List ℕ → Type 0
 TellsCutOff (Ok (goes.Over why)) meant block old new =
-    (why ≡ meant) × (left : PlainBlock) × (said : List ℕ) × SaidIn block left (dump_text left.draft.script.start) old said
+    (why ≡ meant) × (left : PlainBlock) × (said : List ℕ) × SaysDump block left old said
     × (new ≡ said ++ last_line meant)
 TellsCutOff (Ok (goes.On block)) meant before old new = ⊥
 TellsCutOff (Err stop.NoMemory) meant block old new = Unit {0}
 TellsCutOff (Err stop.WriteFault) meant block old new = ⊥
+
+-- ---- a process
+
+-- a session was served, and the process ends with the number of its status; hearing or saying failed where that says so
+pub record EndsProcess (number : ℕ) (old new : Option (List Turn)) (hearing hearing_new saying saying_new : ℕ)
+    : Type 0 where
+  pub ended : Status
+  pub is : number ≡ exit_code ended
+  pub talk : IsServed ended old new
+  pub deaf : ended ≡ status.ReadFault → Rose hearing hearing_new
+  pub mute : ended ≡ status.WriteFault → Rose saying saying_new

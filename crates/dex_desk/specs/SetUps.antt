@@ -1,5 +1,6 @@
 -- What a set-up opens.
 use Rattle.std.specs.Prelude.{◌≡◌, ℕ, ℤ, pos, false, if◌then◌else◌, List, [], ◌∷◌, bytes_eq, codes, Result, Ok}
+use Rattle.dex_types.specs.declared.limits.TheConstants.{WIDE}
 use Rattle.dex_answers.specs.Answers.{IsNoScript}
 use Rattle.dex_answers.specs.Told.{text_of}
 use Rattle.dex_replay.specs.Replays.{IsReplayOf}
@@ -7,7 +8,7 @@ use Rattle.dex_replay.specs.Runs.{IsRunOf}
 use Rattle.dex_state.specs.Outcomes.{PlainOutcome}
 use Rattle.dex_rows.specs.Records.{rows_of}
 use Rattle.dex_script.specs.Pieces.{number_after}
-use Rattle.dex_script.specs.Scripts.{Reads}
+use Rattle.dex_script.specs.Scripts.{ReadsWithin}
 use Rattle.dex_script_types.specs.PlainScript.{PlainScript}
 use Rattle.dex_statement.specs.declared.faults.FaultKind.{FaultKind}
 use Rattle.dex_statement.specs.declared.statement.Statement.{Statement}
@@ -25,7 +26,8 @@ time_stated before _ = before
 
 -- the clock behind a row
 abbrev pub clock_behind : ℤ → Fields → ℤ
-clock_behind before row = if bytes_eq (field_at row 0) (codes "clock") then time_stated before (statement_of row) else before
+clock_behind before row =
+    if bytes_eq (field_at row 0) (codes "clock") then time_stated before (statement_of row) else before
 
 -- the clock behind rows
 abbrev pub clock_after : ℤ → List Fields → ℤ
@@ -36,7 +38,7 @@ clock_after clock (row ∷ rows) = clock_after (clock_behind clock row) rows
 -- was accepted yet
 pub record IsOpened (text : List ℕ) (block : PlainBlock) : Type 0 where
   pub script : PlainScript
-  pub reads : Reads false text script
+  pub reads : ReadsWithin WIDE false text script
   pub outcome : PlainOutcome
   pub replay : IsReplayOf script outcome
   pub run : IsRunOf script outcome
@@ -49,4 +51,4 @@ pub record IsOpened (text : List ℕ) (block : PlainBlock) : Type 0 where
 -- a desk is open over what the text's script leaves, or the text is none
 abbrev pub TellsOpened : Opened → List ℕ → Type 0
 TellsOpened (opened.Desk block) text = IsOpened text block
-TellsOpened (opened.Refused told) text = IsNoScript false text told.status (text_of told)
+TellsOpened (opened.Refused told) text = IsNoScript WIDE false text told.status (text_of told)

@@ -99,3 +99,7 @@ pub record SaidIn (before after : PlainBlock) (text old new : List ℕ) : Type 0
   pub said : List ℕ
   pub is : new ≡ old ++ said
   pub behind : SaidBehind before after text said
+
+-- a block acted, and then its accounts were written, behind a text
+abbrev pub SaysDump : PlainBlock → PlainBlock → List ℕ → List ℕ → Type 0
+SaysDump before after old new = SaidIn before after (dump_text after.draft.script.start) old new

@@ -1,9 +1,10 @@
 -- How a session goes: what is heard and said, call by call, and what the desk does between the calls.
-use Rattle.std.specs.Prelude.{◌≡◌, ◌≢◌, ◌⊎◌, ◌||◌, ◌<◌, ◌≤◌, ℕ, Bool, true, false, List, [], ◌∷◌, ◌++◌, All, Option, Some, None, bytes_eq, codes, length}
+use Rattle.std.specs.Prelude.{◌≡◌, ◌≢◌, ◌⊎◌, ◌||◌, ◌<◌, ◌≤◌, ℕ, Bool, true, false, List, [], ◌∷◌, ◌++◌, All}
+use Rattle.std.specs.Prelude.{Option, Some, None, bytes_eq, codes, length}
+use Rattle.dex_types.specs.declared.limits.TheConstants.{WIDE}
 use Rattle.dex_answers.specs.Answers.{IsNoScript}
 use Rattle.dex_answers.specs.declared.status.Status.{Status}
 use Rattle.dex_answers.specs.declared.status.Status.TheVariants as status
-use Rattle.dex_dump.specs.DumpText.{dump_text}
 use Rattle.dex_report.specs.Report.{head_line}
 use Rattle.dex_rows.specs.Records.{rows_of}
 use Rattle.dex_desk.specs.declared.ends.Over.{Over}
@@ -11,7 +12,7 @@ use Rattle.dex_desk.specs.declared.ends.Over.TheVariants as over
 use Rattle.dex_desk.specs.Blocks.{PlainBlock}
 use Rattle.dex_desk.specs.Replies.{ActedIn}
 use Rattle.dex_desk.specs.SetUps.{IsOpened}
-use Rattle.dex_desk.specs.Steps.{SaidIn, Went}
+use Rattle.dex_desk.specs.Steps.{SaysDump, Went}
 use Rattle.dex_desk.specs.Turns.{Turn}
 use Rattle.dex_desk.specs.Turns.Turn.{Heard, Said}
 
@@ -91,7 +92,7 @@ pub record RefusesSetUp (kept text owed : List ℕ) (after : Talk) : Type 0 wher
   pub opening : is_opening line ≡ true
   pub status : Status
   pub told : List ℕ
-  pub none : IsNoScript false kept status told
+  pub none : IsNoScript WIDE false kept status told
   pub is : after ≡ talk (Sets [] rest) (owed ++ told)
 
 -- the rows of a line are taken
@@ -118,7 +119,7 @@ pub record EndsWell (block : PlainBlock) (text owed : List ℕ) (after : Talk) :
   pub went : Went (rows_of text) block between owed mid
   pub left : PlainBlock
   pub said : List ℕ
-  pub dump : SaidIn between left (dump_text left.draft.script.start) mid said
+  pub dump : SaysDump between left mid said
   pub is : after ≡ talk (Ended over.Input) said
 
 -- it is the session of a desk that listens: it has taken all whole lines, and no row is still to act
@@ -141,8 +142,7 @@ heard_so_far (Ended why) = []
 
 -- the accounts are written where there are any
 abbrev pub Leaves : Session → List ℕ → Type 0
-Leaves (Serves block text) said =
-    (left : PlainBlock) × SaidIn block left (dump_text left.draft.script.start) [] said
+Leaves (Serves block text) said = (left : PlainBlock) × SaysDump block left [] said
 Leaves _ said = said ≡ []
 
 -- a session stops before its input ends, when all that it owed is said: a read failed, or more was heard than may be,
@@ -151,7 +151,7 @@ abbrev pub StopsBy : Over → Session → List ℕ → Type 0
 StopsBy over.Input session said = ⊥
 StopsBy over.ReadFault session said = IsListening session × Leaves session said
 StopsBy over.TooLong session said =
-    IsListening session × (67108864 < length (heard_so_far session)) × Leaves session said
+    IsListening session × (1099511627776 < length (heard_so_far session)) × Leaves session said
 StopsBy over.NoMemory session said = IsGoingOn session × (said ≡ [])
 
 pub record Stops (before after : Talk) : Type 0 where
@@ -197,7 +197,7 @@ heard bytes session = session
 abbrev pub IsTurn : Turn → Talk → Talk → Type 0
 IsTurn (Heard bytes) before after =
     (before.owed ≡ []) × IsListening before.session × (after ≡ talk (heard bytes before.session) [])
-    × (length (heard_so_far before.session) ≤ 67108864)
+    × (length (heard_so_far before.session) ≤ 1099511627776)
 IsTurn (Said bytes) before after = (before.owed ≡ bytes ++ after.owed) × (after.session ≡ before.session)
 
 -- calls, one after the other, and what the desk does between them

@@ -1,9 +1,11 @@
 -- A session as one replay: of its set-up's script, and behind it of the rows that were accepted and have acted.
-use Rattle.std.specs.Prelude.{◌≡◌, ◌⊎◌, ℕ, ℤ, true, false, All, List, [], ◌∷◌, ◌++◌, Result, Ok, map}
+use Rattle.std.specs.Prelude.{◌≡◌, ◌⊎◌, ℕ, true, false, All, List, [], ◌∷◌, ◌++◌, map}
+use Rattle.std.specs.Prelude.{Option, Some, None, Result, Ok, Err}
 use Rattle.std.specs.List.{flat_map}
 use Rattle.dex_types.specs.declared.terms.Program.{Program}
 use Rattle.dex_types.specs.Accounts.{PlainAccounts}
 use Rattle.dex_types.specs.Rows.{PlainRow}
+use Rattle.dex_types.specs.declared.limits.TheConstants.{WIDE}
 use Rattle.dex_answers.specs.Answers.{IsNoScript}
 use Rattle.dex_answers.specs.declared.status.Status.{Status}
 use Rattle.dex_dump.specs.DumpText.{dump_text}
@@ -11,7 +13,6 @@ use Rattle.dex_parts.specs.Chains.{outcome_behind}
 use Rattle.dex_replay.specs.Replays.{IsReplayOf}
 use Rattle.dex_rows.specs.Records.{rows_of}
 use Rattle.dex_script.specs.Rows.{instruction_row}
-use Rattle.dex_script.specs.Scripts.{Reads}
 use Rattle.dex_script_types.specs.PlainScript.{PlainScript}
 use Rattle.dex_state.specs.Outcomes.{PlainOutcome}
 use Rattle.dex_statement.specs.declared.faults.FaultKind.{FaultKind}
@@ -21,8 +22,11 @@ use Rattle.dex_desk.specs.declared.ends.Over.{Over}
 use Rattle.dex_desk.specs.declared.ends.Over.TheVariants as over
 use Rattle.dex_desk.specs.Asking.{PlainAsked, asked_of}
 use Rattle.dex_desk.specs.Asking.PlainAsked.{Instructs, Swaps}
+use Rattle.dex_desk.specs.Blocks.{PlainBlock, with_both, with_words}
 use Rattle.dex_desk.specs.Replies.{answers_to}
-use Rattle.dex_desk.specs.Talks.{HasNoEnd, Session, is_opening, last_line}
+use Rattle.dex_desk.specs.SetUps.{IsOpened}
+use Rattle.dex_desk.specs.Steps.{PlainStep, Went, text_said}
+use Rattle.dex_desk.specs.Talks.{HasNoEnd, Session, is_opening, last_line, open_line}
 use Rattle.dex_desk.specs.Talks.Session.{Closes, Ended, Serves, Sets}
 use Rattle.dex_desk.specs.Turns.{Turn}
 use Rattle.dex_desk.specs.Turns.Turn.{Heard, Said}
@@ -45,7 +49,8 @@ answers_in part = answers_to part.outcome.markets part.script.rows
 abbrev pub AreLinked : Program → PlainAccounts → List PlainPart → Type 0
 AreLinked program accounts [] = Unit {0}
 AreLinked program accounts (part ∷ parts) =
-    (part.script.start ≡ accounts) × (part.script.program ≡ program) × IsReplayOf part.script part.outcome × AreLinked program part.outcome.accounts parts
+    (part.script.start ≡ accounts) × (part.script.program ≡ program) × IsReplayOf part.script part.outcome
+    × AreLinked program part.outcome.accounts parts
 
 -- what is left behind all parts, each journal behind those before
 abbrev pub left_in : PlainOutcome → List PlainPart → PlainOutcome
@@ -75,7 +80,7 @@ pub record PlainRefused : Type 0 where
 
 -- it is no script
 abbrev pub IsRefused : PlainRefused → Type 0
-IsRefused one = (is_opening one.line ≡ true) × (status : Status) × IsNoScript false one.set_up status one.told
+IsRefused one = (is_opening one.line ≡ true) × (status : Status) × IsNoScript WIDE false one.set_up status one.told
 
 -- set-ups were heard that are none, one behind the other, and nothing was said but why
 pub record HasRefused (heard said : List ℕ) : Type 0 where
@@ -100,40 +105,58 @@ pub record IsHeard (text set_up : List ℕ) (lines : List (List ℕ)) (rest : Li
   pub whole : All HasNoEnd lines
   pub is : text ≡ before ++ (set_up ++ (ended line ++ (flat_map ended lines ++ rest)))
 
--- the rows that a row asks for, of this number and clock: an instruction's, or those of both legs of a swap
-abbrev pub rows_asked : Result PlainAsked FaultKind → ℕ → ℤ → List PlainRow
-rows_asked (Ok (Instructs words)) number clock = instruction_row number clock words ∷ []
-rows_asked (Ok (Swaps words)) number clock =
-    instruction_row number clock (leg_words words.lane words.signer words.first)
-    ∷ instruction_row number clock (leg_words words.lane words.signer words.second) ∷ []
-rows_asked _ number clock = []
+-- ---- what was accepted
 
--- these are the rows that some of the rows which were heard ask for, in their order
-abbrev pub AreAsked : List Fields → List PlainRow → Type 0
-AreAsked [] rows = rows ≡ []
-AreAsked (row ∷ others) rows =
-    AreAsked others rows
-    ⊎ ((number : ℕ) × (clock : ℤ) × (rest : List PlainRow) × (rows ≡ rows_asked (asked_of row) number clock ++ rest) × AreAsked others rest)
+-- these rows where a block takes them, and none where it says what is wrong
+abbrev pub where_taken : Result PlainBlock FaultKind → List PlainRow → List PlainRow
+where_taken (Ok after) rows = rows
+where_taken (Err kind) rows = []
+
+-- the rows that a block accepts of one that asks this, with its number and its clock: an instruction's, or those of
+-- both legs of a swap
+abbrev pub accepted_by : PlainBlock → Result PlainAsked FaultKind → List PlainRow
+accepted_by block (Ok (Instructs words)) =
+    where_taken (with_words block words) (instruction_row block.number block.draft.clock words ∷ [])
+accepted_by block (Ok (Swaps words)) =
+    where_taken (with_both block words)
+    (instruction_row block.number block.draft.clock (leg_words words.lane words.signer words.first)
+    ∷ instruction_row block.number block.draft.clock (leg_words words.lane words.signer words.second) ∷ [])
+accepted_by block _ = []
+
+abbrev pub accepted_of : PlainBlock → Option Fields → List PlainRow
+accepted_of block None = []
+accepted_of block (Some row) = accepted_by block (asked_of row)
+
+-- the rows that were accepted in steps: those that their block took. Any other row was answered by its fault, or asked
+-- for none
+abbrev pub accepted_in : PlainBlock → List PlainStep → List PlainRow
+accepted_in block [] = []
+accepted_in block (step ∷ steps) = accepted_of block step.row ++ accepted_in step.after steps
 
 -- ---- one replay
 
--- the set-up that was heard is a script; the rows that were accepted of those heard behind it acted in parts, but for
--- these, which are still to act; what the parts leave together is a replay of all their rows behind the script's, and
--- has these accounts; and the answers of each part stand in what was said
-pub record IsOneReplay (heard : PlainHeard) (accounts : PlainAccounts) (waiting : List PlainRow) (said : List ℕ) : Type 0 where
+-- a desk was opened over the set-up that was heard, and took the rows that were heard behind it, each in its step; this
+-- block is left, and what was said is all that was said of refused set-ups, of this one, and at these steps
+pub record HasTaken (heard : PlainHeard) (block : PlainBlock) (said : List ℕ) : Type 0 where
   pub set_up : List ℕ
   pub lines : List (List ℕ)
   pub is : IsHeard heard.text set_up lines heard.rest
-  pub script : PlainScript
-  pub reads : Reads false set_up script
-  pub begin : PlainOutcome
-  pub first : IsReplayOf script begin
+  pub begin : PlainBlock
+  pub opened : IsOpened set_up begin
+  pub went : Went (flat_map rows_of lines ++ heard.more) begin block (is.told ++ open_line begin.number) said
+
+-- the rows that were accepted acted in parts, but for those of the block, which are still to act; what the parts leave
+-- together is a replay of all their rows behind the set-up's script, and has the block's accounts; and the answers of
+-- each part stand in what was said at the steps
+pub record IsOneReplay (heard : PlainHeard) (block : PlainBlock) (said : List ℕ) : Type 0 where
+  pub taken : HasTaken heard block said
   pub parts : List PlainPart
-  pub asked : AreAsked (flat_map rows_of lines ++ heard.more) (rows_in parts ++ waiting)
-  pub links : AreLinked script.program begin.accounts parts
-  pub replay : IsReplayOf (with_rows script (rows_in parts)) (left_in begin parts)
-  pub left : accounts ≡ (left_in begin parts).accounts
-  pub told : AreAmong (map answers_in parts) said
+  pub accepted : rows_in parts ++ block.draft.script.rows ≡ accepted_in taken.begin taken.went.steps
+  pub links : AreLinked taken.opened.script.program taken.opened.outcome.accounts parts
+  pub replay :
+      IsReplayOf (with_rows taken.opened.script (rows_in parts)) (left_in taken.opened.outcome parts)
+  pub left : block.draft.script.start ≡ (left_in taken.opened.outcome parts).accounts
+  pub told : AreAmong (map answers_in parts) (text_said taken.went.steps)
 
 -- what turns heard
 abbrev pub heard_in : List Turn → List ℕ
@@ -152,20 +175,21 @@ abbrev pub last_rows : Over → List ℕ → List Fields
 last_rows over.Input rest = rows_of rest
 last_rows _ rest = []
 
--- no desk was opened; or the accounts were said behind the answers. The last line is the end's
+-- no desk was opened; or all rows have acted and the accounts were said behind the answers. The last line is the end's
 abbrev pub HasEnded : Over → List ℕ → List ℕ → Type 0
 HasEnded why heard said =
     ((before rest old : List ℕ) × HasRefused before old × (heard ≡ before ++ rest) × (said ≡ old ++ last_line why))
-    ⊎ ((rest old : List ℕ) × (accounts : PlainAccounts) × IsOneReplay (record { text = heard; rest = rest; more = last_rows why rest }) accounts [] old
-    × (said ≡ (old ++ dump_text accounts) ++ last_line why))
+    ⊎ ((rest old : List ℕ) × (block : PlainBlock)
+    × IsOneReplay (record { text = heard; rest = rest; more = last_rows why rest }) block old
+    × (block.draft.script.rows ≡ []) × (said ≡ (old ++ dump_text block.draft.script.start) ++ last_line why))
 
 -- a session that heard this and said this is one replay, where a desk is open, and where its session is over; for want
 -- of memory nothing is told
 abbrev pub IsWhole : Session → List ℕ → List ℕ → Type 0
 IsWhole (Sets kept text) heard said = (before : List ℕ) × HasRefused before said × (heard ≡ before ++ (kept ++ text))
 IsWhole (Serves block text) heard said =
-    IsOneReplay (record { text = heard; rest = text; more = [] }) block.draft.script.start block.draft.script.rows said
+    IsOneReplay (record { text = heard; rest = text; more = [] }) block said
 IsWhole (Closes block text) heard said =
-    IsOneReplay (record { text = heard; rest = text; more = [] }) block.draft.script.start block.draft.script.rows said
+    IsOneReplay (record { text = heard; rest = text; more = [] }) block said
 IsWhole (Ended over.NoMemory) heard said = Unit {0}
 IsWhole (Ended why) heard said = HasEnded why heard said

@@ -1,20 +1,19 @@
 //! What rows are answered.
 
 ghost use Rattle.std.specs.Prelude.{◌≡◌, ◌∷◌, ◌++◌, [], Err, IfOk, Ok, OnOk};
-ghost use Rattle.dex_dump.specs.DumpText.{dump_text};
 ghost use Rattle.dex_rows.specs.Records.{rows_of};
 ghost use Rattle.dex_statement.specs.Words.{Fields as FieldsOf};
 ghost use Rattle.dex_desk.specs.Asking.PlainAsked.{Instructs, Sets, Swaps};
 ghost use Rattle.dex_desk.specs.Asking.{asked_of};
 ghost use Rattle.dex_desk.specs.Replies.{ActedIn};
-ghost use Rattle.dex_desk.specs.Steps.{SaidIn, Went, clock_line, fault_line, shown};
+ghost use Rattle.dex_desk.specs.Steps.{SaidIn, SaysDump, Went, clock_line, fault_line, shown};
 ghost use Rattle.dex_desk.specs.Talks.{WentOn, talk};
 ghost use Rattle.dex_desk.specs.Talks.Session.{Serves};
 
 use crate::acting::act;
 use crate::block::Block;
 use crate::book::write_book;
-use crate::inbox::{Inbox, line_end};
+use crate::inbox::Inbox;
 use crate::rows::{Asked, read_row};
 use dex_dump::append_dump;
 use dex_refusal_lines::{ScriptRefused, script_refused_text};
@@ -49,7 +48,7 @@ pub fn take_lines(
         (talk (Serves after inbox.new) buffers.new.text.items)) }
 {
     let mut block = block;
-    'lines: while let Some(size) = line_end(inbox.bytes()) {
+    'lines: while let Some(size) = inbox.line_end() {
         if FULL <= buffers.text.len() {
             return Ok(block);
         }
@@ -119,7 +118,7 @@ fn take_instruction(alloc: Global, block: Block, buffers: &mut Buffers) -> Resul
     }
 }
 
-/// The same block where there is room for more rows, or what is left when its rows acted.
+/// The block as it is where there is room for more rows, or what is left when its rows acted.
 fn with_room(alloc: Global, block: Block, buffers: &mut Buffers) -> Result<Block, NoMemory>
     ensures { IfOk result (λ after. Went [] block after buffers.old.text.items buffers.new.text.items) }
 {
@@ -137,7 +136,8 @@ fn refuse(
     kind: FaultKind,
     buffers: &mut Buffers,
 ) -> Result<Block, NoMemory>
-    ensures { IfOk result (λ after. SaidIn block after (fault_line block kind) buffers.old.text.items buffers.new.text.items) }
+    ensures { IfOk result (λ after. SaidIn block after (fault_line block kind)
+        buffers.old.text.items buffers.new.text.items) }
 {
     let block = answer_all(alloc, block, buffers)?;
     write_fault(alloc, &block, kind, &mut buffers.text)?;
@@ -221,7 +221,8 @@ fn answer_book(
     depth: u32,
     buffers: &mut Buffers,
 ) -> Result<Block, NoMemory>
-    ensures { IfOk result (λ after. SaidIn block after (shown after market depth) buffers.old.text.items buffers.new.text.items) }
+    ensures { IfOk result (λ after. SaidIn block after (shown after market depth)
+        buffers.old.text.items buffers.new.text.items) }
 {
     let block = answer_all(alloc, block, buffers)?;
     show(alloc, &block, market, depth, &mut buffers.text)?;
@@ -246,7 +247,7 @@ fn show(
 
 /// Writes the dump of all accounts.
 pub fn answer_dump(alloc: Global, block: Block, buffers: &mut Buffers) -> Result<Block, NoMemory>
-    ensures { IfOk result (λ after. SaidIn block after (dump_text after.draft.script.start) buffers.old.text.items buffers.new.text.items) }
+    ensures { IfOk result (λ after. SaysDump block after buffers.old.text.items buffers.new.text.items) }
 {
     let block = answer_all(alloc, block, buffers)?;
     match append_dump(&mut buffers.text, block.start()) {

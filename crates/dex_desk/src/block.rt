@@ -1,6 +1,7 @@
 //! Rows that were accepted and have not acted yet, with the accounts on which they are to act.
 
-ghost use Rattle.std.specs.Prelude.{◌≡◌, ◌==◌, ◌||◌, ◌^◌, ◌-◌, nat_le, IfOk, IfSome, Ok, length, option_copied, option_map};
+ghost use Rattle.std.specs.Prelude.{◌≡◌, ◌==◌, ◌||◌, ◌^◌, ◌-◌, nat_le, IfOk, IfSome, Ok, length};
+ghost use Rattle.std.specs.Prelude.{option_copied, option_map};
 ghost use Rattle.std.specs.List.{position};
 ghost use Rattle.dex_types.specs.declared.account_bytes.MarketAccounts.{MarketAccounts as AccountsOf};
 ghost use Rattle.dex_types.specs.Accounts.{accounts_of, market_accounts_of};
@@ -8,6 +9,7 @@ ghost use Rattle.dex_types.specs.Addresses.{is_same};
 ghost use Rattle.dex_statement.specs.declared.statement.Statement.TheVariants as statement;
 ghost use Rattle.dex_statement.specs.Statements.{statement_of};
 ghost use Rattle.dex_statement.specs.Words.{Fields as FieldsOf};
+ghost use Rattle.dex_types.specs.declared.limits.TheConstants.{WIDE as wide};
 ghost use Rattle.dex_script_types.specs.Facts.{IsScript, IsStart};
 ghost use Rattle.dex_desk.specs.Blocks as spec;
 ghost use Rattle.dex_accounts.specs.Accepted.{IsAccepted};
@@ -19,7 +21,9 @@ ghost use Rattle.dex_script.specs.Rows as rules;
 use dex_script::{Names, exceeds_row, is_bad_swap, make_room, push_placed};
 use dex_script_types::{RowList, Script};
 use dex_statement::{FaultKind, InstructionWords, RowError, SwapWords};
-use dex_types::{Accounts, Address, MarketAccounts, NoMemory, Program, Row, RowPlaces, is_same};
+use dex_types::{
+    Accounts, Address, MarketAccounts, NoMemory, Program, Row, RowPlaces, WIDE, is_same,
+};
 use std::alloc::Global;
 use std::marker::Model;
 
@@ -62,7 +66,7 @@ impl Block {
         clock: i64,
         number: u32,
     ) -> Block
-        requires start { IsStart (accounts_of start) }
+        requires start { IsStart wide (accounts_of start) }
         requires names { AreNames names (accounts_of start) }
         ensures { result ≡ record { draft = spec.no_rows_of (accounts_of start) program clock; number = number } }
     {
@@ -96,7 +100,7 @@ impl Block {
     /// The accounts as they are before these rows.
     pub fn start(&self) -> &Accounts
         ensures accounts { accounts_of result.now ≡ self.now.draft.script.start }
-        ensures start { IsStart self.now.draft.script.start }
+        ensures start { IsStart wide self.now.draft.script.start }
     {
         &self.start
     }
@@ -221,6 +225,7 @@ impl Block {
             places,
             lanes,
             program,
+            limits: WIDE,
         };
         let behind = Behind {
             names,
@@ -252,9 +257,9 @@ fn place_of_market(markets: &[MarketAccounts], address: Address) -> Option<usize
 
 /// Whether no row of this number finds room behind so many items.
 fn is_full(items: u32, number: u32) -> bool
-    ensures { result ≡ (nat_le 100000 items || (number == 2 ^ 32 - 1)) }
+    ensures { result ≡ (nat_le wide.items items || (number == 2 ^ 32 - 1)) }
 {
-    100_000 <= items || number == u32::MAX
+    WIDE.items <= items || number == u32::MAX
 }
 
 /// Whether no swap of this number finds room behind so many items, or one of its legs passes a limit.
@@ -264,8 +269,8 @@ fn exceeds_swap(
     first: &InstructionWords,
     second: &InstructionWords,
 ) -> bool
-    ensures { result
-        ≡ (nat_le 100000 items || (number == 2 ^ 32 - 1) || rules.exceeds_row first.now || rules.exceeds_row second.now) }
+    ensures { result ≡ (nat_le wide.items items || (number == 2 ^ 32 - 1)
+        || rules.exceeds_row first.now || rules.exceeds_row second.now) }
 {
     is_full(items, number) || exceeds_row(first) || exceeds_row(second)
 }

@@ -12,7 +12,7 @@ pub enum Over {
     Input,
     /// A read failed.
     ReadFault,
-    /// A line, or a set-up, is longer than 67,108,864 bytes.
+    /// A line, or a set-up, is longer than 1,099,511,627,776 bytes.
     TooLong,
     /// Memory was wanting.
     NoMemory,

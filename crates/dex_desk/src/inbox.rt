@@ -12,16 +12,20 @@ use std::marker::Model;
 pub struct Inbox {
     bytes: Vec<u8>,
     at: usize,
+    /// So many of them were looked at, and none ends a line.
+    seen: usize,
 }
 
 impl Model for Inbox {
-    ghost use Rattle.std.specs.Prelude.{◌≤◌, List, ℕ, drop, length};
+    ghost use Rattle.std.specs.Prelude.{◌≤◌, ◌+◌, List, ℕ, drop, length, take};
+    ghost use Rattle.dex_desk.specs.Talks.{HasNoEnd};
 
     ghost Value = { List ℕ };
 
     ghost view = { λ s. drop s.at s.bytes.items };
 
-    ghost invariant = { λ s. s.at ≤ length s.bytes.items };
+    ghost invariant = { λ s. (s.at + s.seen ≤ length s.bytes.items)
+        × HasNoEnd (take s.seen (drop s.at s.bytes.items)) };
 }
 
 impl Inbox {
@@ -32,6 +36,7 @@ impl Inbox {
         Inbox {
             bytes: Vec::new(alloc),
             at: 0,
+            seen: 0,
         }
     }
 
@@ -49,14 +54,19 @@ impl Inbox {
         &self.bytes[self.at..]
     }
 
+    /// Where the first line ends, if it is whole.
+    pub fn line_end(&self) -> Option<usize>
+        ensures cut { MatchOption result (HasNoEnd self.now)
+            (λ n. IsCut self.now (take n self.now) (drop (n + 1) self.now)) }
+        ensures within { IfSome result (λ n. n < length self.now) }
+    {
+        end_behind(self.bytes(), self.seen)
+    }
+
     /// Puts bytes behind the others. Where memory is wanting, all stays.
     pub fn add(&mut self, more: &[u8]) -> Result<(), AllocError>
         ensures { OnOk result (self.new ≡ self.old ++ more.now) }
     {
-        if self.at == self.bytes.len() {
-            self.bytes.clear();
-            self.at = 0;
-        }
         self.bytes.extend_from_slice(more)
     }
 
@@ -66,24 +76,34 @@ impl Inbox {
         ensures { self.new ≡ drop count self.old }
     {
         self.at += count;
+        self.seen = 0;
     }
 
-    /// Gives back the room of bytes that were passed.
+    /// Where no line is whole: gives back the room of bytes that were passed, and looks at the others no more.
     pub fn close_up(&mut self)
+        requires { HasNoEnd self.old }
         ensures { self.new ≡ self.old }
     {
-        let left = self.bytes.len() - self.at;
-        self.bytes.copy_within(self.at.., 0);
-        self.bytes.truncate(left);
-        self.at = 0;
+        let left = self.len();
+        if 0 < self.at {
+            self.bytes.copy_within(self.at.., 0);
+            self.bytes.truncate(left);
+            self.at = 0;
+        }
+        self.seen = left;
     }
 }
 
-/// Where the first line of bytes ends, if it is whole.
-pub fn line_end(bytes: &[u8]) -> Option<usize>
+/// Where the first line of bytes ends, if it is whole. None of the first so many ends it.
+fn end_behind(bytes: &[u8], seen: usize) -> Option<usize>
+    requires within { seen ≤ length bytes.now }
+    requires known { HasNoEnd (take seen bytes.now) }
     ensures cut { MatchOption result (HasNoEnd bytes.now)
         (λ n. IsCut bytes.now (take n bytes.now) (drop (n + 1) bytes.now)) }
     ensures within { IfSome result (λ n. n < length bytes.now) }
 {
-    memchr(b'\n', bytes)
+    match memchr(b'\n', bytes.split_at(seen).1) {
+        Some(more) => Some(seen + more),
+        None => None,
+    }
 }

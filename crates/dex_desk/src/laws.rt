@@ -13,11 +13,11 @@ pub fn a_front_of_turns_that_talk_talks()
         → (between : Talk) × Talks before turns between × Talks between more after }
 {}
 
-/// A session is one replay: of the script of the set-up that was heard before the line `open`, and behind it of rows
-/// that were heard behind that line, in their order; a talk says which these are. So it makes no difference where rows
-/// are cut into blocks: the answers of each block, which stand in what was said one behind the other, are of the
-/// entries that this one replay has; the desk's accounts are those that it leaves; and a session that ends well says
-/// these last.
+/// A session is one replay: of the script of the set-up that was heard before the line `open`, and behind it of just
+/// those rows heard behind that line that were accepted, in their order. Each other row was answered by its fault, or
+/// asks for none that acts. So it makes no difference where rows are cut into blocks: the answers of each block, which
+/// stand in what was said one behind the other, are of the entries that this one replay has; the desk's accounts are
+/// those that it leaves; and a session that ends well says these last.
 pub fn a_session_is_one_replay()
     ensures { (turns : List Turn) (after : Talk) → Talks first turns after → IsWhole after.session (heard_in turns)
         (said_in turns ++ after.owed) }

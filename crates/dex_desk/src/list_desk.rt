@@ -1,8 +1,8 @@
 //! A desk in memory, which tells its turns.
 
-ghost use Rattle.std.specs.Prelude.{◌≡◌, ◌≤◌, ◌++◌, [], ◌∷◌, IfOk, OnErr, OnOk, map};
+ghost use Rattle.std.specs.Prelude.{◌≡◌, ◌<◌, ◌≤◌, ◌++◌, [], ◌∷◌, IfOk, OnErr, OnOk, drop, length, map, max};
 ghost use Rattle.dex_io.specs.Faults.{Rose};
-ghost use Rattle.dex_desk.specs.Calls.{turn_of};
+ghost use Rattle.dex_desk.specs.Calls.{HaveHeard, turn_of};
 ghost use Rattle.dex_desk.specs.Talks.{IsSession};
 ghost use Rattle.dex_desk.specs.Turns.Turn.{Heard, Said};
 
@@ -23,7 +23,7 @@ pub enum Call {
 }
 
 /// Hears the bytes of a list, and keeps each call. It hears and says so many bytes at a time at most, and 1 at least. A
-/// call for which there is no memory fails. A contract sees its turns, and how many calls failed.
+/// call for which there is no memory fails. A contract sees what it is to hear, its turns, and how many calls failed.
 #[derive(Drop)]
 pub struct ListDesk {
     alloc: Global,
@@ -36,20 +36,27 @@ pub struct ListDesk {
 }
 
 impl Model for ListDesk {
-    ghost use Rattle.std.specs.Prelude.{◌≤◌, length, map};
-    ghost use Rattle.dex_desk.specs.Calls.{DeskState, turn_of};
+    ghost use Rattle.std.specs.Prelude.{◌≤◌, drop, length, map, max};
+    ghost use Rattle.dex_desk.specs.Calls.{AreBlocksOf, DeskState, turn_of};
 
     ghost Value = { DeskState };
 
-    ghost view = { λ s. record { turns = map turn_of s.calls.items; deaf = s.deaf; mute = s.mute } };
+    ghost view = { λ s. record {
+      input = s.input.items;
+      most = max s.step 1;
+      turns = map turn_of s.calls.items;
+      deaf = s.deaf;
+      mute = s.mute;
+    } };
 
-    ghost invariant = { λ s. s.at ≤ length s.input.items };
+    ghost invariant = { λ s. (s.at ≤ length s.input.items)
+        × AreBlocksOf (max s.step 1) (map turn_of s.calls.items) s.input.items (drop s.at s.input.items) };
 }
 
 impl ListDesk {
     /// It hears these bytes.
     pub fn new(alloc: Global, input: Vec<u8>, step: usize) -> ListDesk
-        ensures { result ≡ record { turns = []; deaf = 0; mute = 0 } }
+        ensures { result ≡ record { input = input.items; most = max step 1; turns = []; deaf = 0; mute = 0 } }
     {
         ListDesk {
             alloc,
@@ -62,22 +69,33 @@ impl ListDesk {
         }
     }
 
-    /// Its calls so far.
-    pub fn calls(&self) -> &[Call]
-        ensures { map turn_of result.now ≡ self.now.turns }
+    /// Its calls. They heard what it is to hear, from the front on.
+    pub fn into_calls(self) -> Vec<Call>
+        ensures calls { map turn_of result.items ≡ self.turns }
+        ensures heard { HaveHeard self.most self.turns self.input }
     {
-        &self.calls
+        let ListDesk {
+            alloc: _,
+            input: _,
+            at: _,
+            step: _,
+            calls,
+            deaf: _,
+            mute: _,
+        } = self;
+        calls
     }
 }
 
-/// A session of these bytes, so many heard and said at a time at most: its status, and the desk with its calls, which
-/// are a talk from the first byte on.
-pub fn serve_list(alloc: Global, input: Vec<u8>, step: usize) -> (Status, ListDesk)
-    ensures { IsSession result.0 result.1.turns }
+/// A session of these bytes, so many heard and said at a time at most: its status, and its calls. They are a talk from
+/// the first byte on, and what they heard is a front of the bytes; where a call heard nothing, all of them.
+pub fn serve_list(alloc: Global, input: Vec<u8>, step: usize) -> (Status, Vec<Call>)
+    ensures session { IsSession result.0 (map turn_of result.1.items) }
+    ensures heard { HaveHeard (max step 1) (map turn_of result.1.items) input.items }
 {
     let mut desk = ListDesk::new(alloc, input, step);
     let status = serve(alloc, &mut desk);
-    (status, desk)
+    (status, desk.into_calls())
 }
 
 /// One fault more, up to the greatest count.
@@ -121,23 +139,34 @@ fn keep_said(alloc: Global, calls: &mut Vec<Call>, bytes: &[u8]) -> Result<(), A
     }
 }
 
+/// So many bytes at the front, or all.
+fn front_of(bytes: &[u8], most: usize) -> &[u8]
+    ensures parts { bytes.now ≡ result.now ++ drop (length result.now) bytes.now }
+    ensures few { length result.now ≤ most }
+    ensures within { length result.now ≤ length bytes.now }
+    ensures all { length result.now < most → length result.now ≡ length bytes.now }
+{
+    bytes.split_at(most.min(bytes.len())).0
+}
+
 impl Desk for ListDesk {
     ghost use Rattle.std.specs.Prelude.{Some};
+    ghost use Rattle.dex_desk.specs.Calls.{turns_told};
 
-    ghost turns = { λ s. Some s.turns };
+    ghost turns = { λ s. Some (turns_told s) };
 
     ghost deaf = { λ s. s.deaf };
 
     ghost mute = { λ s. s.mute };
 
     fn hear(&mut self, buf: &mut [u8]) -> Result<usize, Failed> {
-        let left = self.input.len() - self.at;
-        let count = self.step.max(1).min(buf.len()).min(left);
-        let end = self.at + count;
-        buf[..count].copy_from_slice(&self.input[self.at..end]);
-        match keep_heard(self.alloc, &mut self.calls, &buf[..count]) {
+        let left = self.input.split_at(self.at).1;
+        let block = front_of(left, self.step.max(1).min(buf.len()));
+        let count = block.len();
+        buf[..count].copy_from_slice(block);
+        match keep_heard(self.alloc, &mut self.calls, block) {
             Ok(()) => {
-                self.at = end;
+                self.at += count;
                 Ok(count)
             }
             Err(_) => {

@@ -18,11 +18,10 @@ mod set_up;
 mod speaking;
 
 use crate::desk::StdDesk;
-use crate::serving::serve;
+use crate::serving::serve_process;
 use std::process::ExitCode;
 
 /// Ends with the status of the session as exit status.
 fn main(rt: HostRuntime) -> ExitCode {
-    let status = serve(rt.alloc(), &mut StdDesk::new(&rt));
-    ExitCode::from(status.code())
+    ExitCode::from(serve_process(rt.alloc(), &mut StdDesk::new(&rt)))
 }

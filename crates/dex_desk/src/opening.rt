@@ -4,7 +4,7 @@ ghost use Rattle.std.specs.Prelude.{◌≡◌, ◌+◌, ◌<◌, ◌++◌, [], I
 ghost use Rattle.std.specs.List.{flat_map};
 ghost use Rattle.dex_dump.specs.Pieces.{piece_text, zeros_text};
 ghost use Rattle.dex_desk.specs.Serving as spec;
-ghost use Rattle.dex_desk.specs.Serving.{AreLater, StoppedFor};
+ghost use Rattle.dex_desk.specs.Serving.{AreLater, MayStop, StoppedFor};
 ghost use Rattle.dex_desk.specs.Talks as talks;
 ghost use Rattle.dex_desk.specs.Talks.{HasNoEnd, IsCut, talk};
 ghost use Rattle.dex_desk.specs.Talks.Session.{Sets};
@@ -12,7 +12,7 @@ ghost use Rattle.dex_desk.specs.Talks.Session.{Sets};
 use crate::block::Block;
 use crate::desk::Desk;
 use crate::ends::{Over, Stop};
-use crate::inbox::{Inbox, line_end};
+use crate::inbox::Inbox;
 use crate::set_up::{Opened, open_desk};
 use crate::speaking::{CHUNK, Ear, hear_more, say_text};
 use dex_dump::Piece;
@@ -21,7 +21,7 @@ use dex_types::NoMemory;
 use std::alloc::Global;
 
 /// The most bytes that a set-up may have, and a line behind it.
-pub const MOST: usize = 67_108_864;
+pub const MOST: usize = 1_099_511_627_776;
 
 /// What set-ups come to.
 #[derive(Drop)]
@@ -42,8 +42,9 @@ pub fn set_up<D: Desk>(
 ) -> Result<SetUp, Stop>
     requires inbox { inbox.old ≡ [] }
     requires text { text.old.items ≡ [] }
-    ensures found { IfOk result (λ found. spec.TellsSetUp found (D.turns desk.old) (D.turns desk.new) talks.first inbox.new text.new.items) }
-    ensures stopped { IfErr result (λ why. spec.Stopped why (D.turns desk.old) (D.turns desk.new) talks.first) }
+    ensures found { IfOk result (λ found. spec.TellsSetUp found (D.turns desk.old) (D.turns desk.new) talks.first
+        inbox.new text.new.items) }
+    ensures stopped { MayStop result (D.turns desk.old) (D.turns desk.new) talks.first }
     ensures deaf { IfOk result (λ found. spec.SetUpFor found (D.deaf desk.old) (D.deaf desk.new)) }
     ensures mute { IfErr result (λ why. StoppedFor why (D.mute desk.old) (D.mute desk.new)) }
     ensures later { AreLater (D.deaf desk.old) (D.mute desk.old) (D.deaf desk.new) (D.mute desk.new) }
@@ -71,7 +72,7 @@ fn hear_set_up<D: Desk>(
     requires text { text.old.items ≡ [] }
     ensures found { IfOk result (λ found. spec.TellsWaiting found (D.turns desk.old) (D.turns desk.new)
         (talk (Sets kept.old.items inbox.old) []) kept.new.items inbox.new text.new.items) }
-    ensures stopped { IfErr result (λ why. spec.Stopped why (D.turns desk.old) (D.turns desk.new) (talk (Sets kept.old.items inbox.old) [])) }
+    ensures stopped { MayStop result (D.turns desk.old) (D.turns desk.new) (talk (Sets kept.old.items inbox.old) []) }
     ensures deaf { IfOk result (λ found. spec.WaitingFor found (D.deaf desk.old) (D.deaf desk.new)) }
     ensures mute { IfErr result (λ why. StoppedFor why (D.mute desk.old) (D.mute desk.new)) }
     ensures later { AreLater (D.deaf desk.old) (D.mute desk.old) (D.deaf desk.new) (D.mute desk.new) }
@@ -99,8 +100,8 @@ fn go_on<D: Desk>(
     requires listening { spec.IsWaiting found inbox.old }
     ensures found { IfOk result (λ next. spec.TellsWaiting next (D.turns desk.old) (D.turns desk.new)
         (talk (spec.session_of found kept.old.items inbox.old) []) kept.new.items inbox.new text.new.items) }
-    ensures stopped { IfErr result (λ why. spec.Stopped why (D.turns desk.old) (D.turns desk.new)
-        (talk (spec.session_of found kept.old.items inbox.old) [])) }
+    ensures stopped { MayStop result (D.turns desk.old) (D.turns desk.new)
+        (talk (spec.session_of found kept.old.items inbox.old) []) }
     ensures deaf { IfOk result (λ next. spec.WaitingFor next (D.deaf desk.old) (D.deaf desk.new)) }
     ensures mute { IfErr result (λ why. StoppedFor why (D.mute desk.old) (D.mute desk.new)) }
     ensures later { AreLater (D.deaf desk.old) (D.mute desk.old) (D.deaf desk.new) (D.mute desk.new) }
@@ -123,7 +124,7 @@ fn listen<D: Desk>(
     requires listening { HasNoEnd inbox.old }
     ensures found { IfOk result (λ found. spec.TellsWaiting found (D.turns desk.old) (D.turns desk.new)
         (talk (Sets kept.old.items inbox.old) []) kept.new.items inbox.new text.new.items) }
-    ensures stopped { IfErr result (λ why. spec.Stopped why (D.turns desk.old) (D.turns desk.new) (talk (Sets kept.old.items inbox.old) [])) }
+    ensures stopped { MayStop result (D.turns desk.old) (D.turns desk.new) (talk (Sets kept.old.items inbox.old) []) }
     ensures deaf { IfOk result (λ found. spec.WaitingFor found (D.deaf desk.old) (D.deaf desk.new)) }
     ensures mute { IfErr result (λ why. StoppedFor why (D.mute desk.old) (D.mute desk.new)) }
     ensures later { AreLater (D.deaf desk.old) (D.mute desk.old) (D.deaf desk.new) (D.mute desk.new) }
@@ -160,7 +161,7 @@ fn take_set_ups(
     ensures { IfOk result (λ found. spec.HaveSetUp found (talk (Sets kept.old.items inbox.old) text.old.items)
         kept.new.items inbox.new text.new.items) }
 {
-    'lines: while let Some(size) = line_end(inbox.bytes()) {
+    'lines: while let Some(size) = inbox.line_end() {
         let found = take_set_up_line(alloc, size, kept, inbox, text)?;
         if found.is_some() {
             return Ok(found);

@@ -4,7 +4,7 @@ ghost use Rattle.std.specs.Prelude.{◌≡◌, ◌≤◌, [], IfErr, IfOk, IsTru
 ghost use Rattle.dex_answers.specs.declared.status.Status.TheVariants as status;
 ghost use Rattle.dex_io.specs.Faults.{Rose};
 ghost use Rattle.dex_desk.specs.Serving as spec;
-ghost use Rattle.dex_desk.specs.Serving.{AreLater, StoppedFor};
+ghost use Rattle.dex_desk.specs.Serving.{AreLater, MayEnd, MayStop, StoppedFor};
 ghost use Rattle.dex_desk.specs.Talks as talks;
 ghost use Rattle.dex_desk.specs.Talks.{IsListening, IsServed, Talked, talk};
 ghost use Rattle.dex_desk.specs.Talks.Session.{Ended, Serves};
@@ -13,7 +13,7 @@ use crate::answering::{Buffers, answer_dump, take_line, take_lines};
 use crate::block::Block;
 use crate::desk::Desk;
 use crate::ends::{Over, Stop};
-use crate::inbox::{Inbox, line_end};
+use crate::inbox::Inbox;
 use crate::opening::{MOST, SetUp, append, set_up};
 use crate::speaking::{CHUNK, Ear, hear_more, say_all, say_text};
 use dex_answers::Status;
@@ -40,10 +40,18 @@ pub fn serve<D: Desk>(alloc: Global, desk: &mut D) -> Status
     }
 }
 
+/// Serves a session, and answers the number of its status, with which the process ends.
+pub fn serve_process<D: Desk>(alloc: Global, desk: &mut D) -> u8
+    ensures { spec.EndsProcess result (D.turns desk.old) (D.turns desk.new)
+        (D.deaf desk.old) (D.deaf desk.new) (D.mute desk.old) (D.mute desk.new) }
+{
+    serve(alloc, desk).code()
+}
+
 /// All of a session but the line that says that memory was wanting.
 fn session<D: Desk>(alloc: Global, desk: &mut D) -> Result<Over, Stop>
-    ensures talk { IfOk result (λ why. Talked (D.turns desk.old) (D.turns desk.new) talks.first (talk (Ended why) [])) }
-    ensures stopped { IfErr result (λ why. spec.Stopped why (D.turns desk.old) (D.turns desk.new) talks.first) }
+    ensures talk { MayEnd result (D.turns desk.old) (D.turns desk.new) talks.first }
+    ensures stopped { MayStop result (D.turns desk.old) (D.turns desk.new) talks.first }
     ensures deaf { IfOk result (λ why. spec.EndedFor why (D.deaf desk.old) (D.deaf desk.new)) }
     ensures mute { IfErr result (λ why. StoppedFor why (D.mute desk.old) (D.mute desk.new)) }
     ensures later { D.mute desk.old ≤ D.mute desk.new }
@@ -68,8 +76,8 @@ fn converse<D: Desk>(
 ) -> Result<Over, Stop>
     requires inbox { inbox.old ≡ [] }
     requires text { buffers.old.text.items ≡ [] }
-    ensures talk { IfOk result (λ why. Talked (D.turns desk.old) (D.turns desk.new) talks.first (talk (Ended why) [])) }
-    ensures stopped { IfErr result (λ why. spec.Stopped why (D.turns desk.old) (D.turns desk.new) talks.first) }
+    ensures talk { MayEnd result (D.turns desk.old) (D.turns desk.new) talks.first }
+    ensures stopped { MayStop result (D.turns desk.old) (D.turns desk.new) talks.first }
     ensures deaf { IfOk result (λ why. spec.EndedFor why (D.deaf desk.old) (D.deaf desk.new)) }
     ensures mute { IfErr result (λ why. StoppedFor why (D.mute desk.old) (D.mute desk.new)) }
     ensures later { D.mute desk.old ≤ D.mute desk.new }
@@ -91,8 +99,8 @@ fn converse_on<D: Desk>(
     block: Block,
 ) -> Result<Over, Stop>
     requires { buffers.old.text.items ≡ [] }
-    ensures talk { IfOk result (λ why. Talked (D.turns desk.old) (D.turns desk.new) (talk (Serves block inbox.old) []) (talk (Ended why) [])) }
-    ensures stopped { IfErr result (λ why. spec.Stopped why (D.turns desk.old) (D.turns desk.new) (talk (Serves block inbox.old) [])) }
+    ensures talk { MayEnd result (D.turns desk.old) (D.turns desk.new) (talk (Serves block inbox.old) []) }
+    ensures stopped { MayStop result (D.turns desk.old) (D.turns desk.new) (talk (Serves block inbox.old) []) }
     ensures deaf { IfOk result (λ why. spec.EndedFor why (D.deaf desk.old) (D.deaf desk.new)) }
     ensures mute { IfErr result (λ why. StoppedFor why (D.mute desk.old) (D.mute desk.new)) }
     ensures later { D.mute desk.old ≤ D.mute desk.new }
@@ -107,7 +115,7 @@ fn converse_on<D: Desk>(
 fn say_rest<D: Desk>(desk: &mut D, text: &mut Vec<u8>, why: Over) -> Result<Over, Stop>
     ensures said { IfOk result (λ over. (over ≡ why)
         × Talked (D.turns desk.old) (D.turns desk.new) (talk (Ended why) text.old.items) (talk (Ended why) [])) }
-    ensures stopped { IfErr result (λ stop. spec.Stopped stop (D.turns desk.old) (D.turns desk.new) (talk (Ended why) text.old.items)) }
+    ensures stopped { MayStop result (D.turns desk.old) (D.turns desk.new) (talk (Ended why) text.old.items) }
     ensures mute { IfErr result (λ stop. StoppedFor stop (D.mute desk.old) (D.mute desk.new)) }
     ensures later { D.mute desk.old ≤ D.mute desk.new }
     ensures apart { D.deaf desk.new ≡ D.deaf desk.old }
@@ -139,7 +147,7 @@ fn serve_rows<D: Desk>(
     requires { buffers.old.text.items ≡ [] }
     ensures talk { IfOk result (λ why. Talked (D.turns desk.old) (D.turns desk.new) (talk (Serves block inbox.old) [])
         (talk (Ended why) buffers.new.text.items)) }
-    ensures stopped { IfErr result (λ why. spec.Stopped why (D.turns desk.old) (D.turns desk.new) (talk (Serves block inbox.old) [])) }
+    ensures stopped { MayStop result (D.turns desk.old) (D.turns desk.new) (talk (Serves block inbox.old) []) }
     ensures deaf { IfOk result (λ why. spec.EndedFor why (D.deaf desk.old) (D.deaf desk.new)) }
     ensures mute { IfErr result (λ why. StoppedFor why (D.mute desk.old) (D.mute desk.new)) }
     ensures later { AreLater (D.deaf desk.old) (D.mute desk.old) (D.deaf desk.new) (D.mute desk.new) }
@@ -167,7 +175,7 @@ fn answer_lines<D: Desk>(
     requires { buffers.old.text.items ≡ [] }
     ensures goes { IfOk result (λ goes. spec.TellsGoes goes (D.turns desk.old) (D.turns desk.new)
         (talk (Serves block inbox.old) []) inbox.new buffers.new.text.items) }
-    ensures stopped { IfErr result (λ why. spec.Stopped why (D.turns desk.old) (D.turns desk.new) (talk (Serves block inbox.old) [])) }
+    ensures stopped { MayStop result (D.turns desk.old) (D.turns desk.new) (talk (Serves block inbox.old) []) }
     ensures deaf { IfOk result (λ goes. spec.GoesFor goes (D.deaf desk.old) (D.deaf desk.new)) }
     ensures mute { IfErr result (λ why. StoppedFor why (D.mute desk.old) (D.mute desk.new)) }
     ensures later { AreLater (D.deaf desk.old) (D.mute desk.old) (D.deaf desk.new) (D.mute desk.new) }
@@ -194,7 +202,7 @@ fn go_on<D: Desk>(
     requires text { buffers.old.text.items ≡ [] }
     ensures goes { IfOk result (λ goes. spec.TellsGoes goes (D.turns desk.old) (D.turns desk.new)
         (talk (Serves block inbox.old) []) inbox.new buffers.new.text.items) }
-    ensures stopped { IfErr result (λ why. spec.Stopped why (D.turns desk.old) (D.turns desk.new) (talk (Serves block inbox.old) [])) }
+    ensures stopped { MayStop result (D.turns desk.old) (D.turns desk.new) (talk (Serves block inbox.old) []) }
     ensures deaf { IfOk result (λ goes. spec.GoesFor goes (D.deaf desk.old) (D.deaf desk.new)) }
     ensures mute { IfErr result (λ why. StoppedFor why (D.mute desk.old) (D.mute desk.new)) }
     ensures later { AreLater (D.deaf desk.old) (D.mute desk.old) (D.deaf desk.new) (D.mute desk.new) }
@@ -210,7 +218,7 @@ fn go_on<D: Desk>(
 fn is_listening(inbox: &Inbox, block: &Block) -> bool
     ensures { IsTrue result → IsListening (Serves block.now inbox.now) }
 {
-    block.len() == 0 && line_end(inbox.bytes()).is_none()
+    block.len() == 0 && inbox.line_end().is_none()
 }
 
 /// Hears more, where all that was heard is answered.
@@ -226,7 +234,7 @@ fn listen<D: Desk>(
     requires listening { IsListening (Serves block inbox.old) }
     ensures goes { IfOk result (λ goes. spec.TellsGoes goes (D.turns desk.old) (D.turns desk.new)
         (talk (Serves block inbox.old) []) inbox.new buffers.new.text.items) }
-    ensures stopped { IfErr result (λ why. spec.Stopped why (D.turns desk.old) (D.turns desk.new) (talk (Serves block inbox.old) [])) }
+    ensures stopped { MayStop result (D.turns desk.old) (D.turns desk.new) (talk (Serves block inbox.old) []) }
     ensures deaf { IfOk result (λ goes. spec.GoesFor goes (D.deaf desk.old) (D.deaf desk.new)) }
     ensures mute { IfErr result (λ why. StoppedFor why (D.mute desk.old) (D.mute desk.new)) }
     ensures later { AreLater (D.deaf desk.old) (D.mute desk.old) (D.deaf desk.new) (D.mute desk.new) }

@@ -4,6 +4,7 @@ ghost use Rattle.std.specs.Prelude.{◌≡◌, IfOk, pos};
 ghost use Rattle.dex_types.specs.Accounts.{accounts_of};
 ghost use Rattle.dex_rows.specs.Records.{rows_of};
 ghost use Rattle.dex_state.specs.Accepted.{AreAccepted};
+ghost use Rattle.dex_types.specs.declared.limits.TheConstants.{WIDE as wide};
 ghost use Rattle.dex_script.specs.Names.{AreNames};
 ghost use Rattle.dex_script.specs.Pieces.{number_after};
 ghost use Rattle.dex_desk.specs.SetUps as spec;
@@ -13,10 +14,10 @@ use crate::block::Block;
 use dex_answers::{StatusText, no_script};
 use dex_replay::replay;
 use dex_rows::records::{Fields, Rows, field_at};
-use dex_script::{Names, read_script};
+use dex_script::{Names, a_script_has_its_limits, read_script_within};
 use dex_script_types::{addresses_of_markets, addresses_of_wallets};
 use dex_statement::{RowError, Statement, statement_of};
-use dex_types::{Accounts, NoMemory};
+use dex_types::{Accounts, NoMemory, WIDE};
 use std::alloc::Global;
 
 /// What a set-up came to.
@@ -33,10 +34,11 @@ pub enum Opened {
 pub fn open_desk(alloc: Global, text: &[u8]) -> Result<Opened, NoMemory>
     ensures { IfOk result (λ opened. TellsOpened opened text.now) }
 {
-    match read_script(alloc, text, false) {
+    match read_script_within(alloc, text, false, &WIDE) {
         Ok(script) => {
             let (number, clock) = behind(alloc, text)?;
             let program = script.program;
+            a_script_has_its_limits();
             let outcome = replay(alloc, script)?;
             let names = names_of(alloc, &outcome.accounts)?;
             Ok(Opened::Desk(Block::of(alloc, outcome.accounts, names, program, clock, number)))
@@ -47,7 +49,7 @@ pub fn open_desk(alloc: Global, text: &[u8]) -> Result<Opened, NoMemory>
 
 /// The names of accounts.
 fn names_of(alloc: Global, accounts: &Accounts) -> Result<Names, NoMemory>
-    requires { AreAccepted (accounts_of accounts.now) }
+    requires { AreAccepted wide (accounts_of accounts.now) }
     ensures { IfOk result (λ names. AreNames names (accounts_of accounts.now)) }
 {
     let markets = addresses_of_markets(alloc, &accounts.markets)?;

@@ -17,8 +17,9 @@ use Rattle.dex_token.specs.MintAccount.{IsMint}
 use Rattle.dex_token.specs.TokenAccount.{IsWallet, wallet_words}
 use Rattle.dex_token.proofs.TokenRules.{none_from_mint}
 use Rattle.dex_accounts.specs.Accepted.{IsAccepted, NamesMarket}
+use Rattle.dex_types.specs.declared.limits.Limits.{Limits}
 use Rattle.dex_state.specs.Addresses.{address_of, all_of_market, market_addresses, parts_of, times}
-use Rattle.dex_state.specs.Accepted.{AreAccepted, AreApart as NamesApart, HasMints, IsMintOf}
+use Rattle.dex_state.specs.Accepted.{AreAccepted, AreApart as NamesApart, HasFew, HasMints, IsMintOf}
 use Rattle.dex_state.specs.Held.{HoldBytes, IsAddress, IsHeld, IsHeldMarket}
 use Rattle.dex_dump.specs.Answers.{Answers, AnswersDump, AnswersText, AreReadAs, IsReadAs, PlainDump, next_number}
 use Rattle.dex_dump.specs.Answers.Ends.{AtEnd}
@@ -74,14 +75,14 @@ few-moved taken xs left few = λ address. omega (arith, few address, times-appen
 abbrev names : List PlainMarketAccounts → List Address
 names markets = map (λ (market : PlainMarketAccounts). market.address) markets
 
-room-last : (done : List PlainMarketAccounts) (market : PlainMarketAccounts) → times market.address (names done) ≡ 0
-    → has_room market.address (done ++ market ∷ []) ≡ nat_lt (length market.orders) 64
-room-last [] market none = rw (is_same-refl market.address) refl
-room-last (other ∷ done) market none = elim (cases_Bool (is_same market.address other.address)) [
+room-last : (most : ℕ) (done : List PlainMarketAccounts) (market : PlainMarketAccounts) → times market.address (names done) ≡ 0
+    → has_room most market.address (done ++ market ∷ []) ≡ nat_lt (length market.orders) most
+room-last most [] market none = rw (is_same-refl market.address) refl
+room-last most (other ∷ done) market none = elim (cases_Bool (is_same market.address other.address)) [
   | inl same ↦
       let first : one market.address other.address ≡ 1 = rw same refl in
       absurd (omega (arith, times-cons market.address other.address (names done)))
-  | inr apart ↦ rw apart (room-last done market (omega (arith, times-cons market.address other.address (names done))))
+  | inr apart ↦ rw apart (room-last most done market (omega (arith, times-cons market.address other.address (names done))))
 ]
 
 with-last : (done : List PlainMarketAccounts) (market : PlainMarketAccounts) (account : PlainAccount) → times market.address (names done) ≡ 0
@@ -107,15 +108,15 @@ name-allowed : (accounts : PlainAccounts) (mint : Address) (other : Option Addre
 name-allowed accounts mint None is apart = is
 name-allowed accounts mint (Some other) is apart = and_from _ _ is (not_from_false _ (is_same-sym mint other ∙ apart))
 
-module _ (whole : PlainAccounts) (behind : List Fields) where
+module _ (limits : Limits) (whole : PlainAccounts) (behind : List Fields) where
   -- the rows give these accounts, with these rows after them, whatever the number of the first is
   abbrev Back : PlainReading → List Fields → Type 0
   Back reading rows =
       (number : ℕ) → (count : ℕ) × Answers number reading rows (Ok (record { accounts = whole; count = count; behind = behind }))
 
-  back-last : (taken : List Address) → Back (record { accounts = whole; taken = taken }) (last_row ∷ behind)
+  back-last : (taken : List Address) → Back (record { accounts = whole; taken = taken; limits = limits }) (last_row ∷ behind)
   back-last taken = λ number.
-      (number, inl (AtEnd (stated-allowed (record { accounts = whole; taken = taken }) last_row End last_stated refl) refl))
+      (number, inl (AtEnd (stated-allowed (record { accounts = whole; taken = taken; limits = limits }) last_row End last_stated refl) refl))
 
   back-row : (reading : PlainReading) (row : Fields) (line : PlainLine) (rows : List Fields) → line_of row ≡ Some line → (line ≡ End → ⊥)
       → is_allowed reading line ≡ true → AllHold (checks reading line) → Back (after_line reading line) rows → Back reading (row ∷ rows)
@@ -159,12 +160,12 @@ module _ (whole : PlainAccounts) (behind : List Fields) where
   -- ---- mints
 
   abbrev with_mints : List PlainAccount → List Address → PlainReading
-  with_mints mints taken = record { accounts = record { mints = mints; srm = None; msrm = None; wallets = []; markets = [] }; taken = taken }
+  with_mints mints taken = record { accounts = record { mints = mints; srm = None; msrm = None; wallets = []; markets = [] }; taken = taken; limits = limits }
 
   abbrev IsMintKind : PlainAccount → Type 0
   IsMintKind mint = IsMint mint.bytes
 
-  mint-step : Step with_mints mint_row IsMintKind 16
+  mint-step : Step with_mints mint_row IsMintKind limits.mints
   unfolding checks
   mint-step mint done taken rows held is free room next =
       back-row (with_mints done taken) (mint_row mint) (Mint mint) rows (mint_stated mint held) (λ e. cc e) (and_from _ _ (not_from_false _ free) room)
@@ -173,7 +174,7 @@ module _ (whole : PlainAccounts) (behind : List Fields) where
   -- ---- the two names
 
   abbrev with_names : Option Address → Option Address → List Address → PlainReading
-  with_names srm msrm taken = record { accounts = record { mints = whole.mints; srm = srm; msrm = msrm; wallets = []; markets = [] }; taken = taken }
+  with_names srm msrm taken = record { accounts = record { mints = whole.mints; srm = srm; msrm = msrm; wallets = []; markets = [] }; taken = taken; limits = limits }
 
   back-srm : (srm : Option Address) (taken : List Address) (rows : List Fields) → IfSome srm IsAddress → IfSome srm (IsMintOf whole)
       → Back (with_names srm None taken) rows → Back (with_names None None taken) (named_rows (codes "srm") srm ++ rows)
@@ -193,12 +194,12 @@ module _ (whole : PlainAccounts) (behind : List Fields) where
   -- ---- wallets
 
   abbrev with_wallets : List PlainAccount → List Address → PlainReading
-  with_wallets wallets taken = record { accounts = record whole { wallets = wallets; markets = [] }; taken = taken }
+  with_wallets wallets taken = record { accounts = record whole { wallets = wallets; markets = [] }; taken = taken; limits = limits }
 
   abbrev IsWalletKind : PlainAccount → Type 0
   IsWalletKind wallet = IsWallet wallet.bytes × IsMintOf whole (wallet_words wallet.bytes).mint
 
-  wallet-step : Step with_wallets wallet_row IsWalletKind 256
+  wallet-step : Step with_wallets wallet_row IsWalletKind limits.wallets
   unfolding checks
   wallet-step wallet done taken rows held is free room next =
       let here = with_wallets done taken in
@@ -208,7 +209,7 @@ module _ (whole : PlainAccounts) (behind : List Fields) where
   -- ---- open-orders accounts of the market that was read last
 
   abbrev with_markets : List PlainMarketAccounts → List Address → PlainReading
-  with_markets markets taken = record { accounts = record whole { markets = markets }; taken = taken }
+  with_markets markets taken = record { accounts = record whole { markets = markets }; taken = taken; limits = limits }
 
   abbrev with_last : List PlainMarketAccounts → PlainMarketAccounts → List PlainAccount → List Address → PlainReading
   with_last done market orders taken = with_markets (done ++ (record market { orders = orders }) ∷ []) taken
@@ -217,12 +218,12 @@ module _ (whole : PlainAccounts) (behind : List Fields) where
   IsOrdersKind market account = IsOrders account.bytes × NamesMarket market account
 
   orders-step : (done : List PlainMarketAccounts) (market : PlainMarketAccounts) → times market.address (names done) ≡ 0 → IsAddress market.address
-      → Step (with_last done market) (orders_row market.address) (IsOrdersKind market.address) 64
+      → Step (with_last done market) (orders_row market.address) (IsOrdersKind market.address) limits.orders
   unfolding checks
   orders-step done market none at account before taken rows held is free room next =
       let last : PlainMarketAccounts = record market { orders = before } in
       back-row (with_last done market before taken) (orders_row market.address account) (Orders market.address account) rows
-      (orders_stated market.address at account held) (λ e. cc e) (and_from _ _ (not_from_false _ free) (room-last done last none ∙ room))
+      (orders_stated market.address at account held) (λ e. cc e) (and_from _ _ (not_from_false _ free) (room-last limits.orders done last none ∙ room))
       (orders_pass market.address account.bytes is.0 is.1, tt)
       (subst (λ (markets : List PlainMarketAccounts). Back (with_markets markets (taken ++ account.address ∷ [])) rows) (sym (with-last done last account none)) next)
 
@@ -256,15 +257,12 @@ module _ (whole : PlainAccounts) (behind : List Fields) where
       ⨾ none_from_requests market.requests accepted.requests ⨾ none_from_queue market.events accepted.events
       ⨾ side_passes Bid market.bids accepted.bids ⨾ accepted.bids.slab ⨾ side_passes Ask market.asks accepted.asks ⨾ accepted.asks.slab ⨾ tt
 
-  abbrev HasFew : PlainMarketAccounts → Type 0
-  HasFew market = length market.orders ≤ 64
-
   -- what is known of the markets that are left
   record Markets (markets : List PlainMarketAccounts) : Type 0 where
     held : All IsHeldMarket markets
     accepted : All IsAccepted markets
     mints : All (HasMints whole) markets
-    few : All HasFew markets
+    few : All (HasFew limits) markets
 
   -- the addresses of the markets that were read are taken
   abbrev AreTaken : List PlainMarketAccounts → List Address → Type 0
@@ -285,7 +283,7 @@ module _ (whole : PlainAccounts) (behind : List Fields) where
       )
 
   back-markets : (markets done : List PlainMarketAccounts) (taken : List Address) (rows : List Fields) → Markets markets → AreTaken done taken
-      → FewLeft taken (flat_map all_of_market markets) → length done + length markets ≤ 16
+      → FewLeft taken (flat_map all_of_market markets) → length done + length markets ≤ limits.markets
       → ((end : List Address) → Back (with_markets (done ++ markets) end) rows) → Back (with_markets done taken) (flat_map market_rows markets ++ rows)
   back-markets [] done taken rows are at few size next = rw (append-nil done) at (next taken)
   back-markets (market ∷ markets) done taken rows are at few size next =
@@ -300,18 +298,18 @@ module _ (whole : PlainAccounts) (behind : List Fields) where
       let free : is_among market.address taken ≡ false = few-first taken market.address behind_first split in
       let untaken : times market.address taken ≡ 0 = few-none taken market.address behind_first split in
       let none : times market.address (names done) ≡ 0 = omega (arith, at market.address) in
-      let room : 0 + length market.orders ≤ 64 = omega (arith, All-head HasFew market markets are.few) in
-      let allowed : is_allowed here (Market bare) ≡ true = and_from _ _ (not_from_false _ free) (lt-ltb (length done) 16 (omega arith)) in
+      let room : 0 + length market.orders ≤ limits.orders = omega (arith, All-head (HasFew limits) market markets are.few) in
+      let allowed : is_allowed here (Market bare) ≡ true = and_from _ _ (not_from_false _ free) (lt-ltb (length done) limits.markets (omega arith)) in
       let more : Back (with_markets (done ++ market ∷ []) (taken ++ all_of_market market)) (flat_map market_rows markets ++ rows) =
       back-markets markets (done ++ market ∷ []) (taken ++ all_of_market market) rows (record {
         held = All-tail IsHeldMarket market markets are.held;
         accepted = All-tail IsAccepted market markets are.accepted;
         mints = All-tail (HasMints whole) market markets are.mints;
-        few = All-tail HasFew market markets are.few;
+        few = All-tail (HasFew limits) market markets are.few;
       }) (taken-more done market taken at) (few-moved taken (all_of_market market) left few) (omega (arith, length-append done (market ∷ [])))
       (λ end. rw (append_assoc done (market ∷ []) markets) (next end)) in
       let accounts : Back (with_last done market [] (taken ++ market_addresses market)) (map (orders_row market.address) market.orders ++ (flat_map market_rows markets ++ rows)) =
-      back-each (with_last done market) (orders_row market.address) (IsOrdersKind market.address) 64 (orders-step done market none held.address)
+      back-each (with_last done market) (orders_row market.address) (IsOrdersKind market.address) limits.orders (orders-step done market none held.address)
       market.orders [] (taken ++ market_addresses market) left (flat_map market_rows markets ++ rows) held.orders
       (λ k d below. (accepted.orders k d below, accepted.named k d below)) (few-moved taken (market_addresses market) (orders ++ left) split) room
       (rw (append_assoc taken (market_addresses market) orders) more) in
@@ -322,10 +320,10 @@ module _ (whole : PlainAccounts) (behind : List Fields) where
 
 -- ---- all rows
 
-pub accounts-back : (accounts : PlainAccounts) → AreAccepted accounts → HoldBytes accounts → (behind : List Fields)
-    → Back accounts behind start (account_rows accounts ++ last_row ∷ behind)
+pub accounts-back : (limits : Limits) (accounts : PlainAccounts) → AreAccepted limits accounts → HoldBytes accounts → (behind : List Fields)
+    → Back limits accounts behind (start limits) (account_rows accounts ++ last_row ∷ behind)
 unfolding account_rows
-accounts-back accounts are held behind =
+accounts-back limits accounts are held behind =
     let mints = map mint_row accounts.mints in
     let srms = named_rows (codes "srm") accounts.srm in
     let msrms = named_rows (codes "msrm") accounts.msrm in
@@ -338,17 +336,17 @@ accounts-back accounts are held behind =
     let few : FewLeft [] (of_mints ++ (of_wallets ++ of_markets)) = λ address. omega (arith, are.once address) in
     let few_wallets : FewLeft of_mints (of_wallets ++ of_markets) = few-moved [] of_mints (of_wallets ++ of_markets) few in
     let few_markets : FewLeft (of_mints ++ of_wallets) of_markets = few-moved of_mints of_wallets of_markets few_wallets in
-    let from_markets = back-markets accounts behind accounts.markets [] (of_mints ++ of_wallets) last (record {
+    let from_markets = back-markets limits accounts behind accounts.markets [] (of_mints ++ of_wallets) last (record {
       held = held.markets;
       accepted = are.markets;
       mints = are.market_mints;
       few = are.few_orders;
-    }) (λ address. omega arith) few_markets (omega (arith, are.few_markets)) (λ end. back-last accounts behind end) in
-    let from_wallets = back-each accounts behind (with_wallets accounts behind) wallet_row (IsWalletKind accounts behind) 256 (wallet-step accounts behind)
+    }) (λ address. omega arith) few_markets (omega (arith, are.few_markets)) (λ end. back-last limits accounts behind end) in
+    let from_wallets = back-each limits accounts behind (with_wallets limits accounts behind) wallet_row (IsWalletKind limits accounts behind) limits.wallets (wallet-step limits accounts behind)
     accounts.wallets [] of_mints of_markets (markets ++ last) held.wallets (λ k d below. (are.wallets k d below, are.wallet_mints k d below)) few_wallets (omega (arith, are.few_wallets)) from_markets in
-    let from_msrm = back-msrm accounts behind accounts.srm accounts.msrm of_mints (wallets ++ (markets ++ last)) held.msrm are.msrm are.apart from_wallets in
-    let from_srm = back-srm accounts behind accounts.srm of_mints (msrms ++ (wallets ++ (markets ++ last))) held.srm are.srm from_msrm in
-    let all = back-each accounts behind (with_mints accounts behind) mint_row (IsMintKind accounts behind) 16 (mint-step accounts behind) accounts.mints [] [] (of_wallets ++ of_markets) (srms ++ (msrms ++ (wallets ++ (markets ++ last)))) held.mints are.mints few
+    let from_msrm = back-msrm limits accounts behind accounts.srm accounts.msrm of_mints (wallets ++ (markets ++ last)) held.msrm are.msrm are.apart from_wallets in
+    let from_srm = back-srm limits accounts behind accounts.srm of_mints (msrms ++ (wallets ++ (markets ++ last))) held.srm are.srm from_msrm in
+    let all = back-each limits accounts behind (with_mints limits accounts behind) mint_row (IsMintKind limits accounts behind) limits.mints (mint-step limits accounts behind) accounts.mints [] [] (of_wallets ++ of_markets) (srms ++ (msrms ++ (wallets ++ (markets ++ last)))) held.mints are.mints few
     (omega (arith, are.few_mints)) from_srm in
     rw (
       append_assoc mints (srms ++ (msrms ++ (wallets ++ markets))) last,
@@ -362,34 +360,34 @@ unfolding is_first_row
 first_first = refl
 
 -- the rows of a dump, whatever stands after them
-pub rows-back : (accounts : PlainAccounts) → AreAccepted accounts → HoldBytes accounts → (behind : List Fields)
-    → (count : ℕ) × AnswersDump (dump_rows accounts ++ behind) (Ok (record { accounts = accounts; count = count; behind = behind }))
-rows-back accounts are held behind =
-    let back = accounts-back accounts are held behind 2 in
+pub rows-back : (limits : Limits) (accounts : PlainAccounts) → AreAccepted limits accounts → HoldBytes accounts → (behind : List Fields)
+    → (count : ℕ) × AnswersDump limits (dump_rows accounts ++ behind) (Ok (record { accounts = accounts; count = count; behind = behind }))
+rows-back limits accounts are held behind =
+    let back = accounts-back limits accounts are held behind 2 in
     (back.0, inl (first_first, rw (append_assoc (account_rows accounts) (last_row ∷ []) behind) back.1))
 
 -- the text of a dump
-pub text-back : (accounts : PlainAccounts) → AreAccepted accounts → HoldBytes accounts → AnswersText (dump_text accounts) (Ok accounts)
-text-back accounts are held =
-    let back = rows-back accounts are held [] in
+pub text-back : (limits : Limits) (accounts : PlainAccounts) → AreAccepted limits accounts → HoldBytes accounts → AnswersText limits (dump_text accounts) (Ok accounts)
+text-back limits accounts are held =
+    let back = rows-back limits accounts are held [] in
     let dump : PlainDump = record { accounts = accounts; count = back.0; behind = [] } in
-    (Ok dump, subst (λ (rows : List Fields). AnswersDump rows (Ok dump)) (append-nil (dump_rows accounts) ∙ sym (rows_of-dump accounts held)) back.1, refl)
+    (Ok dump, subst (λ (rows : List Fields). AnswersDump limits rows (Ok dump)) (append-nil (dump_rows accounts) ∙ sym (rows_of-dump accounts held)) back.1, refl)
 
 -- ---- and as nothing else
 
-pub text-read : (accounts : PlainAccounts) → AreAccepted accounts → HoldBytes accounts → IsReadAs (dump_text accounts) accounts
-text-read accounts are held = λ answer.
-    let back = text-back accounts are held in
-    (λ is. text-once (dump_text accounts) accounts answer back is, λ same. subst (AnswersText (dump_text accounts)) (sym same) back)
+pub text-read : (limits : Limits) (accounts : PlainAccounts) → AreAccepted limits accounts → HoldBytes accounts → IsReadAs limits (dump_text accounts) accounts
+text-read limits accounts are held = λ answer.
+    let back = text-back limits accounts are held in
+    (λ is. text-once limits (dump_text accounts) accounts answer back is, λ same. subst (AnswersText limits (dump_text accounts)) (sym same) back)
 
-pub rows-read : (accounts : PlainAccounts) (behind : List Fields) → AreAccepted accounts → HoldBytes accounts
-    → AreReadAs (dump_rows accounts ++ behind) accounts behind
-rows-read accounts behind are held =
-    let back = rows-back accounts are held behind in
+pub rows-read : (limits : Limits) (accounts : PlainAccounts) (behind : List Fields) → AreAccepted limits accounts → HoldBytes accounts
+    → AreReadAs limits (dump_rows accounts ++ behind) accounts behind
+rows-read limits accounts behind are held =
+    let back = rows-back limits accounts are held behind in
     let dump : PlainDump = record { accounts = accounts; count = back.0; behind = behind } in (
       back.0,
       λ answer. (
-        λ is. dump-once (dump_rows accounts ++ behind) dump answer back.1 is,
-        λ same. subst (AnswersDump (dump_rows accounts ++ behind)) (sym same) back.1,
+        λ is. dump-once limits (dump_rows accounts ++ behind) dump answer back.1 is,
+        λ same. subst (AnswersDump limits (dump_rows accounts ++ behind)) (sym same) back.1,
       ),
     )

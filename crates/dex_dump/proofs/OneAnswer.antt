@@ -7,6 +7,7 @@ use Rattle.dex_types.specs.declared.faults.AccountFault.{AccountFault}
 use Rattle.dex_types.specs.Accounts.{PlainAccounts}
 use Rattle.dex_dump.specs.declared.faults.DumpFault.{DumpFault}
 use Rattle.dex_rows.specs.Records.{rows_of}
+use Rattle.dex_types.specs.declared.limits.Limits.{Limits}
 use Rattle.dex_dump.specs.Answers.{Adds, Answers, AnswersDump, AnswersText, Ends, PlainAnswer, PlainDump, next_number, stated, with_end}
 use Rattle.dex_dump.specs.Answers.Ends.{AtEnd, AtRow, AtAccount}
 use Rattle.dex_dump.specs.Checks.{AccountCheck, AllHold, Check, Fails, FirstFails, Holds, checks}
@@ -75,19 +76,19 @@ rows-once number reading (row ∷ rows) dump answer (inr more) (inr too) =
     rows-once (next_number number) more.0 rows dump answer more.2
     (subst (λ (r : PlainReading). Answers (next_number number) r rows answer) (adds-once number reading row rows more.0 too.0 more.1 too.1) too.2)
 
-pub dump-once : (rows : List Fields) (dump : PlainDump) (answer : PlainAnswer) → AnswersDump rows (Ok dump) → AnswersDump rows answer → answer ≡ Ok dump
-dump-once [] dump answer h k = absurd cc
-dump-once (row ∷ rows) dump answer (inl first) (inl first_too) = rows-once 2 start rows dump answer first.1 first_too.1
-dump-once (row ∷ rows) dump answer (inl first) (inr other) = absurd (false≢true (sym other.0 ∙ first.0))
-dump-once (row ∷ rows) dump answer (inr other) k = absurd (let no = other.1 in cc)
+pub dump-once : (limits : Limits) (rows : List Fields) (dump : PlainDump) (answer : PlainAnswer) → AnswersDump limits rows (Ok dump) → AnswersDump limits rows answer → answer ≡ Ok dump
+dump-once limits [] dump answer h k = absurd cc
+dump-once limits (row ∷ rows) dump answer (inl first) (inl first_too) = rows-once 2 (start limits) rows dump answer first.1 first_too.1
+dump-once limits (row ∷ rows) dump answer (inl first) (inr other) = absurd (false≢true (sym other.0 ∙ first.0))
+dump-once limits (row ∷ rows) dump answer (inr other) k = absurd (let no = other.1 in cc)
 
 -- a text that is read as accounts is read as nothing else
-pub text-once : (text : List ℕ) (accounts : PlainAccounts) (answer : Result PlainAccounts DumpFault) → AnswersText text (Ok accounts) → AnswersText text answer
+pub text-once : (limits : Limits) (text : List ℕ) (accounts : PlainAccounts) (answer : Result PlainAccounts DumpFault) → AnswersText limits text (Ok accounts) → AnswersText limits text answer
     → answer ≡ Ok accounts
-text-once text accounts answer h k = from h.0 h.1 h.2
+text-once limits text accounts answer h k = from h.0 h.1 h.2
   where
-    from : (first : PlainAnswer) → AnswersDump (rows_of text) first → Ok accounts ≡ with_end first → answer ≡ Ok accounts
+    from : (first : PlainAnswer) → AnswersDump limits (rows_of text) first → Ok accounts ≡ with_end first → answer ≡ Ok accounts
     from (Err fault) of is = absurd cc
     from (Ok dump) of is =
-        let same : k.0 ≡ Ok dump = dump-once (rows_of text) dump k.0 of k.1 in
+        let same : k.0 ≡ Ok dump = dump-once limits (rows_of text) dump k.0 of k.1 in
         k.2 ∙ ap with_end same ∙ sym is

@@ -7,7 +7,7 @@ use Rattle.dex_state.specs.Held.{HoldBytes, IsAddress, IsHeld, IsHeldMarket}
 use Rattle.dex_dump.specs.DumpText.{account_rows, dump_rows, dump_text, last_row, market_rows, mint_row, named_rows, orders_row, wallet_row}
 use Rattle.dex_dump_rows.specs.Lines.{Fields, PlainLine, line_of}
 use Rattle.dex_dump_rows.specs.Lines.PlainLine.{Mint, Srm, Msrm, Wallet, Market, Orders}
-use Rattle.dex_dump.specs.Reading.{start}
+use Rattle.dex_dump.specs.Reading.{no_accounts}
 use Rattle.dex_dump.proofs.EachRow.{first_of, others_of}
 use Rattle.dex_dump.proofs.RowLaws.{one_text}
 use Rattle.dex_dump.proofs.StatedLaws.{first_stated, last_stated, market_stated, mint_stated, msrm_stated, orders_stated, srm_stated, wallet_stated}
@@ -28,7 +28,7 @@ with_row (Some (Orders market account)) built = record built { orders = account 
 with_row _ built = built
 
 abbrev built : List Fields → Built
-built [] = record { accounts = start.accounts; orders = [] }
+built [] = record { accounts = no_accounts; orders = [] }
 built (row ∷ rows) = with_row (line_of row) (built rows)
 
 -- ---- rows of one kind in front of others
@@ -89,10 +89,10 @@ rows_built accounts h =
     let wallets = map wallet_row accounts.wallets in
     let markets = flat_map market_rows accounts.markets in
     let last : List Fields = last_row ∷ [] in
-    let from_markets : built (markets ++ last) ≡ record { accounts = record start.accounts { markets = accounts.markets }; orders = [] } =
+    let from_markets : built (markets ++ last) ≡ record { accounts = record no_accounts { markets = accounts.markets }; orders = [] } =
     rw (markets_built accounts.markets h.markets last (rw last_stated refl), last_stated, append-nil accounts.markets) refl in
     let from_wallets : built (wallets ++ (markets ++ last))
-    ≡ record { accounts = record start.accounts { wallets = accounts.wallets; markets = accounts.markets }; orders = [] } =
+    ≡ record { accounts = record no_accounts { wallets = accounts.wallets; markets = accounts.markets }; orders = [] } =
     rw (wallets_built accounts.wallets h.wallets (markets ++ last), from_markets, append-nil accounts.wallets) refl in
     let from_msrm : built (msrms ++ (wallets ++ (markets ++ last)))
     ≡ record { accounts = record accounts { mints = []; srm = None }; orders = [] } =

@@ -16,31 +16,31 @@ list_any_map p f (x ∷ xs) = ap (λ (b : Bool). p (f x) || b) (list_any_map p f
 
 -- ---- the room of the first market of an address, with the markets from a place on
 
-abbrev room_from : Address → List MarketAccounts → Bool
-room_from address markets = has_room address (map market_accounts_of markets)
+abbrev room_from : ℕ → Address → List MarketAccounts → Bool
+room_from most address markets = has_room most address (map market_accounts_of markets)
 
-pub room-other : (address : Address) (markets : List MarketAccounts) (place : ℕ) (market : MarketAccounts) → place < length markets
+pub room-other : (most : ℕ) (address : Address) (markets : List MarketAccounts) (place : ℕ) (market : MarketAccounts) → place < length markets
     → market ≡ get_or markets place market → is_same address market.address ≡ false
-    → has_room address (map market_accounts_of (drop place markets)) ≡ has_room address (map market_accounts_of markets)
-    → has_room address (map market_accounts_of (drop (place + 1) markets)) ≡ has_room address (map market_accounts_of markets)
-room-other address markets place market within here other rest =
-    let step = at_drop_more (room_from address) markets place market within in
+    → has_room most address (map market_accounts_of (drop place markets)) ≡ has_room most address (map market_accounts_of markets)
+    → has_room most address (map market_accounts_of (drop (place + 1) markets)) ≡ has_room most address (map market_accounts_of markets)
+room-other most address markets place market within here other rest =
+    let step = at_drop_more (room_from most address) markets place market within in
     let stood = rw (← here, other) at step in
     sym stood ∙ rest
 
-pub room-here : (address : Address) (markets : List MarketAccounts) (place : ℕ) (market : MarketAccounts) → place < length markets
+pub room-here : (most : ℕ) (address : Address) (markets : List MarketAccounts) (place : ℕ) (market : MarketAccounts) → place < length markets
     → market ≡ get_or markets place market → is_same address market.address ≡ true
-    → has_room address (map market_accounts_of (drop place markets)) ≡ has_room address (map market_accounts_of markets)
-    → nat_lt (length (market_accounts_of market).orders) 64 ≡ has_room address (map market_accounts_of markets)
-room-here address markets place market within here found rest =
-    let step = at_drop_more (room_from address) markets place market within in
+    → has_room most address (map market_accounts_of (drop place markets)) ≡ has_room most address (map market_accounts_of markets)
+    → nat_lt (length (market_accounts_of market).orders) most ≡ has_room most address (map market_accounts_of markets)
+room-here most address markets place market within here found rest =
+    let step = at_drop_more (room_from most address) markets place market within in
     let stood = rw (← here, found) at step in
     sym stood ∙ rest
 
-pub room-none : (address : Address) (markets : List MarketAccounts) (place : ℕ) → length markets ≤ place
-    → has_room address (map market_accounts_of (drop place markets)) ≡ has_room address (map market_accounts_of markets)
-    → false ≡ has_room address (map market_accounts_of markets)
-room-none address markets place over rest = sym (at_drop_all (room_from address) markets place over) ∙ rest
+pub room-none : (most : ℕ) (address : Address) (markets : List MarketAccounts) (place : ℕ) → length markets ≤ place
+    → has_room most address (map market_accounts_of (drop place markets)) ≡ has_room most address (map market_accounts_of markets)
+    → false ≡ has_room most address (map market_accounts_of markets)
+room-none most address markets place over rest = sym (at_drop_all (room_from most address) markets place over) ∙ rest
 
 -- ---- one more account of the first market of an address
 
@@ -74,7 +74,7 @@ none-here address account markets place market changed within here found grown r
     ∙ ap (λ (m : PlainMarketAccounts). map market_accounts_of (take place markets) ++ (m ∷ map market_accounts_of (drop (place + 1) markets))) grown
     ∙ sym (rest ∙ ap (λ (ms : List PlainMarketAccounts). map market_accounts_of (take place markets) ++ ms) step)
 
--- the same, of the list as it was read and written
+-- an account is added to a market of the list as it was read and written
 pub added : (address : Address) (account : OrdersAccount) (markets first : List MarketAccounts) (place : ℕ) (d e changed : MarketAccounts)
     → markets ≡ first → place < length markets → is_same address (get_or markets place d).address ≡ true
     → changed ≡ record (get_or markets place e) { orders = changed.orders }

@@ -24,24 +24,27 @@ use Rattle.dex_accounts.specs.Accepted.{IsAccepted, NamesMarket}
 use Rattle.dex_rows.specs.Records.{rows_of}
 use Rattle.dex_dump.specs.declared.faults.DumpError.{DumpError}
 use Rattle.dex_dump.specs.declared.reader.DumpRead.{DumpRead}
+use Rattle.dex_types.specs.declared.limits.Limits.{Limits}
+use Rattle.dex_types.specs.Limits.{AreLimits}
 use Rattle.dex_state.specs.Addresses.{addresses_of, is_mint, market_addresses, parts_of, times}
-use Rattle.dex_state.specs.Accepted.{AreAccepted, AreApart as NamesApart, HasMints, IsMintOf}
+use Rattle.dex_state.specs.Accepted.{AreAccepted, AreApart as NamesApart, HasFew, HasMints, IsMintOf}
 use Rattle.dex_state.specs.Held.{HoldBytes, IsHeld, IsHeldMarket}
 use Rattle.dex_dump.specs.Answers.{Adds, Answers, AnswersDump, AnswersText, Ends, PlainAnswer, PlainDump, if_allowed, if_over, next_number, with_end}
 use Rattle.dex_dump.specs.Answers.Ends.{AtEnd, AtRow, AtAccount}
 use Rattle.dex_dump.specs.Checks.{AllHold, checks}
 use Rattle.dex_dump_rows.specs.Lines.{Fields, PlainLine, line_of}
 use Rattle.dex_dump_rows.specs.Lines.PlainLine.{Mint, Srm, Msrm, Wallet, Market, Orders, End}
-use Rattle.dex_dump.specs.Reading.{PlainReading, has_room, is_allowed, is_among, is_name, start, taken_by, with_line, with_orders}
+use Rattle.dex_dump.specs.Reading.{PlainReading, has_room, is_allowed, is_among, is_name, no_accounts, start, taken_by, with_line, with_orders}
 use Rattle.dex_dump.specs.Telling.{TellsAccounts, plain_dump}
 use Rattle.dex_dump.proofs.CheckLaws.{IsMarketHere, market_held, orders_held, side_held, vault_held, wallet_held}
 use Rattle.dex_dump.proofs.LineLaws.{IsRead, line-read}
 use Rattle.dex_state.proofs.Times.{times-append}
 use Rattle.dex_dump.proofs.TakenLaws.{AreApart, AreFree, line-adds, times-new}
 
--- the accounts so far are accepted, and their addresses are those that are taken
-pub record IsSoFar (reading : PlainReading) : Type 0 where
-  pub accepted : AreAccepted reading.accounts
+-- the accounts so far are accepted within these limits, and their addresses are those that are taken
+pub record IsSoFar (limits : Limits) (reading : PlainReading) : Type 0 where
+  pub same : reading.limits ≡ limits
+  pub accepted : AreAccepted reading.limits reading.accounts
   pub held : HoldBytes reading.accounts
   pub taken : (address : Address) → times address reading.taken ≡ times address (addresses_of reading.accounts)
 
@@ -85,22 +88,19 @@ orders-length name account (market ∷ markets) = elim (cases_Bool (is_same name
   | inr other ↦ rw other (ap suc (orders-length name account markets))
 ]
 
-abbrev HasFew : PlainMarketAccounts → Type 0
-HasFew market = length market.orders ≤ 64
-
-orders-few : (name : Address) (account : PlainAccount) (markets : List PlainMarketAccounts) → has_room name markets ≡ true → All HasFew markets
-    → All HasFew (with_orders name account markets)
-orders-few name account [] room h = h
-orders-few name account (market ∷ markets) room h = elim (cases_Bool (is_same name market.address)) [
+orders-few : (limits : Limits) (name : Address) (account : PlainAccount) (markets : List PlainMarketAccounts) → has_room limits.orders name markets ≡ true → All (HasFew limits) markets
+    → All (HasFew limits) (with_orders name account markets)
+orders-few limits name account [] room h = h
+orders-few limits name account (market ∷ markets) room h = elim (cases_Bool (is_same name market.address)) [
   | inl here ↦
-      let left : nat_lt (length market.orders) 64 ≡ true = rw here at room in
+      let left : nat_lt (length market.orders) limits.orders ≡ true = rw here at room in
       let grown : PlainMarketAccounts = record market { orders = market.orders ++ account ∷ [] } in
-      All-same HasFew (with_orders name account (market ∷ markets)) (grown ∷ markets) (rw here refl)
-      (All-cons HasFew grown markets (room-left market.orders account 64 left) (All-tail HasFew market markets h))
+      All-same (HasFew limits) (with_orders name account (market ∷ markets)) (grown ∷ markets) (rw here refl)
+      (All-cons (HasFew limits) grown markets (room-left market.orders account limits.orders left) (All-tail (HasFew limits) market markets h))
   | inr other ↦
-      let left : has_room name markets ≡ true = rw other at room in
-      All-same HasFew (with_orders name account (market ∷ markets)) (market ∷ with_orders name account markets) (rw other refl)
-      (All-cons HasFew market (with_orders name account markets) (All-head HasFew market markets h) (orders-few name account markets left (All-tail HasFew market markets h)))
+      let left : has_room limits.orders name markets ≡ true = rw other at room in
+      All-same (HasFew limits) (with_orders name account (market ∷ markets)) (market ∷ with_orders name account markets) (rw other refl)
+      (All-cons (HasFew limits) market (with_orders name account markets) (All-head (HasFew limits) market markets h) (orders-few limits name account markets left (All-tail (HasFew limits) market markets h)))
 ]
 
 orders-accepted : (name : Address) (account : PlainAccount) → IsOrders account.bytes → NamesMarket name account → (market : PlainMarketAccounts)
@@ -206,9 +206,9 @@ pub record IsTaken (reading : PlainReading) (line : PlainLine) : Type 0 where
   pub taken : (address : Address) → times address (reading.taken ++ taken_by line) ≡ times address (addresses_of (with_line reading.accounts line))
   pub once : (address : Address) → times address (addresses_of (with_line reading.accounts line)) ≤ 1
 
-line-taken : (reading : PlainReading) (line : PlainLine) → IsSoFar reading → IsRead line → is_allowed reading line ≡ true → AllHold (checks reading line)
+line-taken : (limits : Limits) (reading : PlainReading) (line : PlainLine) → IsSoFar limits reading → IsRead line → is_allowed reading line ≡ true → AllHold (checks reading line)
     → IsTaken reading line
-line-taken reading line so read allowed hold =
+line-taken limits reading line so read allowed hold =
     let same : (address : Address) → times address (reading.taken ++ taken_by line) ≡ times address (addresses_of (with_line reading.accounts line)) =
     λ address. times-append address reading.taken (taken_by line) ∙ ap (λ (n : ℕ). n + times address (taken_by line)) (so.taken address)
     ∙ sym (line-adds reading line read allowed address) in
@@ -243,9 +243,9 @@ names-swapped mint None h = tt
 names-swapped mint (Some other) h = is_same-sym other mint ∙ h
 
 -- the names of mints alone are others
-names-accepted : (accounts : PlainAccounts) (srm msrm : Option Address) → AreAccepted accounts → ((address : Address) → times address (addresses_of accounts) ≤ 1)
-    → IfSome srm (IsMintOf accounts) → IfSome msrm (IsMintOf accounts) → NamesApart srm msrm → AreAccepted (record accounts { srm = srm; msrm = msrm })
-names-accepted accounts srm msrm old once is_srm is_msrm apart = record {
+names-accepted : (limits : Limits) (accounts : PlainAccounts) (srm msrm : Option Address) → AreAccepted limits accounts → ((address : Address) → times address (addresses_of accounts) ≤ 1)
+    → IfSome srm (IsMintOf accounts) → IfSome msrm (IsMintOf accounts) → NamesApart srm msrm → AreAccepted limits (record accounts { srm = srm; msrm = msrm })
+names-accepted limits accounts srm msrm old once is_srm is_msrm apart = record {
   mints = old.mints;
   wallets = old.wallets;
   markets = old.markets;
@@ -255,17 +255,18 @@ names-accepted accounts srm msrm old once is_srm is_msrm apart = record {
   srm = is_srm;
   msrm = is_msrm;
   apart = apart;
+  within = old.within;
   few_mints = old.few_mints;
   few_wallets = old.few_wallets;
   few_markets = old.few_markets;
   few_orders = old.few_orders;
 }
 
-line-accepted : (reading : PlainReading) (line : PlainLine) → IsSoFar reading → IsRead line → is_allowed reading line ≡ true
+line-accepted : (limits : Limits) (reading : PlainReading) (line : PlainLine) → IsSoFar limits reading → IsRead line → is_allowed reading line ≡ true
     → AllHold (checks reading line) → ((address : Address) → times address (addresses_of (with_line reading.accounts line)) ≤ 1)
-    → AreAccepted (with_line reading.accounts line)
+    → AreAccepted reading.limits (with_line reading.accounts line)
 unfolding checks
-line-accepted reading (Mint mint) so read allowed hold once =
+line-accepted limits reading (Mint mint) so read allowed hold once =
     let accounts = reading.accounts in
     let old = so.accepted in
     let P : PlainAccount → Type 0 = λ other. IsMintOf accounts (wallet_words other.bytes).mint in
@@ -283,20 +284,21 @@ line-accepted reading (Mint mint) so read allowed hold once =
       srm = name-stays accounts mint accounts.srm old.srm;
       msrm = name-stays accounts mint accounts.msrm old.msrm;
       apart = old.apart;
-      few_mints = room-left accounts.mints mint 16 (and_parts _ _ allowed).1;
+      within = old.within;
+      few_mints = room-left accounts.mints mint reading.limits.mints (and_parts _ _ allowed).1;
       few_wallets = old.few_wallets;
       few_markets = old.few_markets;
       few_orders = old.few_orders;
     }
-line-accepted reading (Srm mint) so read allowed hold once =
+line-accepted limits reading (Srm mint) so read allowed hold once =
     let accounts = reading.accounts in
     let named = named-mint accounts mint accounts.srm accounts.msrm allowed in
-    names-accepted accounts (Some mint) accounts.msrm so.accepted once named.0 so.accepted.msrm named.1
-line-accepted reading (Msrm mint) so read allowed hold once =
+    names-accepted reading.limits accounts (Some mint) accounts.msrm so.accepted once named.0 so.accepted.msrm named.1
+line-accepted limits reading (Msrm mint) so read allowed hold once =
     let accounts = reading.accounts in
     let named = named-mint accounts mint accounts.msrm accounts.srm allowed in
-    names-accepted accounts accounts.srm (Some mint) so.accepted once so.accepted.srm named.0 (names-swapped mint accounts.srm named.1)
-line-accepted reading (Wallet wallet) so read allowed hold once =
+    names-accepted reading.limits accounts accounts.srm (Some mint) so.accepted once so.accepted.srm named.0 (names-swapped mint accounts.srm named.1)
+line-accepted limits reading (Wallet wallet) so read allowed hold once =
     let accounts = reading.accounts in
     let old = so.accepted in
     let held = wallet_held accounts wallet.bytes hold.0 in
@@ -310,17 +312,18 @@ line-accepted reading (Wallet wallet) so read allowed hold once =
       srm = old.srm;
       msrm = old.msrm;
       apart = old.apart;
+      within = old.within;
       few_mints = old.few_mints;
-      few_wallets = room-left accounts.wallets wallet 256 (and_parts _ _ allowed).1;
+      few_wallets = room-left accounts.wallets wallet reading.limits.wallets (and_parts _ _ allowed).1;
       few_markets = old.few_markets;
       few_orders = old.few_orders;
     }
-line-accepted reading (Market market) so read allowed hold once =
+line-accepted limits reading (Market market) so read allowed hold once =
     let accounts = reading.accounts in
     let old = so.accepted in
     let both = market-accepted reading market read hold in
     let mints : HasMints (with_line accounts (Market market)) market = record { coin = both.0.coin_mint; pc = both.0.pc_mint } in
-    let none : HasFew market = subst (λ (orders : List PlainAccount). length orders ≤ 64) (sym read.1) (omega arith) in
+    let none : HasFew reading.limits market = subst (λ (orders : List PlainAccount). length orders ≤ reading.limits.orders) (sym read.1) (omega arith) in
     record {
       mints = old.mints;
       wallets = old.wallets;
@@ -332,17 +335,18 @@ line-accepted reading (Market market) so read allowed hold once =
       srm = old.srm;
       msrm = old.msrm;
       apart = old.apart;
+      within = old.within;
       few_mints = old.few_mints;
       few_wallets = old.few_wallets;
-      few_markets = room-left accounts.markets market 16 (and_parts _ _ allowed).1;
-      few_orders = All-push HasFew accounts.markets market old.few_orders none;
+      few_markets = room-left accounts.markets market reading.limits.markets (and_parts _ _ allowed).1;
+      few_orders = All-push (HasFew reading.limits) accounts.markets market old.few_orders none;
     }
-line-accepted reading (Orders name account) so read allowed hold once =
+line-accepted limits reading (Orders name account) so read allowed hold once =
     let accounts = reading.accounts in
     let new = with_line accounts (Orders name account) in
     let old = so.accepted in
     let held = orders_held name account.bytes read.0.size hold.0 in
-    let room = (and_parts (not (is_among account.address reading.taken)) (has_room name accounts.markets) allowed).1 in
+    let room = (and_parts (not (is_among account.address reading.taken)) (has_room reading.limits.orders name accounts.markets) allowed).1 in
     record {
       mints = old.mints;
       wallets = old.wallets;
@@ -354,12 +358,13 @@ line-accepted reading (Orders name account) so read allowed hold once =
       srm = old.srm;
       msrm = old.msrm;
       apart = old.apart;
+      within = old.within;
       few_mints = old.few_mints;
       few_wallets = old.few_wallets;
-      few_markets = subst (λ (n : ℕ). n ≤ 16) (sym (orders-length name account accounts.markets)) old.few_markets;
-      few_orders = orders-few name account accounts.markets room old.few_orders;
+      few_markets = subst (λ (n : ℕ). n ≤ reading.limits.markets) (sym (orders-length name account accounts.markets)) old.few_markets;
+      few_orders = orders-few reading.limits name account accounts.markets room old.few_orders;
     }
-line-accepted reading End so read allowed hold once = so.accepted
+line-accepted limits reading End so read allowed hold once = so.accepted
 
 -- what a line holds is held with the accounts so far
 line-held : (accounts : PlainAccounts) (line : PlainLine) → HoldBytes accounts → IsRead line → HoldBytes (with_line accounts line)
@@ -417,86 +422,94 @@ allowed-parts reading (Some other) line h =
     let parts = cond_some (is_allowed reading other) other line h in
     (ap Some parts.1, subst (λ (l : PlainLine). is_allowed reading l ≡ true) parts.1 parts.0)
 
-row-so-far : (reading next : PlainReading) (row : Fields) → IsSoFar reading → Adds reading row next → IsSoFar next
-row-so-far reading next row so adds =
+row-so-far : (limits : Limits) (reading next : PlainReading) (row : Fields) → IsSoFar limits reading → Adds reading row next → IsSoFar limits next
+row-so-far limits reading next row so adds =
     let of = allowed-parts reading (line_of row) adds.line adds.states in
     let read = line-read row adds.line of.0 in
-    let new = line-taken reading adds.line so read of.1 adds.hold in
-    subst IsSoFar (sym adds.adds) (record {
-      accepted = line-accepted reading adds.line so read of.1 adds.hold new.once;
+    let new = line-taken limits reading adds.line so read of.1 adds.hold in
+    subst (IsSoFar limits) (sym adds.adds) (record {
+      same = so.same;
+      accepted = line-accepted limits reading adds.line so read of.1 adds.hold new.once;
       held = line-held reading.accounts adds.line so.held read;
       taken = new.taken;
     })
 
 -- accepted accounts that hold bytes
-pub record AreRead (accounts : PlainAccounts) : Type 0 where
-  pub accepted : AreAccepted accounts
+pub record AreRead (limits : Limits) (accounts : PlainAccounts) : Type 0 where
+  pub accepted : AreAccepted limits accounts
   pub held : HoldBytes accounts
 
-ends-read : (number : ℕ) (reading : PlainReading) (row : Fields) (rows : List Fields) (dump : PlainDump) → IsSoFar reading
-    → Ends number reading row rows (Ok dump) → AreRead dump.accounts
-ends-read number reading row rows dump so (AtEnd states is) =
+ends-read : (limits : Limits) (number : ℕ) (reading : PlainReading) (row : Fields) (rows : List Fields) (dump : PlainDump) → IsSoFar limits reading
+    → Ends number reading row rows (Ok dump) → AreRead limits dump.accounts
+ends-read limits number reading row rows dump so (AtEnd states is) =
     let same : dump ≡ record { accounts = reading.accounts; count = number; behind = rows } = cc in
-    let here : AreRead reading.accounts = record { accepted = so.accepted; held = so.held } in
-    subst (λ (d : PlainDump). AreRead d.accounts) (sym same) here
-ends-read number reading row rows dump so (AtRow states is) = absurd cc
-ends-read number reading row rows dump so (AtAccount line states account fault fails is) = absurd cc
+    let here : AreRead reading.limits reading.accounts = record { accepted = so.accepted; held = so.held } in
+    subst (λ (d : PlainDump). AreRead limits d.accounts) (sym same) (subst (λ (l : Limits). AreRead l reading.accounts) so.same here)
+ends-read limits number reading row rows dump so (AtRow states is) = absurd cc
+ends-read limits number reading row rows dump so (AtAccount line states account fault fails is) = absurd cc
 
 -- what rows give after accounts that are accepted
-rows-read : (number : ℕ) (reading : PlainReading) (rows : List Fields) (dump : PlainDump) → IsSoFar reading → Answers number reading rows (Ok dump)
-    → AreRead dump.accounts
-rows-read number reading [] dump so h = absurd cc
-rows-read number reading (row ∷ rows) dump so (inl ends) = ends-read number reading row rows dump so ends
-rows-read number reading (row ∷ rows) dump so (inr more) =
-    rows-read (next_number number) more.0 rows dump (row-so-far reading more.0 row so more.1) more.2
+rows-read : (limits : Limits) (number : ℕ) (reading : PlainReading) (rows : List Fields) (dump : PlainDump) → IsSoFar limits reading → Answers number reading rows (Ok dump)
+    → AreRead limits dump.accounts
+rows-read limits number reading [] dump so h = absurd cc
+rows-read limits number reading (row ∷ rows) dump so (inl ends) = ends-read limits number reading row rows dump so ends
+rows-read limits number reading (row ∷ rows) dump so (inr more) =
+    rows-read limits (next_number number) more.0 rows dump (row-so-far limits reading more.0 row so more.1) more.2
 
-start-so-far : IsSoFar start
-start-so-far = record {
+start-so-far : (limits : Limits) → AreLimits limits → IsSoFar limits (start limits)
+start-so-far limits are = record {
+  same = refl;
   accepted = record {
     mints = All-nil (λ (other : PlainAccount). IsMint other.bytes);
     wallets = All-nil (λ (other : PlainAccount). IsWallet other.bytes);
     markets = All-nil IsAccepted;
-    wallet_mints = All-nil (λ (other : PlainAccount). IsMintOf start.accounts (wallet_words other.bytes).mint);
-    market_mints = All-nil (HasMints start.accounts);
+    wallet_mints = All-nil (λ (other : PlainAccount). IsMintOf no_accounts (wallet_words other.bytes).mint);
+    market_mints = All-nil (HasMints no_accounts);
     once = λ address. omega arith;
     srm = tt;
     msrm = tt;
     apart = tt;
+    within = are;
     few_mints = omega arith;
     few_wallets = omega arith;
     few_markets = omega arith;
-    few_orders = All-nil HasFew;
+    few_orders = All-nil (HasFew limits);
   };
   held = record { mints = All-nil IsHeld; srm = tt; msrm = tt; wallets = All-nil IsHeld; markets = All-nil IsHeldMarket };
   taken = λ address. refl;
 }
 
 -- what a dump is read as, whatever stands after it
-pub dump-read : (rows : List Fields) (dump : PlainDump) → AnswersDump rows (Ok dump) → AreRead dump.accounts
-dump-read [] dump h = absurd cc
-dump-read (row ∷ rows) dump (inl first) = rows-read 2 start rows dump start-so-far first.1
-dump-read (row ∷ rows) dump (inr other) = absurd (let no = other.1 in cc)
+pub dump-read : (limits : Limits) → AreLimits limits → (rows : List Fields) (dump : PlainDump) → AnswersDump limits rows (Ok dump)
+    → AreRead limits dump.accounts
+dump-read limits are [] dump h = absurd cc
+dump-read limits are (row ∷ rows) dump (inl first) = rows-read limits 2 (start limits) rows dump (start-so-far limits are) first.1
+dump-read limits are (row ∷ rows) dump (inr other) = absurd (let no = other.1 in cc)
 
 ended : (accounts : PlainAccounts) (dump : PlainDump) (behind : List Fields) → Ok accounts ≡ if_over dump behind → accounts ≡ dump.accounts
 ended accounts dump [] h = cc
 ended accounts dump (row ∷ rows) h = absurd cc
 
-answer-read : (rows : List Fields) (answer : PlainAnswer) (accounts : PlainAccounts) → AnswersDump rows answer → Ok accounts ≡ with_end answer
-    → AreRead accounts
-answer-read rows (Err fault) accounts h is = absurd cc
-answer-read rows (Ok dump) accounts h is = subst AreRead (sym (ended accounts dump dump.behind is)) (dump-read rows dump h)
+answer-read : (limits : Limits) → AreLimits limits → (rows : List Fields) (answer : PlainAnswer) (accounts : PlainAccounts) → AnswersDump limits rows answer → Ok accounts ≡ with_end answer
+    → AreRead limits accounts
+answer-read limits are rows (Err fault) accounts h is = absurd cc
+answer-read limits are rows (Ok dump) accounts h is =
+    subst (AreRead limits) (sym (ended accounts dump dump.behind is)) (dump-read limits are rows dump h)
 
 -- what a text is read as
-pub text-read : (text : List ℕ) (accounts : PlainAccounts) → AnswersText text (Ok accounts) → AreRead accounts
-text-read text accounts h = answer-read (rows_of text) h.0 accounts h.1 h.2
+pub text-read : (limits : Limits) → AreLimits limits → (text : List ℕ) (accounts : PlainAccounts) → AnswersText limits text (Ok accounts)
+    → AreRead limits accounts
+text-read limits are text accounts h = answer-read limits are (rows_of text) h.0 accounts h.1 h.2
 
 -- what the rows after the first are read as
-pub told-accepted : (result : Result DumpRead DumpError) (rows left : List Fields) → TellsAccounts result rows left
-    → IfOk result (λ (read : DumpRead). AreAccepted (accounts_of read.accounts))
-told-accepted (Ok read) rows left told = (rows-read 2 start rows (plain_dump read left) start-so-far told).accepted
-told-accepted (Err error) rows left told = tt
+pub told-accepted : (limits : Limits) → AreLimits limits → (result : Result DumpRead DumpError) (rows left : List Fields)
+    → TellsAccounts limits result rows left
+    → IfOk result (λ (read : DumpRead). AreAccepted limits (accounts_of read.accounts))
+told-accepted limits are (Ok read) rows left told = (rows-read limits 2 (start limits) rows (plain_dump read left) (start-so-far limits are) told).accepted
+told-accepted limits are (Err error) rows left told = tt
 
-pub told-held : (result : Result DumpRead DumpError) (rows left : List Fields) → TellsAccounts result rows left
+pub told-held : (limits : Limits) → AreLimits limits → (result : Result DumpRead DumpError) (rows left : List Fields)
+    → TellsAccounts limits result rows left
     → IfOk result (λ (read : DumpRead). HoldBytes (accounts_of read.accounts))
-told-held (Ok read) rows left told = (rows-read 2 start rows (plain_dump read left) start-so-far told).held
-told-held (Err error) rows left told = tt
+told-held limits are (Ok read) rows left told = (rows-read limits 2 (start limits) rows (plain_dump read left) (start-so-far limits are) told).held
+told-held limits are (Err error) rows left told = tt

@@ -1,12 +1,14 @@
 -- How often an address stands among the addresses of accounts, and what a line adds.
-use Rattle.std.proofs.Common.{◌≡◌, ◌≤◌, ◌+◌, ◌∷◌, ◌++◌, ◌∙◌, ◌⊎◌, [], ℕ, List, true, false, not, arith, refl, ap, inl, inr, map}
+use Rattle.std.proofs.Common.{◌≡◌, ◌≤◌, ◌+◌, ◌∷◌, ◌++◌, ◌∙◌, ◌⊎◌, ◌||◌, [], ℕ, Bool, List, true, false, not, cond, arith, refl, sym, ap, inl, inr, map}
 use Rattle.std.specs.List.{flat_map}
 use Rattle.std.proofs.lemmas.Bool.{and_parts, cases_Bool, false≢true, or_parts}
 use Rattle.std.proofs.lemmas.List.{map-append}
 use Rattle.std.proofs.lemmas.List.Concat.{flat_map-append}
+use Rattle.std.proofs.lemmas.List.Folds.{list_any-append}
 use Rattle.dex_types.specs.declared.addresses.Address.{Address}
 use Rattle.dex_types.specs.Accounts.{PlainAccount, PlainAccounts, PlainMarketAccounts}
 use Rattle.dex_types.specs.Addresses.{is_same}
+use Rattle.dex_laws.proofs.TraderLaws.{is_same-sym}
 use Rattle.dex_state.specs.Addresses.{address_of, addresses_of, all_of_market, market_addresses, times}
 use Rattle.dex_state.proofs.Times.{one, times-append, times-cons, times-same}
 use Rattle.dex_dump_rows.specs.Lines.{PlainLine}
@@ -19,6 +21,20 @@ times-none address [] h = refl
 times-none address (x ∷ xs) h =
     let parts = or_parts (is_same address x) (is_among address xs) h in
     times-cons address x xs ∙ rw (parts.0, times-none address xs parts.1) refl
+
+-- ---- one address more
+
+either-found : (here before : Bool) → cond here true before ≡ (before || (here || false))
+either-found true true = refl
+either-found true false = refl
+either-found false true = refl
+either-found false false = refl
+
+-- an address is among these and one more
+pub found-more : (address other : Address) (list : List Address) → cond (is_same other address) true (is_among address list) ≡ is_among address (list ++ other ∷ [])
+found-more address other list =
+    ap (λ (here : Bool). cond here true (is_among address list)) (is_same-sym other address) ∙ either-found (is_same address other) (is_among address list)
+    ∙ sym (list_any-append (is_same address) list (other ∷ []))
 
 -- ---- addresses that are new
 
@@ -89,10 +105,10 @@ with-added address account market =
     let last = times-cons address account.address [] in
     omega arith
 
-orders-added : (address name : Address) (account : PlainAccount) (markets : List PlainMarketAccounts) → has_room name markets ≡ true
+orders-added : (most : ℕ) (address name : Address) (account : PlainAccount) (markets : List PlainMarketAccounts) → has_room most name markets ≡ true
     → in_markets address (with_orders name account markets) ≡ in_markets address markets + one address account.address
-orders-added address name account [] h = absurd (false≢true h)
-orders-added address name account (market ∷ markets) h = elim (cases_Bool (is_same name market.address)) [
+orders-added most address name account [] h = absurd (false≢true h)
+orders-added most address name account (market ∷ markets) h = elim (cases_Bool (is_same name market.address)) [
   | inl here ↦
       let grown : PlainMarketAccounts = record market { orders = market.orders ++ account ∷ [] } in
       let new = times-append address (all_of_market grown) (flat_map all_of_market markets) in
@@ -100,8 +116,8 @@ orders-added address name account (market ∷ markets) h = elim (cases_Bool (is_
       let more = with-added address account market in
       rw here (omega arith)
   | inr other ↦
-      let room : has_room name markets ≡ true = rw other at h in
-      let rest = orders-added address name account markets room in
+      let room : has_room most name markets ≡ true = rw other at h in
+      let rest = orders-added most address name account markets room in
       let new = times-append address (all_of_market market) (flat_map all_of_market (with_orders name account markets)) in
       let old = times-append address (all_of_market market) (flat_map all_of_market markets) in
       rw other (omega arith)
@@ -135,6 +151,6 @@ line-adds reading (Wallet wallet) read allowed address =
 line-adds reading (Market market) read allowed address =
     omega (arith, parts address reading.accounts, parts address (with_line reading.accounts (Market market)), market-added address reading.accounts.markets market read.1)
 line-adds reading (Orders market account) read allowed address =
-    let room = (and_parts (not (is_among account.address reading.taken)) (has_room market reading.accounts.markets) allowed).1 in
-    omega (arith, parts address reading.accounts, parts address (with_line reading.accounts (Orders market account)), orders-added address market account reading.accounts.markets room, times-cons address account.address [])
+    let room = (and_parts (not (is_among account.address reading.taken)) (has_room reading.limits.orders market reading.accounts.markets) allowed).1 in
+    omega (arith, parts address reading.accounts, parts address (with_line reading.accounts (Orders market account)), orders-added reading.limits.orders address market account reading.accounts.markets room, times-cons address account.address [])
 line-adds reading End read allowed address = omega arith

@@ -36,7 +36,7 @@ pub lines_more : {A B : Type 0} (row : B → Fields) (plain : A → B) (text bef
 lines_more row plain text before xs i x h here e =
     rw (e, map_more plain xs i x, ← here, map-append row, lines_text-append, lines_text-one) (append_assoc text _ _)
 
--- the same where an element has several rows, which stand after those of others
+-- the text of one element more that has several rows, which stand after those of others
 pub rows-pushed : {A B : Type 0} (rows : B → List Fields) (plain : A → B) (text before : List ℕ) (xs : List A) (x : A)
     → before ≡ text ++ lines_text (flat_map rows (map plain xs))
     → before ++ lines_text (rows (plain x)) ≡ text ++ lines_text (flat_map rows (map plain (xs ++ x ∷ [])))

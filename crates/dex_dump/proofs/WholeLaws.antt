@@ -3,6 +3,7 @@ use Rattle.std.proofs.Common.{◌≡◌, ◌++◌, ◌∷◌, ◌∙◌, [], ℕ
 use Rattle.std.specs.List.{flat_map}
 use Rattle.dex_types.specs.Accounts.{PlainAccounts}
 use Rattle.dex_dump_rows.specs.Lines.{Fields}
+use Rattle.dex_types.specs.declared.limits.Limits.{Limits}
 use Rattle.dex_state.specs.Accepted.{AreAccepted}
 use Rattle.dex_state.specs.Held.{HoldBytes, IsHeldMarket}
 use Rattle.dex_dump.specs.Answers.{IsReadAs}
@@ -10,7 +11,7 @@ use Rattle.dex_dump.specs.DumpText.{account_rows, behind_first, dump_text, first
 use Rattle.dex_dump.proofs.BackLaws.{text-read}
 use Rattle.dex_dump.proofs.TextLaws.{lines_text-append, lines_text-one}
 
--- the same accounts without markets
+-- accounts without their markets
 abbrev pub front_of : PlainAccounts → PlainAccounts
 front_of accounts = record accounts { markets = [] }
 
@@ -41,7 +42,7 @@ whole-held accounts front markets =
     record { mints = front.mints; srm = front.srm; msrm = front.msrm; wallets = front.wallets; markets = markets }
 
 -- and it is read back
-pub whole-read : (accounts : PlainAccounts) (start text : List ℕ) → start ≡ [] → text ≡ start ++ dump_text accounts → HoldBytes accounts → AreAccepted accounts
-    → IsReadAs text accounts
-whole-read accounts start text empty written held are =
-    subst (λ (told : List ℕ). IsReadAs told accounts) (sym (written ∙ ap (λ (front : List ℕ). front ++ dump_text accounts) empty)) (text-read accounts are held)
+pub whole-read : (limits : Limits) (accounts : PlainAccounts) (start text : List ℕ) → start ≡ [] → text ≡ start ++ dump_text accounts → HoldBytes accounts → AreAccepted limits accounts
+    → IsReadAs limits text accounts
+whole-read limits accounts start text empty written held are =
+    subst (λ (told : List ℕ). IsReadAs limits told accounts) (sym (written ∙ ap (λ (front : List ℕ). front ++ dump_text accounts) empty)) (text-read limits accounts are held)

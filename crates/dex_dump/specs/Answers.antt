@@ -4,6 +4,7 @@ use Rattle.dex_types.specs.declared.addresses.Address.{Address}
 use Rattle.dex_types.specs.declared.faults.AccountFault.{AccountFault}
 use Rattle.dex_types.specs.Accounts.{PlainAccounts}
 use Rattle.dex_rows.specs.Records.{rows_of}
+use Rattle.dex_types.specs.declared.limits.Limits.{Limits}
 use Rattle.dex_dump.specs.declared.faults.DumpFault.{DumpFault}
 use Rattle.dex_dump.specs.Checks.{AllHold, FirstFails, checks}
 use Rattle.dex_dump_rows.specs.Lines.{Fields, PlainLine, is_first_row, line_of}
@@ -65,11 +66,11 @@ Answers number reading (row ∷ rows) answer =
     Ends number reading row rows answer
     ⊎ ((next : PlainReading) × Adds reading row next × Answers (next_number number) next rows answer)
 
--- what the rows of a dump answer, and what stands after it
-abbrev pub AnswersDump : List Fields → PlainAnswer → Type 0
-AnswersDump [] answer = answer ≡ Err (grammar_fault 1)
-AnswersDump (row ∷ rows) answer =
-    ((is_first_row row ≡ true) × Answers 2 start rows answer) ⊎ ((is_first_row row ≡ false) × (answer ≡ Err (grammar_fault 1)))
+-- what the rows of a dump within these limits answer, and what stands after it
+abbrev pub AnswersDump : Limits → List Fields → PlainAnswer → Type 0
+AnswersDump limits [] answer = answer ≡ Err (grammar_fault 1)
+AnswersDump limits (row ∷ rows) answer =
+    ((is_first_row row ≡ true) × Answers 2 (start limits) rows answer) ⊎ ((is_first_row row ≡ false) × (answer ≡ Err (grammar_fault 1)))
 
 -- the accounts, unless a row stands after them
 abbrev pub if_over : PlainDump → List Fields → Result PlainAccounts DumpFault
@@ -81,15 +82,16 @@ abbrev pub with_end : PlainAnswer → Result PlainAccounts DumpFault
 with_end (Err fault) = Err fault
 with_end (Ok dump) = if_over dump dump.behind
 
--- a text that is a dump, and nothing else: its accounts, or the first faulty row
-abbrev pub AnswersText : List ℕ → Result PlainAccounts DumpFault → Type 0
-AnswersText text answer = (dump : PlainAnswer) × AnswersDump (rows_of text) dump × (answer ≡ with_end dump)
+-- a text that is a dump within these limits, and nothing else: its accounts, or the first faulty row
+abbrev pub AnswersText : Limits → List ℕ → Result PlainAccounts DumpFault → Type 0
+AnswersText limits text answer = (dump : PlainAnswer) × AnswersDump limits (rows_of text) dump × (answer ≡ with_end dump)
 
--- a text that is read as these accounts, and as nothing else
-abbrev pub IsReadAs : List ℕ → PlainAccounts → Type 0
-IsReadAs text accounts = (answer : Result PlainAccounts DumpFault) → AnswersText text answer ↔ (answer ≡ Ok accounts)
+-- a text that is read within these limits as these accounts, and as nothing else
+abbrev pub IsReadAs : Limits → List ℕ → PlainAccounts → Type 0
+IsReadAs limits text accounts =
+    (answer : Result PlainAccounts DumpFault) → AnswersText limits text answer ↔ (answer ≡ Ok accounts)
 
 -- rows of which the first are read as these accounts, and as nothing else, and the others stand after them
-abbrev pub AreReadAs : List Fields → PlainAccounts → List Fields → Type 0
-AreReadAs rows accounts behind =
-    (count : ℕ) × ((answer : PlainAnswer) → AnswersDump rows answer ↔ (answer ≡ Ok (record { accounts = accounts; count = count; behind = behind })))
+abbrev pub AreReadAs : Limits → List Fields → PlainAccounts → List Fields → Type 0
+AreReadAs limits rows accounts behind =
+    (count : ℕ) × ((answer : PlainAnswer) → AnswersDump limits rows answer ↔ (answer ≡ Ok (record { accounts = accounts; count = count; behind = behind })))

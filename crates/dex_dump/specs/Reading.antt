@@ -4,19 +4,25 @@ use Rattle.std.specs.List.{list_any}
 use Rattle.dex_types.specs.declared.addresses.Address.{Address}
 use Rattle.dex_types.specs.Accounts.{PlainAccount, PlainAccounts, PlainMarketAccounts}
 use Rattle.dex_types.specs.Addresses.{is_same}
+use Rattle.dex_types.specs.declared.limits.Limits.{Limits}
 use Rattle.dex_state.specs.Addresses.{is_mint, market_addresses}
 use Rattle.dex_dump_rows.specs.Lines.{PlainLine}
 use Rattle.dex_dump_rows.specs.Lines.PlainLine.{Mint, Srm, Msrm, Wallet, Market, Orders, End}
 
--- the accounts so far, and every address that is taken: those that rows declare, and those of each market's vaults,
--- queues and sides
+-- the accounts so far, every address that is taken: those that rows declare, and those of each market's vaults, queues
+-- and sides; and how much is read
 pub record PlainReading : Type 0 where
   pub accounts : PlainAccounts
   pub taken : List Address
+  pub limits : Limits
+
+-- no accounts
+abbrev pub no_accounts : PlainAccounts
+no_accounts = record { mints = []; srm = None; msrm = None; wallets = []; markets = [] }
 
 -- before the first account
-abbrev pub start : PlainReading
-start = record { accounts = record { mints = []; srm = None; msrm = None; wallets = []; markets = [] }; taken = [] }
+abbrev pub start : Limits → PlainReading
+start limits = record { accounts = no_accounts; taken = []; limits = limits }
 
 -- an address is one of these
 abbrev pub is_among : Address → List Address → Bool
@@ -34,22 +40,21 @@ is_name accounts mint (Some named) other = false
 is_name accounts mint None None = is_mint accounts mint
 is_name accounts mint None (Some other) = is_mint accounts mint && not (is_same mint other)
 
--- the market of an address has room for one more open-orders account
-abbrev pub has_room : Address → List PlainMarketAccounts → Bool
-has_room address [] = false
-has_room address (market ∷ markets) =
-    if is_same address market.address then nat_lt (length market.orders) 64 else has_room address markets
+-- the market of an address has room for one more open-orders account, of so many that a market may have
+abbrev pub has_room : ℕ → Address → List PlainMarketAccounts → Bool
+has_room most address [] = false
+has_room most address (market ∷ markets) =
+    if is_same address market.address then nat_lt (length market.orders) most else has_room most address markets
 
--- a row declares no address twice, names what earlier rows declare, and passes no limit: 16 mints, 256 wallets, 16
--- markets and 64 open-orders accounts of a market
+-- a row declares no address twice, names what earlier rows declare, and passes no limit
 abbrev pub is_allowed : PlainReading → PlainLine → Bool
-is_allowed reading (Mint mint) = is_new reading mint.address (length reading.accounts.mints) 16
+is_allowed reading (Mint mint) = is_new reading mint.address (length reading.accounts.mints) reading.limits.mints
 is_allowed reading (Srm mint) = is_name reading.accounts mint reading.accounts.srm reading.accounts.msrm
 is_allowed reading (Msrm mint) = is_name reading.accounts mint reading.accounts.msrm reading.accounts.srm
-is_allowed reading (Wallet wallet) = is_new reading wallet.address (length reading.accounts.wallets) 256
-is_allowed reading (Market market) = is_new reading market.address (length reading.accounts.markets) 16
+is_allowed reading (Wallet wallet) = is_new reading wallet.address (length reading.accounts.wallets) reading.limits.wallets
+is_allowed reading (Market market) = is_new reading market.address (length reading.accounts.markets) reading.limits.markets
 is_allowed reading (Orders market account) =
-    not (is_among account.address reading.taken) && has_room market reading.accounts.markets
+    not (is_among account.address reading.taken) && has_room reading.limits.orders market reading.accounts.markets
 is_allowed reading End = true
 
 -- ---- what it adds
@@ -83,4 +88,4 @@ taken_by _ = []
 -- the reading after a line
 abbrev pub after_line : PlainReading → PlainLine → PlainReading
 after_line reading line =
-    record { accounts = with_line reading.accounts line; taken = reading.taken ++ taken_by line }
+    record reading { accounts = with_line reading.accounts line; taken = reading.taken ++ taken_by line }

@@ -2,6 +2,7 @@
 use Rattle.std.specs.Prelude.{◌≡◌, ℕ, Bool, true, false, List, Some, Result, Ok, Err}
 use Rattle.dex_types.specs.declared.account_bytes.Accounts.{Accounts}
 use Rattle.dex_types.specs.Accounts.{accounts_of}
+use Rattle.dex_types.specs.declared.limits.Limits.{Limits}
 use Rattle.dex_dump.specs.declared.reading.Reading.{Reading}
 use Rattle.dex_dump.specs.declared.checks.Failed.{Failed}
 use Rattle.dex_dump.specs.declared.reading.Stop.{Stop}
@@ -17,7 +18,7 @@ use Rattle.dex_dump.specs.Reading.{PlainReading, after_line, start}
 
 -- what was read
 abbrev pub plain_reading : Reading → PlainReading
-plain_reading reading = record { accounts = accounts_of reading.accounts; taken = reading.taken.items }
+plain_reading reading = record { accounts = accounts_of reading.accounts; taken = reading.taken; limits = reading.limits }
 
 -- all checks hold, or the first that fails is reported
 abbrev pub TellsChecks : Result (Unit {0}) Failed → List AccountCheck → Type 0
@@ -42,19 +43,19 @@ abbrev pub plain_dump : DumpRead → List Fields → PlainDump
 plain_dump read left = record { accounts = accounts_of read.accounts; count = read.count; behind = left }
 
 -- the answer to the rows after the first is the definition's; a lack of memory tells nothing
-abbrev pub TellsAccounts : Result DumpRead DumpError → List Fields → List Fields → Type 0
-TellsAccounts (Ok read) rows left = Answers 2 start rows (Ok (plain_dump read left))
-TellsAccounts (Err (dump.Refused fault)) rows left = Answers 2 start rows (Err fault)
-TellsAccounts (Err dump.NoMemory) rows left = Unit {0}
+abbrev pub TellsAccounts : Limits → Result DumpRead DumpError → List Fields → List Fields → Type 0
+TellsAccounts limits (Ok read) rows left = Answers 2 (start limits) rows (Ok (plain_dump read left))
+TellsAccounts limits (Err (dump.Refused fault)) rows left = Answers 2 (start limits) rows (Err fault)
+TellsAccounts limits (Err dump.NoMemory) rows left = Unit {0}
 
 -- the answer to the rows of a dump is the definition's; a lack of memory tells nothing
-abbrev pub TellsDump : Result DumpRead DumpError → List Fields → List Fields → Type 0
-TellsDump (Ok read) rows left = AnswersDump rows (Ok (plain_dump read left))
-TellsDump (Err (dump.Refused fault)) rows left = AnswersDump rows (Err fault)
-TellsDump (Err dump.NoMemory) rows left = Unit {0}
+abbrev pub TellsDump : Limits → Result DumpRead DumpError → List Fields → List Fields → Type 0
+TellsDump limits (Ok read) rows left = AnswersDump limits rows (Ok (plain_dump read left))
+TellsDump limits (Err (dump.Refused fault)) rows left = AnswersDump limits rows (Err fault)
+TellsDump limits (Err dump.NoMemory) rows left = Unit {0}
 
 -- the answer to a text is the definition's; a lack of memory tells nothing
-abbrev pub TellsText : Result Accounts DumpError → List ℕ → Type 0
-TellsText (Ok accounts) text = AnswersText text (Ok (accounts_of accounts))
-TellsText (Err (dump.Refused fault)) text = AnswersText text (Err fault)
-TellsText (Err dump.NoMemory) text = Unit {0}
+abbrev pub TellsText : Limits → Result Accounts DumpError → List ℕ → Type 0
+TellsText limits (Ok accounts) text = AnswersText limits text (Ok (accounts_of accounts))
+TellsText limits (Err (dump.Refused fault)) text = AnswersText limits text (Err fault)
+TellsText limits (Err dump.NoMemory) text = Unit {0}

@@ -13,7 +13,8 @@ ghost use Rattle.dex_dump.specs.Checks as spec;
 ghost use Rattle.dex_dump.specs.Checks.{by_rules, by_slab, part_checks, queue_checks, side_checks, vault_checks};
 ghost use Rattle.dex_dump.specs.Telling.{TellsChecks, plain_reading};
 
-use crate::reading::{Reading, is_among, is_mint};
+use crate::reading::{Reading, is_mint};
+use crate::taken::TakenAddresses;
 use dex_fields::{
     Difference, Field, frame_difference, get_addr, get_u64, market, open_orders, slab,
     token_account,
@@ -153,13 +154,13 @@ fn declared_rule(accounts: &Accounts, bytes: &[u8], field: Field) -> Option<Acco
 }
 
 /// An address of a vault, a queue or a side is taken.
-fn taken_rule(taken: &[Address], bytes: &[u8], field: Field) -> Option<AccountFault>
+fn taken_rule(taken: &TakenAddresses, bytes: &[u8], field: Field) -> Option<AccountFault>
     requires within { IsWithin field bytes.now }
     requires wide { field.len ≡ 32 }
     requires low { field.at < 4096 }
     ensures { result ≡ spec.taken_rule taken.now bytes.now field }
 {
-    if is_among(address_in(bytes, field), taken) {
+    if taken.has(address_in(bytes, field)) {
         Some(address_fault(bytes, field))
     } else {
         None
@@ -167,7 +168,7 @@ fn taken_rule(taken: &[Address], bytes: &[u8], field: Field) -> Option<AccountFa
 }
 
 #[tactic(auto, unfolding(crate::specs::Checks::parts_rule))]
-fn parts_rule(taken: &[Address], bytes: &[u8]) -> Option<AccountFault>
+fn parts_rule(taken: &TakenAddresses, bytes: &[u8]) -> Option<AccountFault>
     requires { length bytes.now ≡ 388 }
     ensures { result ≡ spec.parts_rule taken.now bytes.now }
 {

@@ -5,6 +5,8 @@ ghost use Rattle.dex_types.specs.Accounts.{PlainAccounts};
 ghost use Rattle.dex_dump_rows.specs.Lines.{Fields};
 ghost use Rattle.dex_state.specs.Accepted.{AreAccepted};
 ghost use Rattle.dex_state.specs.Held.{HoldBytes};
+ghost use Rattle.dex_types.specs.Limits.{AreLimits};
+ghost use Rattle.dex_types.specs.declared.limits.Limits.{Limits};
 ghost use Rattle.dex_dump.specs.Answers.{AnswersDump, AnswersText, AreReadAs, IsReadAs, PlainDump};
 ghost use Rattle.dex_dump.specs.DumpText.{dump_rows, dump_text};
 
@@ -18,19 +20,19 @@ pub fn one_text_is_of_one_exchange()
         → dump_text accounts ++ rest ≡ dump_text others ++ more → (accounts ≡ others) × (rest ≡ more) }
 {}
 
-/// What is read is accepted, and holds bytes: the accounts of a text that is a dump, and those of a dump after which
-/// something stands.
+/// What is read is accepted within the limits, and holds bytes: the accounts of a text that is a dump, and those of a
+/// dump after which something stands.
 pub fn what_is_read_is_accepted()
-    ensures alone { (text : List ℕ) (accounts : PlainAccounts) → AnswersText text (Ok accounts)
-        → AreAccepted accounts × HoldBytes accounts }
-    ensures behind { (rows : List Fields) (dump : PlainDump) → AnswersDump rows (Ok dump)
-        → AreAccepted dump.accounts × HoldBytes dump.accounts }
+    ensures alone { (limits : Limits) (text : List ℕ) (accounts : PlainAccounts) → AreLimits limits
+        → AnswersText limits text (Ok accounts) → AreAccepted limits accounts × HoldBytes accounts }
+    ensures behind { (limits : Limits) (rows : List Fields) (dump : PlainDump) → AreLimits limits
+        → AnswersDump limits rows (Ok dump) → AreAccepted limits dump.accounts × HoldBytes dump.accounts }
 {}
 
 /// What is written of accepted accounts is read back as them, and as nothing else, also where rows stand after it.
 pub fn what_is_written_is_read_back()
-    ensures alone { (accounts : PlainAccounts) → AreAccepted accounts → HoldBytes accounts
-        → IsReadAs (dump_text accounts) accounts }
-    ensures behind { (accounts : PlainAccounts) (rows : List Fields) → AreAccepted accounts → HoldBytes accounts
-        → AreReadAs (dump_rows accounts ++ rows) accounts rows }
+    ensures alone { (limits : Limits) (accounts : PlainAccounts) → AreAccepted limits accounts → HoldBytes accounts
+        → IsReadAs limits (dump_text accounts) accounts }
+    ensures behind { (limits : Limits) (accounts : PlainAccounts) (rows : List Fields) → AreAccepted limits accounts
+        → HoldBytes accounts → AreReadAs limits (dump_rows accounts ++ rows) accounts rows }
 {}

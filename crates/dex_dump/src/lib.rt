@@ -7,6 +7,7 @@ mod laws;
 mod pieces;
 mod reader;
 mod reading;
+mod taken;
 mod taking;
 mod writing;
 
@@ -16,7 +17,8 @@ pub use laws::{
     one_text_is_of_one_exchange, what_is_read_is_accepted, what_is_written_is_read_back,
 };
 pub use pieces::{Piece, Pieces};
-pub use reader::{DumpRead, read_dump, read_rows};
+pub use reader::{DumpRead, read_dump, read_dump_within, read_rows};
+pub use taken::TakenAddresses;
 pub use taking::{append_taken, into_dump, take_accounts, take_market_rows};
 pub use writing::{
     append_dump, room_of_dump, room_of_market, write_dump, write_front, write_market_rows,

@@ -3,6 +3,8 @@
 ghost use Rattle.std.specs.Prelude.{◌≡◌, IfOk};
 ghost use Rattle.dex_types.specs.Accounts.{accounts_of};
 ghost use Rattle.dex_state.specs.Accepted.{AreAccepted};
+ghost use Rattle.dex_types.specs.Limits.{AreLimits};
+ghost use Rattle.dex_types.specs.declared.limits.TheConstants.{STANDARD as standard};
 ghost use Rattle.dex_state.specs.Held.{HoldBytes};
 ghost use Rattle.dex_dump.specs.Answers as spec;
 ghost use Rattle.dex_dump.specs.Telling.{TellsAccounts, TellsDump, TellsRow, TellsText, plain_reading};
@@ -12,7 +14,7 @@ use crate::faults::{DumpError, DumpFault};
 use crate::reading::{Reading, Stop};
 use dex_dump_rows::{Line, LineError, is_first_row, line_of};
 use dex_rows::records::{Fields, Rows};
-use dex_types::{AccountFault, Accounts};
+use dex_types::{AccountFault, Accounts, Limits, STANDARD};
 use std::alloc::Global;
 use std::marker::Model;
 
@@ -23,39 +25,50 @@ pub struct DumpRead {
     pub count: u32,
 }
 
-/// The accounts of a dump, or its first faulty row.
+/// The accounts of a dump within the program's limits, or its first faulty row.
 pub fn read_dump(alloc: Global, bytes: &[u8]) -> Result<Accounts, DumpError>
-    ensures answer { TellsText result bytes.now }
-    ensures accepted { IfOk result (λ accounts. AreAccepted (accounts_of accounts)) }
+    ensures answer { TellsText standard result bytes.now }
+    ensures accepted { IfOk result (λ accounts. AreAccepted standard (accounts_of accounts)) }
+    ensures bytes { IfOk result (λ accounts. HoldBytes (accounts_of accounts)) }
+{
+    read_dump_within(alloc, bytes, &STANDARD)
+}
+
+/// The accounts of a dump within these limits, or its first faulty row.
+pub fn read_dump_within(alloc: Global, bytes: &[u8], limits: &Limits) -> Result<Accounts, DumpError>
+    requires { AreLimits limits.now }
+    ensures answer { TellsText limits.now result bytes.now }
+    ensures accepted { IfOk result (λ accounts. AreAccepted limits.now (accounts_of accounts)) }
     ensures bytes { IfOk result (λ accounts. HoldBytes (accounts_of accounts)) }
 {
     let mut rows = Rows::new(alloc, bytes);
-    let dump = read_rows(alloc, &mut rows)?;
+    let dump = read_rows(alloc, &mut rows, limits)?;
     if rows.next_row(&mut Fields::new())? {
         return Err(grammar_fault(next_number(dump.count)).into());
     }
     Ok(dump.accounts)
 }
 
-/// The accounts of a dump that the next rows of a text are, up to the row `enddump`, or its first faulty row. What
-/// stands behind it is not looked at.
-pub fn read_rows(alloc: Global, rows: &mut Rows<'_>) -> Result<DumpRead, DumpError>
-    ensures answer { TellsDump result rows.old rows.new }
-    ensures accepted { IfOk result (λ read. AreAccepted (accounts_of read.accounts)) }
+/// The accounts of a dump within these limits that the next rows of a text are, up to the row `enddump`, or its first
+/// faulty row. What stands behind it is not looked at.
+pub fn read_rows(alloc: Global, rows: &mut Rows<'_>, limits: &Limits) -> Result<DumpRead, DumpError>
+    requires { AreLimits limits.now }
+    ensures answer { TellsDump limits.now result rows.old rows.new }
+    ensures accepted { IfOk result (λ read. AreAccepted limits.now (accounts_of read.accounts)) }
     ensures bytes { IfOk result (λ read. HoldBytes (accounts_of read.accounts)) }
 {
     let mut first = Fields::new();
     if !rows.next_row(&mut first)? || !is_first_row(&first) {
         return Err(grammar_fault(1).into());
     }
-    read_accounts(alloc, rows)
+    read_accounts(alloc, rows, limits)
 }
 
 // The accounts of the rows after the first.
-fn read_accounts(alloc: Global, rows: &mut Rows<'_>) -> Result<DumpRead, DumpError>
-    ensures { TellsAccounts result rows.old rows.new }
+fn read_accounts(alloc: Global, rows: &mut Rows<'_>, limits: &Limits) -> Result<DumpRead, DumpError>
+    ensures { TellsAccounts limits.now result rows.old rows.new }
 {
-    let mut reading = Reading::new(alloc);
+    let mut reading = Reading::new(alloc, *limits);
     let mut number = 2;
     let mut row = Fields::new();
     'rows: while rows.next_row(&mut row)? {

@@ -15,18 +15,22 @@ ghost use Rattle.dex_dump.specs.declared.reading.Stop.TheVariants as stop;
 use crate::checks::{
     Failed, address_in, by_rules, check_parts, market_rule, orders_rule, wallet_rule,
 };
+use crate::taken::TakenAddresses;
 use dex_dump_rows::Line;
 use dex_fields::market;
 use dex_token::check_mint;
-use dex_types::{Accounts, Address, MarketAccounts, Named, OrdersAccount, is_same};
+use dex_types::{
+    Accounts, Address, Limits, MarketAccounts, Named, NoMemory, OrdersAccount, is_same,
+};
 use std::alloc::{AllocFailed, Global};
 
-/// The accounts that rows have declared, and every address that is taken: those of these accounts, and those of each
-/// market's vaults, queues and sides.
+/// The accounts that rows have declared, every address that is taken: those of these accounts, and those of each
+/// market's vaults, queues and sides; and how much is read.
 #[derive(Drop)]
 pub struct Reading {
     pub(crate) accounts: Accounts,
-    pub(crate) taken: Vec<Address>,
+    pub(crate) taken: TakenAddresses,
+    pub(crate) limits: Limits,
 }
 
 /// Why a row was not added.
@@ -54,11 +58,12 @@ impl<T: Drop> From<AllocFailed<T>> for Stop {
     }
 }
 
-/// Whether an address is one of these.
-pub fn is_among(address: Address, taken: &[Address]) -> bool
-    ensures { result ≡ spec.is_among address taken.now }
-{
-    taken.iter().any(|other| is_same(address, *other))
+impl From<NoMemory> for Stop {
+    ghost from_gives = { λ _ e. e ≡ stop.NoMemory };
+
+    fn from(_error: NoMemory) -> Stop {
+        Stop::NoMemory
+    }
 }
 
 /// Whether a mint has this address.
@@ -79,8 +84,8 @@ fn is_named(accounts: &[Named], address: Address) -> bool
 
 impl Reading {
     /// Before the first account.
-    pub fn new(alloc: Global) -> Reading
-        ensures { plain_reading result ≡ spec.start }
+    pub fn new(alloc: Global, limits: Limits) -> Reading
+        ensures { plain_reading result ≡ spec.start limits }
     {
         Reading {
             accounts: Accounts {
@@ -90,7 +95,8 @@ impl Reading {
                 wallets: Vec::new(alloc),
                 markets: Vec::new(alloc),
             },
-            taken: Vec::new(alloc),
+            taken: TakenAddresses::new(alloc),
+            limits,
         }
     }
 
@@ -100,14 +106,20 @@ impl Reading {
         ensures { result ≡ spec.is_allowed (plain_reading self.now) (plain_line line.now) }
     {
         let accounts = &self.accounts;
+        let limits = &self.limits;
         match line {
-            Line::Mint(mint) => self.is_new(mint.address, accounts.mints.len(), 16),
+            Line::Mint(mint) => self.is_new(mint.address, accounts.mints.len(), limits.mints),
             Line::Srm(mint) => is_name(accounts, *mint, accounts.srm, accounts.msrm),
             Line::Msrm(mint) => is_name(accounts, *mint, accounts.msrm, accounts.srm),
-            Line::Wallet(wallet) => self.is_new(wallet.address, accounts.wallets.len(), 256),
-            Line::Market(market) => self.is_new(market.address, accounts.markets.len(), 16),
+            Line::Wallet(wallet) => {
+                self.is_new(wallet.address, accounts.wallets.len(), limits.wallets)
+            }
+            Line::Market(market) => {
+                self.is_new(market.address, accounts.markets.len(), limits.markets)
+            }
             Line::Orders(market, account) => {
-                !is_among(account.address, &self.taken) && has_room(*market, &accounts.markets)
+                !self.taken.has(account.address)
+                    && has_room(limits.orders, *market, &accounts.markets)
             }
             Line::End => true,
         }
@@ -116,7 +128,7 @@ impl Reading {
     fn is_new(&self, address: Address, count: usize, limit: usize) -> bool
         ensures { result ≡ spec.is_new (plain_reading self.now) address count limit }
     {
-        !is_among(address, &self.taken) && count < limit
+        !self.taken.has(address) && count < limit
     }
 
     /// Checks the accounts that a row states, and adds what it states.
@@ -203,13 +215,13 @@ fn is_name(
     }
 }
 
-/// Whether the first market of an address has room for one more open-orders account.
-fn has_room(address: Address, markets: &[MarketAccounts]) -> bool
-    ensures { result ≡ spec.has_room address (map market_accounts_of markets.now) }
+/// Whether the first market of an address has room for one more open-orders account, of so many that it may have.
+fn has_room(most: usize, address: Address, markets: &[MarketAccounts]) -> bool
+    ensures { result ≡ spec.has_room most address (map market_accounts_of markets.now) }
 {
     for market in markets {
         if is_same(address, market.address) {
-            return market.orders.len() < 64;
+            return market.orders.len() < most;
         }
     }
     false
@@ -235,9 +247,9 @@ fn add_orders(
 }
 
 /// The addresses of a market's vaults, queues and sides are taken.
-fn take_parts(taken: &mut Vec<Address>, bytes: &[u8]) -> Result<(), AllocFailed<Address>>
+fn take_parts(taken: &mut TakenAddresses, bytes: &[u8]) -> Result<(), NoMemory>
     requires { length bytes.now ≡ 388 }
-    ensures { OnOk result (taken.new.items ≡ taken.old.items ++ state.parts_of (market_terms bytes.now)) }
+    ensures { OnOk result (taken.new ≡ taken.old ++ state.parts_of (market_terms bytes.now)) }
 {
     taken.push(address_in(bytes, market::COIN_VAULT))?;
     taken.push(address_in(bytes, market::PC_VAULT))?;

@@ -6,6 +6,7 @@ ghost use Rattle.std.specs.List.{All, flat_map};
 ghost use Rattle.dex_types.specs.Accounts.{accounts_of, market_accounts_of};
 ghost use Rattle.hex.specs.Hex.{IsBytes};
 ghost use Rattle.dex_state.specs.Accepted.{AreAccepted};
+ghost use Rattle.dex_types.specs.declared.limits.Limits.{Limits};
 ghost use Rattle.dex_state.specs.Held.{HoldBytes, IsHeldMarket};
 ghost use Rattle.dex_dump.specs.Answers.{IsReadAs};
 ghost use Rattle.dex_dump.specs.DumpText.{base64_text, dump_text, lines_text, market_rows};
@@ -28,7 +29,8 @@ const LARGE: usize = 1_048_576;
 pub fn into_dump(alloc: Global, accounts: Accounts) -> Result<Vec<u8>, NoMemory>
     ensures text { IfOk result (λ text. text.items ≡ dump_text (accounts_of accounts)) }
     ensures read_back { IfOk result (λ text.
-        AreAccepted (accounts_of accounts) → IsReadAs text.items (accounts_of accounts)) }
+        (limits : Limits) → AreAccepted limits (accounts_of accounts)
+        → IsReadAs limits text.items (accounts_of accounts)) }
 {
     let mut text = Vec::with_capacity(alloc, room_of_dump(&accounts))?;
     match append_taken(&mut text, accounts) {

@@ -6,6 +6,7 @@ ghost use Rattle.dex_types.specs.Accounts.{accounts_of, market_accounts_of, name
 ghost use Rattle.dex_types.specs.Text.{address_text};
 ghost use Rattle.hex.specs.Hex.{IsBytes};
 ghost use Rattle.dex_state.specs.Accepted.{AreAccepted};
+ghost use Rattle.dex_types.specs.declared.limits.Limits.{Limits};
 ghost use Rattle.dex_state.specs.Held.{HoldBytes, IsAddress, IsHeld, IsHeldMarket};
 ghost use Rattle.dex_dump.specs.Answers.{IsReadAs};
 ghost use Rattle.dex_dump.specs.DumpText.{account_row, account_rows, base64_text, dump_text, first_row, line_text, lines_text};
@@ -25,7 +26,8 @@ use std::alloc::{AllocError, Global};
 pub fn write_dump(alloc: Global, accounts: &Accounts) -> Result<Vec<u8>, NoMemory>
     ensures text { IfOk result (λ text. text.items ≡ dump_text (accounts_of accounts.now)) }
     ensures read_back { IfOk result (λ text.
-        AreAccepted (accounts_of accounts.now) → IsReadAs text.items (accounts_of accounts.now)) }
+        (limits : Limits) → AreAccepted limits (accounts_of accounts.now)
+        → IsReadAs limits text.items (accounts_of accounts.now)) }
 {
     let mut text = Vec::with_capacity(alloc, room_of_dump(accounts))?;
     match append_dump(&mut text, accounts) {
@@ -269,6 +271,7 @@ fn write_piece(text: &mut Vec<u8>, symbols: &mut [u8; 1024], piece: &[u8]) -> Re
     }
     match STANDARD.encode_slice(piece, symbols) {
         Ok(length) => text.extend_from_slice(&symbols[..length]),
+        // A piece gives at most as many symbols as there is room for.
         Err(_) => unreachable!(),
     }
 }

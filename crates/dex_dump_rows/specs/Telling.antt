@@ -24,6 +24,6 @@ TellsAs view (Ok x) meant = meant ≡ Some (view x)
 TellsAs view (Err Grammar) meant = meant ≡ None
 TellsAs view (Err NoMemory) meant = Unit {0}
 
--- the same of a line
+-- the line is what is meant, or the row has no such form
 abbrev pub TellsLine : Result Line LineError → Option PlainLine → Type 0
 TellsLine result meant = TellsAs plain_line result meant

@@ -94,7 +94,7 @@ pub by_side-slots : (side : Side) (bids asks : List Order) → by_side side (wit
 by_side-slots Bid bids asks = refl
 by_side-slots Ask bids asks = refl
 
--- the same orders are cancelled, but for slots
+-- slots aside, the orders that are cancelled are those of the book without slots
 pub cancelled-slots : (by : CancelBy) (owner : Address) (bids asks : List Order)
     → cancelled by owner (without_slots bids) (without_slots asks) ≡ map gone_without_slot (cancelled by owner bids asks)
 cancelled-slots (ById side id) owner bids asks =

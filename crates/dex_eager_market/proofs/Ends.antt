@@ -11,12 +11,12 @@ use Rattle.dex_types.specs.Meeting.{TakerTerms, Meeting, aborts_at, less, met_no
 use Rattle.dex_types.specs.Posting.{still_crosses}
 use Rattle.dex_types.specs.Side.{crosses, price_of}
 use Rattle.dex_fills.specs.Taker.{demand}
-use Rattle.dex_eager_market.specs.declared.foreseeing.Foreseen.{Foreseen}
+use Rattle.dex_eager_market.specs.declared.foreseeing.ListProspect.{ListProspect}
 use Rattle.dex_eager_market.specs.Foreseen.{CanFill, IsForeseen, left_by, less_first}
 use Rattle.dex_eager_market.proofs.Meetings.{IsCarried}
 
 -- with these orders left, of which the first is this one
-pub foreseen-ended : (side : Side) (t : TakerTerms) (limit : ℕ) (orders : List Order) (whole rest : Meeting) (met : Foreseen) (order : Order) (others : List Order) (result : Foreseen)
+pub foreseen-ended : (side : Side) (t : TakerTerms) (limit : ℕ) (orders : List Order) (whole rest : Meeting) (met : ListProspect) (order : Order) (others : List Order) (result : ListProspect)
     → IsCarried t.sizes.coin whole rest met.sums → rest ≡ met_none side t (demand met.want) (order ∷ others)
     → left_by result.gone result.part orders ≡ order ∷ others → result.gone ≤ length orders
     → result.want ≡ met.want → result.sums ≡ met.sums → result.crosses ≡ crosses side limit (price_of order.id)
@@ -41,7 +41,7 @@ foreseen-ended side t limit orders whole rest met order others result carried no
     }
 
 -- with no order left
-pub foreseen-all : (side : Side) (t : TakerTerms) (limit : ℕ) (orders : List Order) (whole rest : Meeting) (met : Foreseen)
+pub foreseen-all : (side : Side) (t : TakerTerms) (limit : ℕ) (orders : List Order) (whole rest : Meeting) (met : ListProspect)
     → IsCarried t.sizes.coin whole rest met.sums → rest ≡ met_none side t (demand met.want) []
     → left_by met.gone met.part orders ≡ [] → met.gone ≤ length orders → met.crosses ≡ false → met.aborts ≡ false → IsForeseen side t.sizes limit orders whole met
 foreseen-all side t limit orders whole rest met carried none left_is within crosses_is aborts_is =

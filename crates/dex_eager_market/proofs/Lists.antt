@@ -89,7 +89,7 @@ without-none id orders place le =
     ap (λ l. take place orders ++ without_order id l) (drop_all place orders le) ∙ append-nil (take place orders) ∙ take_all place orders le
     ∙ sym (whole orders (length orders) (omega arith))
 
--- the same of listed orders
+-- a listed order is taken off where it stands
 pub forgets-here : (gone : RestingOrder) (list : List Resting) (place : ℕ) (d : Resting) → place < length list → is_same_order gone (resting_of (get_or list place d)) ≡ true
     → map resting_of (take place list) ++ without_taken (Some gone) (map resting_of (drop place list)) ≡ map resting_of (take place list ++ drop (place + 1) list)
 forgets-here gone list place d lt same =

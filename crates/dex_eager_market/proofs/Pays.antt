@@ -5,7 +5,7 @@ use Rattle.dex_types.specs.declared.terms.Side.{Side}
 use Rattle.dex_types.specs.declared.terms.Side.TheVariants.{Bid, Ask}
 use Rattle.dex_types.specs.Meeting.{TakerTerms, Demand, Meeting, is_own, maker_fill, met_events, met_first, met_none, plain_out}
 use Rattle.dex_types.specs.QueuedEvent.{QueuedEvent}
-use Rattle.dex_fills.specs.declared.wants.Terms.{Terms}
+use Rattle.dex_fills.specs.declared.wants.MeetingTerms.{MeetingTerms}
 use Rattle.dex_fills.specs.Taker.{fill_met, taking}
 use Rattle.dex_eager.specs.Eager.{Worths, with_change, with_fills}
 use Rattle.dex_eager.specs.Slots.{maker_fills}
@@ -19,7 +19,7 @@ pub pays-own : (side : Side) (t : TakerTerms) (order : Order) (lots : ℕ) (wort
 pays-own side t order lots worths own = rw own refl
 
 -- the maker of another's order is paid its fill
-pub pays-other : (side : Side) (taker : Terms) (order : Order) (lots : ℕ) (worths : Worths) → is_own taker.owner order ≡ false
+pub pays-other : (side : Side) (taker : MeetingTerms) (order : Order) (lots : ℕ) (worths : Worths) → is_own taker.owner order ≡ false
     → with_fills (maker_fills (met_events side (taking taker) order lots)) worths ≡ with_change order.owner (worth_of (maker_change side (fill_met taker order lots))) worths
 pays-other Bid taker order lots worths other = rw other (behind (eqb lots order.lots))
   where

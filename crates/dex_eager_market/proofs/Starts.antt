@@ -18,7 +18,7 @@ use Rattle.dex_eager.specs.Histories.{eager_start}
 use Rattle.dex_eager.specs.Slots.{without_slot, without_slots}
 use Rattle.dex_eager.specs.Worth.{held_for, no_moves, worth_of}
 use Rattle.dex_totals.specs.Sums.{capped}
-use Rattle.dex_worth.specs.declared.amounts.Amounts.{Amounts}
+use Rattle.dex_worth.specs.declared.amounts.TokenAmounts.{TokenAmounts}
 use Rattle.dex_worth.specs.Amounts.{AreSums, capped_amounts}
 use Rattle.dex_worth.specs.Holdings.{held_amounts}
 use Rattle.dex_worth.proofs.Holding.{held-small}
@@ -88,13 +88,13 @@ made : (m : Market) (traders : Traders)
 made m [] = refl
 made m (entry ∷ others) = ap (λ (rest : List Account). account_with entry.0 (capped_amounts (held_amounts m entry.0)) ∷ rest) (made m others)
 
-pub accounts-made : (m : Market) (owners : List Address) (held : List Amounts) → owners ≡ map (λ (entry : Address × Trader). entry.0) m.traders
+pub accounts-made : (m : Market) (owners : List Address) (held : List TokenAmounts) → owners ≡ map (λ (entry : Address × Trader). entry.0) m.traders
     → AreSums (held_amounts m) owners held → accounts_with owners held ≡ held_accounts m
 accounts-made m owners held named are =
     ap (accounts_with owners) are ∙ ap (λ (l : List Address). accounts_with l (map (λ (owner : Address). capped_amounts (held_amounts m owner)) l)) named ∙ made m m.traders
 
 -- one account more
-pub accounts-more : (owners : List Address) (held : List Amounts) (place : ℕ) (a : Address) (h : Amounts) → place < length owners → length held ≡ length owners
+pub accounts-more : (owners : List Address) (held : List TokenAmounts) (place : ℕ) (a : Address) (h : TokenAmounts) → place < length owners → length held ≡ length owners
     → accounts_with (take (suc place) owners) (take (suc place) held) ≡ accounts_with (take place owners) (take place held) ++ account_with (get_or owners place a) (get_or held place h) ∷ []
 accounts-more [] held place a h lt long = absurd (omega arith)
 accounts-more (owner ∷ owners) [] place a h lt long = absurd (omega arith)

@@ -27,7 +27,7 @@ use Rattle.dex_laws.proofs.PostLaws.{All-posted, post-full, post-none, post-room
 use Rattle.dex_laws.proofs.SpendLaws.{rested-paid}
 use Rattle.dex_match.specs.declared.order_terms.Taker.{Taker}
 use Rattle.dex_match.specs.OrderTerms.{meeting_with as order_meets, order_of}
-use Rattle.dex_fills.specs.declared.wants.Terms.{Terms}
+use Rattle.dex_fills.specs.declared.wants.MeetingTerms.{MeetingTerms}
 use Rattle.dex_fills.specs.declared.wants.Want.{Want}
 use Rattle.dex_fills.specs.Taker.{demand, taking}
 use Rattle.dex_sound.specs.Exchange.{taker_gets, taker_pays}
@@ -39,7 +39,7 @@ use Rattle.dex_eager_market.specs.declared.states.Book.{Book}
 use Rattle.dex_eager_market.specs.declared.states.State.{State}
 use Rattle.dex_eager_market.specs.declared.states.Till.{Till}
 use Rattle.dex_eager_market.specs.Accounts.{entry_of, worth_of}
-use Rattle.dex_eager_market.specs.declared.foreseeing.Foreseen.{Foreseen}
+use Rattle.dex_eager_market.specs.declared.foreseeing.ListProspect.{ListProspect}
 use Rattle.dex_eager_market.specs.Foreseen.{CanFill, IsForeseen, IsModest, left_by}
 use Rattle.dex_eager_market.specs.States.{CanList, IsBook, IsKept, IsTill, market_by}
 use Rattle.dex_eager_market.specs.Trading.{IsOrderForeseen, IsTakeForeseen, base_too_large, quote_too_large, rested_by, stops, taker_change}
@@ -207,7 +207,7 @@ pub order-too-large : (side : Side) (sizes : Lots) (lots next : ℕ) (met : Meet
     → (is_too_large side sizes lots met || eqb next (2 ^ 64 - 1) || is_some met.aborts) ≡ true
 order-too-large side sizes lots next met large = rw (too-large-parts side sizes lots met) rw large refl
 
--- the same of a take
+-- a take is too large where its base or its quote is
 pub take-stops : (side : Side) (sizes : Lots) (lots pc : ℕ) (met : Meeting) → base_too_large side sizes lots ≡ false → pc ≡ met.pc
     → is_too_large side sizes lots met ≡ quote_too_large side pc
 take-stops side sizes lots pc met small p = rw (too-large-parts side sizes lots met) rw small rw p refl
@@ -313,21 +313,21 @@ tier-small Msrm = omega arith
 
 -- ---- what the code's terms meet is what the order, or the take, meets
 
-pub order-met : (sizes : Lots) (taker : Taker) (terms : Terms) (want : Want) (found items : List Order) → taking terms ≡ terms_of sizes (order_of taker)
+pub order-met : (sizes : Lots) (taker : Taker) (terms : MeetingTerms) (want : Want) (found items : List Order) → taking terms ≡ terms_of sizes (order_of taker)
     → demand want ≡ demand_of taker.id_side sizes (order_of taker) → found ≡ items → meet taker.id_side (taking terms) (demand want) found ≡ order_meets sizes taker items
 order-met sizes taker terms want found items keeps wants are =
     ap (λ (t : TakerTerms). meet taker.id_side t (demand want) found) keeps
     ∙ ap (λ (w : Demand). meet taker.id_side (terms_of sizes (order_of taker)) w found) wants
     ∙ ap (meet taker.id_side (terms_of sizes (order_of taker)) (demand_of taker.id_side sizes (order_of taker))) are
 
-pub take-met : (sizes : Lots) (taker : Taker) (terms : Terms) (want : Want) (found items : List Order) → taking terms ≡ take_terms sizes (take_of taker 0 0)
+pub take-met : (sizes : Lots) (taker : Taker) (terms : MeetingTerms) (want : Want) (found items : List Order) → taking terms ≡ take_terms sizes (take_of taker 0 0)
     → demand want ≡ demand_of taker.id_side sizes (order_of taker) → found ≡ items → meet taker.id_side (taking terms) (demand want) found ≡ take_meets sizes taker items
 take-met sizes taker terms want found items keeps wants are =
     ap (λ (t : TakerTerms). meet taker.id_side t (demand want) found) keeps
     ∙ ap (λ (w : Demand). meet taker.id_side (take_terms sizes (take_of taker 0 0)) w found) (wants ∙ sym (take-demand taker.id_side sizes taker))
     ∙ ap (meet taker.id_side (take_terms sizes (take_of taker 0 0)) (take_demand taker.id_side sizes (take_of taker 0 0))) are
 
-pub seen-as : (sizes : Lots) (taker : Taker) (terms : Terms) (met meeting : Meeting) (found items : List Order) (foreseen : Foreseen) → terms.sizes ≡ sizes
+pub seen-as : (sizes : Lots) (taker : Taker) (terms : MeetingTerms) (met meeting : Meeting) (found items : List Order) (foreseen : ListProspect) → terms.sizes ≡ sizes
     → terms.limit_price ≡ taker.price → met ≡ meeting → found ≡ items → IsForeseen taker.id_side terms.sizes terms.limit_price found met foreseen
     → IsForeseen taker.id_side sizes taker.price items meeting foreseen
 seen-as sizes taker terms met meeting found items foreseen size price is are seen =
@@ -337,16 +337,16 @@ seen-as sizes taker terms met meeting found items foreseen size price is are see
     (subst (λ (s : Lots). IsForeseen taker.id_side s terms.limit_price found met foreseen) size seen)))
 
 -- what was foreseen, where something was
-pub order-known : (sizes : Lots) (taker : Taker) (next : ℕ) (items : List Order) (found : Option Foreseen) (foreseen : Foreseen) → found ≡ Some foreseen
+pub order-known : (sizes : Lots) (taker : Taker) (next : ℕ) (items : List Order) (found : Option ListProspect) (foreseen : ListProspect) → found ≡ Some foreseen
     → IsOrderForeseen sizes taker next items found → IsOrderForeseen sizes taker next items (Some foreseen)
 order-known sizes taker next items found foreseen is known = subst (IsOrderForeseen sizes taker next items) is known
 
-pub take-known : (sizes : Lots) (taker : Taker) (items : List Order) (found : Option Foreseen) (foreseen : Foreseen) → found ≡ Some foreseen
+pub take-known : (sizes : Lots) (taker : Taker) (items : List Order) (found : Option ListProspect) (foreseen : ListProspect) → found ≡ Some foreseen
     → IsTakeForeseen sizes taker items found → IsTakeForeseen sizes taker items (Some foreseen)
 take-known sizes taker items found foreseen is known = subst (IsTakeForeseen sizes taker items) is known
 
 -- and back
-pub seen-by : (sizes : Lots) (taker : Taker) (terms : Terms) (met meeting : Meeting) (items : List Order) (foreseen : Foreseen) → terms.sizes ≡ sizes
+pub seen-by : (sizes : Lots) (taker : Taker) (terms : MeetingTerms) (met meeting : Meeting) (items : List Order) (foreseen : ListProspect) → terms.sizes ≡ sizes
     → terms.limit_price ≡ taker.price → met ≡ meeting → IsForeseen taker.id_side sizes taker.price items meeting foreseen
     → IsForeseen taker.id_side terms.sizes terms.limit_price items met foreseen
 seen-by sizes taker terms met meeting items foreseen size price is seen =

@@ -8,7 +8,7 @@ use Rattle.dex_types.specs.Meeting.{Demand, Meeting, less}
 use Rattle.dex_types.specs.Owed.{order_lock}
 use Rattle.dex_types.specs.Posting.{still_crosses}
 use Rattle.dex_fills.specs.Taker.{demand}
-use Rattle.dex_eager_market.specs.declared.foreseeing.Foreseen.{Foreseen}
+use Rattle.dex_eager_market.specs.declared.foreseeing.ListProspect.{ListProspect}
 
 -- the fills of a resting order fit 64 bits, and it has the number of a tier
 pub record CanFill (side : Side) (sizes : Lots) (order : Order) : Type 0 where
@@ -31,7 +31,7 @@ abbrev pub left_by : ℕ → ℕ → List Order → List Order
 left_by gone part orders = less_first part (drop gone orders)
 
 -- what was foreseen of a meeting with these orders
-pub record IsForeseen (side : Side) (sizes : Lots) (limit : ℕ) (orders : List Order) (met : Meeting) (foreseen : Foreseen) : Type 0 where
+pub record IsForeseen (side : Side) (sizes : Lots) (limit : ℕ) (orders : List Order) (met : Meeting) (foreseen : ListProspect) : Type 0 where
   pub demand_is : demand foreseen.want ≡ met.demand
   pub base : foreseen.sums.base ≡ met.lots * sizes.coin
   pub pc : foreseen.sums.pc ≡ met.pc

@@ -3,17 +3,17 @@ use Rattle.std.specs.Prelude.{List, [], ◌∷◌, map}
 use Rattle.dex_types.specs.declared.addresses.Address.{Address}
 use Rattle.dex_types.specs.Market.{Market}
 use Rattle.dex_types.specs.Trader.{Trader}
-use Rattle.dex_worth.specs.declared.amounts.Amounts.{Amounts}
+use Rattle.dex_worth.specs.declared.amounts.TokenAmounts.{TokenAmounts}
 use Rattle.dex_worth.specs.Amounts.{capped_amounts, none}
 use Rattle.dex_worth.specs.Holdings.{held_amounts}
 use Rattle.dex_eager_market.specs.declared.accounts.Account.{Account}
 
 -- the account of an address for which so much is held
-abbrev pub account_with : Address → Amounts → Account
+abbrev pub account_with : Address → TokenAmounts → Account
 account_with address held = record { address = address; total = record { gained = held; paid = none } }
 
 -- the accounts of these addresses
-abbrev pub accounts_with : List Address → List Amounts → List Account
+abbrev pub accounts_with : List Address → List TokenAmounts → List Account
 accounts_with (address ∷ owners) (amounts ∷ held) = account_with address amounts ∷ accounts_with owners held
 accounts_with _ _ = []
 

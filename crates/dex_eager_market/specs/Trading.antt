@@ -13,7 +13,7 @@ use Rattle.dex_match.specs.declared.order_terms.Taker.{Taker}
 use Rattle.dex_match.specs.OrderTerms.{meeting_with as order_met, order_of}
 use Rattle.dex_take.specs.TakeTerms.{meeting_with as take_met}
 use Rattle.dex_eager_market.specs.declared.accounts.Change.{Change}
-use Rattle.dex_eager_market.specs.declared.foreseeing.Foreseen.{Foreseen}
+use Rattle.dex_eager_market.specs.declared.foreseeing.ListProspect.{ListProspect}
 use Rattle.dex_eager_market.specs.Foreseen.{IsForeseen, IsModest}
 
 -- the base of an ask is 2^64 or more
@@ -48,7 +48,7 @@ abbrev pub stops : Side → ℕ → ℕ → Bool → Bool
 stops side pc next aborts = quote_too_large side pc || (next == 2 ^ 64 - 1) || aborts
 
 -- a meeting was foreseen whose sums are those of a trade
-pub record IsTrade (sizes : Lots) (taker : Taker) (orders : List Order) (met : Meeting) (foreseen : Foreseen) : Type 0 where
+pub record IsTrade (sizes : Lots) (taker : Taker) (orders : List Order) (met : Meeting) (foreseen : ListProspect) : Type 0 where
   pub reached : IsForeseen taker.id_side sizes taker.price orders met foreseen
   pub modest : IsModest taker.id_side sizes (demand_of taker.id_side sizes (order_of taker))
   pub lock : full_lock taker.id_side sizes (order_of taker) < 2 ^ 64
@@ -56,7 +56,7 @@ pub record IsTrade (sizes : Lots) (taker : Taker) (orders : List Order) (met : M
   pub pc : foreseen.sums.pc < 2 ^ 64
 
 -- what was foreseen of a new order, or that it changes nothing
-abbrev pub IsOrderForeseen : Lots → Taker → ℕ → List Order → Option Foreseen → Type 0
+abbrev pub IsOrderForeseen : Lots → Taker → ℕ → List Order → Option ListProspect → Type 0
 IsOrderForeseen sizes taker next orders None =
     is_too_large taker.id_side sizes taker.lots (order_met sizes taker orders) || (next == 2 ^ 64 - 1) || is_some (order_met sizes taker orders).aborts ≡ true
 IsOrderForeseen sizes taker next orders (Some foreseen) =
@@ -64,7 +64,7 @@ IsOrderForeseen sizes taker next orders (Some foreseen) =
     × (next < 2 ^ 64 - 1) × IsTrade sizes taker orders (order_met sizes taker orders) foreseen
 
 -- what was foreseen of a take, or that it is too large
-abbrev pub IsTakeForeseen : Lots → Taker → List Order → Option Foreseen → Type 0
+abbrev pub IsTakeForeseen : Lots → Taker → List Order → Option ListProspect → Type 0
 IsTakeForeseen sizes taker orders None = is_too_large taker.id_side sizes taker.lots (take_met sizes taker orders) ≡ true
 IsTakeForeseen sizes taker orders (Some foreseen) =
     (is_too_large taker.id_side sizes taker.lots (take_met sizes taker orders) ≡ false) × IsTrade sizes taker orders (take_met sizes taker orders) foreseen

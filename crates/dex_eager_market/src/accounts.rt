@@ -7,13 +7,13 @@ ghost use Rattle.dex_worth.specs.Amounts.{IsWithin as AreUpTo};
 ghost use Rattle.dex_eager_market.specs.Accounts as book;
 
 use dex_types::{Address, is_same};
-use dex_worth::amounts::Amounts;
+use dex_worth::amounts::TokenAmounts;
 
 /// What came in for an account, and what it paid, in native units.
 #[derive(Clone, Copy, Debug)]
 pub struct Change {
-    pub gained: Amounts,
-    pub paid: Amounts,
+    pub gained: TokenAmounts,
+    pub paid: TokenAmounts,
 }
 
 /// An account of the market: its address, and all that came in for it and that it paid so far.
@@ -24,12 +24,12 @@ pub struct Account {
 }
 
 /// Both together.
-fn sum(one: Amounts, other: Amounts) -> Amounts
+fn sum(one: TokenAmounts, other: TokenAmounts) -> TokenAmounts
     requires one { AreUpTo (2 ^ 126) one }
     requires other { AreUpTo (2 ^ 126) other }
     ensures { result ≡ record { coin = one.coin + other.coin; pc = one.pc + other.pc } }
 {
-    Amounts {
+    TokenAmounts {
         coin: one.coin + other.coin,
         pc: one.pc + other.pc,
     }

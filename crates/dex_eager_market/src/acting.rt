@@ -87,7 +87,7 @@ fn take(state: &mut State, taker: Taker)
     }
 }
 
-/// The same order of this account.
+/// An order as one of this account.
 fn for_account(taker: Taker, owner: Address) -> Taker
     ensures side { result.id_side ≡ taker.id_side }
     ensures order { order_of result ≡ acts.order_for owner taker }

@@ -11,7 +11,7 @@ use dex_fills::prices::precedes;
 use dex_types::{Order, Side};
 
 /// How many of the orders stand before one with this id.
-fn place_of(side: Side, orders: &[Order], id: u128) -> usize
+fn posting_place(side: Side, orders: &[Order], id: u128) -> usize
     ensures place { result ≡ posted.place_of side id orders.now }
     ensures within { result ≤ length orders.now }
 {
@@ -48,7 +48,7 @@ pub fn post(side: Side, room: u32, order: Order, orders: &mut Vec<Order>)
         return;
     }
     make_room(room, orders);
-    let place = place_of(side, orders, order.id);
+    let place = posting_place(side, orders, order.id);
     orders.insert(place, order).unwrap();
 }
 

@@ -10,9 +10,9 @@ ghost use Rattle.dex_eager_market.specs.Foreseen.{CanFill, IsForeseen, IsModest}
 
 use dex_fills::fills::{Fill, fill_met, want_after};
 use dex_fills::prices::{crosses, price_of};
-use dex_fills::taking::{is_own, reaches, taken};
-use dex_fills::{Terms, Want};
-use dex_types::{Order, SelfTrade, Side};
+use dex_fills::taking::{aborts_at, taken};
+use dex_fills::{MeetingTerms, Want};
+use dex_types::{Order, Side};
 
 /// The sums of a taker's fills, in native units: base, quote, and the makers' rebates.
 #[derive(Clone, Copy, Debug)]
@@ -25,7 +25,7 @@ pub struct Sums {
 /// What a taker would meet: what it would still want, the sums of its fills, how many orders leave whole, how many lots
 /// the next one loses, whether the best order left still crosses the limit price, and whether the taker has to abort.
 #[derive(Clone, Copy)]
-pub struct Foreseen {
+pub struct ListProspect {
     pub want: Want,
     pub sums: Sums,
     pub gone: usize,
@@ -52,25 +52,8 @@ fn sums_with(sums: Sums, fill: Fill) -> Sums
     }
 }
 
-fn is_abort(rule: SelfTrade) -> bool
-    ensures { result ≡ meeting.is_abort rule }
-{
-    match rule {
-        SelfTrade::Abort => true,
-        _ => false,
-    }
-}
-
-/// The taker has to abort at the best order left.
-fn aborts_at(side: Side, taker: Terms, want: Want, order: Order) -> bool
-    ensures { (others : List OrderOf) → result
-        ≡ is_some (meeting.aborts_at side (taking taker) (demand want) (order ∷ others)) }
-{
-    reaches(side, taker, want, order) && is_own(taker.owner, order) && is_abort(taker.self_trade)
-}
-
 /// A taker that has met nothing.
-fn unmet(want: Want) -> Foreseen
+fn unmet(want: Want) -> ListProspect
     ensures { result ≡ record {
       want = want;
       sums = record { base = 0; pc = 0; rebates = 0 };
@@ -80,7 +63,7 @@ fn unmet(want: Want) -> Foreseen
       aborts = false;
     } }
 {
-    Foreseen {
+    ListProspect {
         want,
         sums: Sums {
             base: 0,
@@ -95,7 +78,13 @@ fn unmet(want: Want) -> Foreseen
 }
 
 /// What is foreseen of a taker that goes no further, with this best order left, which has lost this part.
-fn ended(side: Side, taker: Terms, met: Foreseen, order: Order, part: u64) -> Foreseen
+fn ended(
+    side: Side,
+    taker: MeetingTerms,
+    met: ListProspect,
+    order: Order,
+    part: u64,
+) -> ListProspect
     ensures want { result.want ≡ met.want }
     ensures sums { result.sums ≡ met.sums }
     ensures gone { result.gone ≡ met.gone }
@@ -104,34 +93,45 @@ fn ended(side: Side, taker: Terms, met: Foreseen, order: Order, part: u64) -> Fo
     ensures aborts { (others : List OrderOf) → result.aborts
         ≡ is_some (meeting.aborts_at side (taking taker) (demand met.want) (order ∷ others)) }
 {
-    Foreseen {
+    ListProspect {
         part,
         crosses: crosses(side, taker.limit_price, price_of(order.id)),
-        aborts: aborts_at(side, taker, met.want, order),
+        aborts: aborts_at(side, taker, met.want, order).is_some(),
         ..met
     }
 }
 
 /// What is foreseen with one more order that lost these lots.
-fn foreseen_with(side: Side, taker: Terms, met: Foreseen, order: Order, lots: u64) -> Foreseen
+fn foreseen_with(
+    side: Side,
+    taker: MeetingTerms,
+    met: ListProspect,
+    order: Order,
+    lots: u64,
+) -> ListProspect
+    // What the order moves fits 64 bits, and the sums have room for it.
     requires tier { order.tier < 7 }
     requires base { meeting.met_lots (taking taker) order lots * taker.sizes.coin < 2 ^ 64 }
     requires pc { meeting.met_pc (taking taker) order lots < 2 ^ 64 }
     requires base_sum { met.sums.base < 2 ^ 127 }
     requires pc_sum { met.sums.pc < 2 ^ 127 }
     requires rebates_sum { met.sums.rebates < 2 ^ 127 }
+
+    // The taker wants less, and the sums are greater by what the order moves.
     ensures want { demand result.want ≡ meeting.demand_after side (taking taker) (demand met.want) order lots }
     ensures base { result.sums.base ≡ met.sums.base + meeting.met_lots (taking taker) order lots * taker.sizes.coin }
     ensures pc { result.sums.pc ≡ met.sums.pc + meeting.met_pc (taking taker) order lots }
     ensures rebates { result.sums.rebates ≡ met.sums.rebates + meeting.met_rebate (taking taker) order lots }
     ensures small { result.sums.rebates ≤ met.sums.rebates + meeting.met_pc (taking taker) order lots }
+
+    // Nothing else changes.
     ensures gone { result.gone ≡ met.gone }
     ensures part { result.part ≡ met.part }
     ensures crosses { result.crosses ≡ met.crosses }
     ensures aborts { result.aborts ≡ met.aborts }
 {
     let fill = fill_met(taker, order, lots);
-    Foreseen {
+    ListProspect {
         want: want_after(side, taker, met.want, order, lots),
         sums: sums_with(met.sums, fill),
         ..met
@@ -139,7 +139,7 @@ fn foreseen_with(side: Side, taker: Terms, met: Foreseen, order: Order, lots: u6
 }
 
 /// What a taker of the side would meet of the opposite side's orders, from the best one on.
-pub fn foresee(side: Side, taker: Terms, want: Want, orders: &[Order]) -> Foreseen
+pub fn foresee(side: Side, taker: MeetingTerms, want: Want, orders: &[Order]) -> ListProspect
     requires modest { IsModest side taker.sizes (demand want) }
     requires orders { All (CanFill (book.opposite side) taker.sizes) orders.now }
     ensures foreseen { IsForeseen side taker.sizes taker.limit_price orders.now

@@ -22,7 +22,7 @@ use dex_audit_rules::gather;
 use dex_market::{MarketRef, RequestRef};
 use dex_slab::SlabRef;
 use dex_types::{Address, Lots, MarketAccounts, NoMemory, Order, OrdersAccount, Side, SideRead};
-use dex_worth::amounts::{Amounts, NONE};
+use dex_worth::amounts::{NONE, TokenAmounts};
 use dex_worth::holdings::held_of;
 use std::alloc::Global;
 
@@ -73,7 +73,7 @@ fn owners_of(alloc: Global, accounts: &[OrdersAccount]) -> Result<Vec<Address>, 
 fn accounts_of(
     alloc: Global,
     owners: &[Address],
-    held: &[Amounts],
+    held: &[TokenAmounts],
 ) -> Result<Vec<Account>, NoMemory>
     requires { length held.now ≡ length owners.now }
     ensures { IfOk result (λ accounts. accounts.items ≡ made.accounts_with owners.now held.now) }

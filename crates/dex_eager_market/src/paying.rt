@@ -14,9 +14,9 @@ ghost use Rattle.dex_eager_market.specs.Foreseen.{CanFill, IsModest};
 use crate::accounts::{Account, Change, add};
 use dex_fills::fills::{Fill, fill_met, want_after};
 use dex_fills::taking::{is_own, taken};
-use dex_fills::{Terms, Want};
+use dex_fills::{MeetingTerms, Want};
 use dex_types::{Order, Side};
-use dex_worth::amounts::Amounts;
+use dex_worth::amounts::TokenAmounts;
 
 /// What a fill of the taker's side changes for the maker: an ask pays base and gets quote and the rebate, a bid gets
 /// base and pays quote less the rebate.
@@ -30,15 +30,15 @@ fn maker_change(side: Side, fill: Fill) -> Change
     let rebate = u128::from(fill.rebate);
     match side {
         Side::Bid => Change {
-            gained: Amounts {
+            gained: TokenAmounts {
                 coin: 0,
                 pc: pc + rebate,
             },
-            paid: Amounts { coin: base, pc: 0 },
+            paid: TokenAmounts { coin: base, pc: 0 },
         },
         Side::Ask => Change {
-            gained: Amounts { coin: base, pc: 0 },
-            paid: Amounts {
+            gained: TokenAmounts { coin: base, pc: 0 },
+            paid: TokenAmounts {
                 coin: 0,
                 pc: pc - rebate,
             },
@@ -47,7 +47,7 @@ fn maker_change(side: Side, fill: Fill) -> Change
 }
 
 /// Pays the maker of an order that was met and lost these lots; an order of the taker's own pays nothing.
-fn pay(accounts: &mut Vec<Account>, side: Side, taker: Terms, order: Order, lots: u64)
+fn pay(accounts: &mut Vec<Account>, side: Side, taker: MeetingTerms, order: Order, lots: u64)
     requires tier { order.tier < 7 }
     requires base { meeting.met_lots (taking taker) order lots * taker.sizes.coin < 2 ^ 64 }
     requires pc { meeting.met_pc (taking taker) order lots < 2 ^ 64 }
@@ -68,7 +68,7 @@ fn pay(accounts: &mut Vec<Account>, side: Side, taker: Terms, order: Order, lots
 pub fn pay_makers(
     accounts: &mut Vec<Account>,
     side: Side,
-    taker: Terms,
+    taker: MeetingTerms,
     want: Want,
     orders: &[Order],
 )

@@ -5,7 +5,7 @@ ghost use Rattle.std.specs.List.{All};
 ghost use Rattle.dex_eager.specs.Eager as eager;
 ghost use Rattle.dex_eager.specs.Slots.{maker_fills};
 ghost use Rattle.dex_match.specs.OrderTerms.{meeting_with, order_of};
-ghost use Rattle.dex_fills.specs.Taker.{demand, met_by, taking};
+ghost use Rattle.dex_fills.specs.Taker.{demand, met_by};
 ghost use Rattle.dex_take.specs.TakeTerms.{meeting_with as take_met, take_of};
 ghost use Rattle.dex_types.specs.NewOrder as orders;
 ghost use Rattle.dex_types.specs.Side as book;
@@ -18,16 +18,17 @@ ghost use Rattle.dex_eager_market.specs.declared.states.Book.{Book as BookOf};
 
 use crate::accounts::{Account, Change, add};
 use crate::book_list::{post, take_front};
-use crate::foreseeing::{Foreseen, Sums, foresee};
+use crate::foreseeing::{ListProspect, Sums, foresee};
 use crate::paying::pay_makers;
 use crate::states::{Book, Till};
 use dex_fees::{taker_fee, tier_number};
 use dex_fills::prices::id_of;
 use dex_fills::resting::{affordable, can_rest};
-use dex_fills::{Terms, Want};
-use dex_match::{Taker, want_of};
-use dex_types::{Lots, Order, OrderType, SelfTrade, Side};
-use dex_worth::amounts::Amounts;
+use dex_fills::{MeetingTerms, Want};
+use dex_match::{Taker, terms_of, want_of};
+use dex_take::take_terms;
+use dex_types::{Lots, Order, Side};
+use dex_worth::amounts::TokenAmounts;
 
 /// The least amount that 64 bits do not hold.
 const TOO_LARGE: u128 = 0x1_0000_0000_0000_0000;
@@ -60,44 +61,12 @@ fn narrow(amount: u128) -> u64
     amount as u64
 }
 
-/// What a new order keeps to while it meets the opposite side.
-fn order_terms(sizes: Lots, taker: Taker) -> Terms
-    ensures keeps { taking result ≡ orders.terms_of sizes (order_of taker) }
-    ensures sizes { result.sizes ≡ sizes }
-    ensures limit { result.limit_price ≡ taker.price }
-{
-    Terms {
-        program: taker.program,
-        sizes,
-        limit_price: taker.price,
-        order_type: taker.order_type,
-        self_trade: taker.self_trade,
-        owner: Some(taker.account),
-    }
-}
-
-/// What a take keeps to; it has no owner.
-fn take_terms(sizes: Lots, taker: Taker) -> Terms
-    ensures keeps { taking result ≡ takes.take_terms sizes (take_of taker 0 0) }
-    ensures sizes { result.sizes ≡ sizes }
-    ensures limit { result.limit_price ≡ taker.price }
-{
-    Terms {
-        program: taker.program,
-        sizes,
-        limit_price: taker.price,
-        order_type: OrderType::Ioc,
-        self_trade: SelfTrade::Decrement,
-        owner: None,
-    }
-}
-
 /// Pays the makers that a taker meets, and takes off the opposite side what it met, as it was foreseen.
 fn meet_book(
     side: Side,
-    taker: Terms,
+    taker: MeetingTerms,
     want: Want,
-    foreseen: &Foreseen,
+    foreseen: &ListProspect,
     opposing: &mut Book,
     accounts: &mut Vec<Account>,
 )
@@ -127,18 +96,18 @@ fn taker_change(side: Side, base: u128, pc: u64, fee: u64) -> Change
     let fee = u128::from(fee);
     match side {
         Side::Bid => Change {
-            gained: Amounts { coin: base, pc: 0 },
-            paid: Amounts {
+            gained: TokenAmounts { coin: base, pc: 0 },
+            paid: TokenAmounts {
                 coin: 0,
                 pc: pc + fee,
             },
         },
         Side::Ask => Change {
-            gained: Amounts {
+            gained: TokenAmounts {
                 coin: 0,
                 pc: pc.saturating_sub(fee),
             },
-            paid: Amounts { coin: base, pc: 0 },
+            paid: TokenAmounts { coin: base, pc: 0 },
         },
     }
 }
@@ -151,7 +120,7 @@ fn lock_left(taker: Taker, pc: u64, fee: u64) -> u64
 }
 
 /// The lots that rest of a new order.
-fn rested_of(sizes: Lots, taker: Taker, foreseen: &Foreseen, pc: u64, fee: u64) -> u64
+fn rested_of(sizes: Lots, taker: Taker, foreseen: &ListProspect, pc: u64, fee: u64) -> u64
     ensures { result ≡ trading.rested_by taker.id_side sizes taker.order_type taker.price foreseen.now.crosses
         foreseen.now.want.lots (taker.lock - (pc + fee)) }
 {
@@ -190,7 +159,7 @@ fn charge(takings: &mut u128, fee: u64, rebates: u128)
 }
 
 /// Something that was foreseen, or the next sequence number, stops a new order of the side.
-fn stops(side: Side, foreseen: &Foreseen, next: u64) -> bool
+fn stops(side: Side, foreseen: &ListProspect, next: u64) -> bool
     ensures { result ≡ trading.stops side foreseen.now.sums.pc next foreseen.now.aborts }
 {
     if quote_too_large(side, foreseen.sums.pc) {
@@ -204,7 +173,7 @@ fn stops(side: Side, foreseen: &Foreseen, next: u64) -> bool
 fn settle_order(
     sizes: Lots,
     taker: Taker,
-    foreseen: &Foreseen,
+    foreseen: &ListProspect,
     own: &mut Book,
     opposing: &mut Book,
     till: &mut Till,
@@ -225,7 +194,7 @@ fn settle_order(
     let side = taker.id_side;
     let pc = narrow(foreseen.sums.pc);
     let fee = taker_fee(taker.program, taker.tier, pc);
-    let terms = order_terms(sizes, taker);
+    let terms = terms_of(sizes, taker);
     let want = want_of(sizes, taker);
     meet_book(side, terms, want, foreseen, opposing, &mut till.accounts);
     let rested = rested_of(sizes, taker, foreseen, pc, fee);
@@ -239,7 +208,7 @@ fn settle_order(
 
 /// What a new order would meet, unless it changes nothing: it is too large, has no sequence number, or would have to
 /// abort.
-fn foresee_order(sizes: Lots, taker: Taker, next: u64, opposing: &Book) -> Option<Foreseen>
+fn foresee_order(sizes: Lots, taker: Taker, next: u64, opposing: &Book) -> Option<ListProspect>
     requires { IsBook (book.opposite taker.id_side) sizes opposing.now }
     ensures { trading.IsOrderForeseen sizes taker next opposing.now.orders.items result }
 {
@@ -247,7 +216,7 @@ fn foresee_order(sizes: Lots, taker: Taker, next: u64, opposing: &Book) -> Optio
     if base_too_large(side, sizes, taker.lots) {
         return None;
     }
-    let terms = order_terms(sizes, taker);
+    let terms = terms_of(sizes, taker);
     let foreseen = foresee(side, terms, want_of(sizes, taker), &opposing.orders);
     if stops(side, &foreseen, next) {
         return None;
@@ -273,7 +242,7 @@ pub fn order_in(sizes: Lots, taker: Taker, own: &mut Book, opposing: &mut Book, 
 }
 
 /// What a take would meet, unless it is too large.
-fn foresee_take(sizes: Lots, taker: Taker, opposing: &Book) -> Option<Foreseen>
+fn foresee_take(sizes: Lots, taker: Taker, opposing: &Book) -> Option<ListProspect>
     requires { IsBook (book.opposite taker.id_side) sizes opposing.now }
     ensures { trading.IsTakeForeseen sizes taker opposing.now.orders.items result }
 {
@@ -290,7 +259,13 @@ fn foresee_take(sizes: Lots, taker: Taker, opposing: &Book) -> Option<Foreseen>
 }
 
 /// Does a take as it was foreseen: the makers are paid, and the market takes the fee less the rebates.
-fn settle_take(sizes: Lots, taker: Taker, foreseen: &Foreseen, opposing: &mut Book, till: &mut Till)
+fn settle_take(
+    sizes: Lots,
+    taker: Taker,
+    foreseen: &ListProspect,
+    opposing: &mut Book,
+    till: &mut Till,
+)
     requires trade { trading.IsTrade sizes taker opposing.old.orders.items
         (take_met sizes taker opposing.old.orders.items) foreseen.now }
     requires opposing { IsBook (book.opposite taker.id_side) sizes opposing.old }

@@ -100,7 +100,7 @@ pub IsFramed-with_number : (bytes : List ℕ) (field : Field) (x : ℕ) → 5 �
 unfolding with_number
 IsFramed-with_number bytes field x behind before framed = IsFramed-with_bytes bytes field (bytes_of_number field.len x) behind before framed
 
--- the same of a difference that is reported as a fault
+-- bytes are framed where no difference of theirs is reported as a fault
 pub framed_from_mapped : {X : Type 0} (tell : Difference → X) (bytes : List ℕ) → 12 ≤ length bytes → option_map tell (frame_difference bytes) ≡ None → IsFramed bytes
 framed_from_mapped tell bytes long h = framed_from_none bytes long (mapped_none tell (frame_difference bytes) h)
 

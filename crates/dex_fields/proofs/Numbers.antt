@@ -100,7 +100,7 @@ sum_through-bytes (suc last) bytes h =
     let more = number_of_bytes-take_more (suc last) bytes (omega arith) in
     rw (sum_through-bytes last bytes (omega arith), ← more, add-one) refl
 
--- the same where there are no further bytes
+-- the sum over all bytes of a number is the number
 pub sum_through-all : (last : ℕ) (bytes : List ℕ) → length bytes ≡ suc last
     → sum_through (λ place. byte_worth place (get_or bytes place 0)) last ≡ number_of_bytes bytes
 sum_through-all last bytes h =

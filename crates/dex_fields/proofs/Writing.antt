@@ -127,7 +127,7 @@ number_in-with_number bytes field x within fits =
     ap number_of_bytes (bytes_in-with_bytes bytes field (bytes_of_number field.len x) within (length-bytes_of_number field.len x))
     ∙ number_of_bytes-bytes_of_number field.len x fits
 
--- the same for bytes that a write left, at a width that is known
+-- a number is read back from the bytes that its write left, at a width that is known
 pub with_number-fits : (bytes now : List ℕ) (field : Field) (x width : ℕ) → field.len ≡ width → IsWithin field bytes → x < 256 ^ width
     → now ≡ with_number bytes field x → number_in now field ≡ x
 with_number-fits bytes now field x width wide within fits made =

@@ -16,7 +16,7 @@ pub struct Field {
 impl Field {
     ghost use Rattle.dex_fields.specs.Bytes.{end_of, moved_by, item_of};
 
-    /// The same field of a record that stands `base` bytes into the account.
+    /// This field in a record that stands `base` bytes into the account.
     pub fn moved_by(self, base: usize) -> Field
         requires { base + end_of self < 2 ^ 64 }
         ensures { result ≡ moved_by base self }

@@ -22,7 +22,7 @@ use Rattle.dex_fills.specs.declared.side_walk.Prospect.{Prospect}
 use Rattle.dex_fills.specs.Prospects.{FitsSums, IsForeseen, IsMet}
 use Rattle.dex_ring.specs.Appended.{appended, HasRoom, pushed_all}
 use Rattle.dex_fills.specs.declared.fills.Fill.{Fill}
-use Rattle.dex_fills.specs.declared.wants.Terms.{Terms}
+use Rattle.dex_fills.specs.declared.wants.MeetingTerms.{MeetingTerms}
 use Rattle.dex_fills.specs.Taker.{demand, fill_met, taking}
 use Rattle.dex_fills.proofs.MeetingSteps.{meet-whole, meet-part, taken-le}
 use Rattle.dex_ring.proofs.AppendLaws.{appended-counted, appended-more, appended-none, HasRoom-first, HasRoom-same, pushed_all-pushed_all}
@@ -150,14 +150,14 @@ fits-order side t whole met rest sums order lots fits carried first =
       rebates_fit = omega (arith, fits.rebates, c, carried.rebates);
     }
 
--- the same, by what the order moves
+-- the sums with what the order moves fit 64 bits
 pub record FitsFill (side : Side) (fill : Fill) (sums : Sums) : Type 0 where
   pub received : side ≡ Bid → fill.pc + fill.rebate < 2 ^ 64
   pub lots_fit : sums.lots + fill.lots < 2 ^ 64
   pub pc_fits : sums.pc + fill.pc < 2 ^ 64
   pub rebates_fit : sums.rebates + fill.rebate < 2 ^ 64
 
-pub fits-fill : (side : Side) (taker : Terms) (order : Order) (lots : ℕ) (sums : Sums) (fill : Fill) → FitsOrder side (taking taker) order lots sums → fill ≡ fill_met taker order lots
+pub fits-fill : (side : Side) (taker : MeetingTerms) (order : Order) (lots : ℕ) (sums : Sums) (fill : Fill) → FitsOrder side (taking taker) order lots sums → fill ≡ fill_met taker order lots
     → FitsFill side fill sums
 fits-fill side taker order lots sums fill fits is =
     subst (λ (f : Fill). FitsFill side f sums) (sym is) (record { received = fits.received; lots_fit = fits.lots_fit; pc_fits = fits.pc_fits; rebates_fit = fits.rebates_fit })
@@ -192,7 +192,7 @@ joined-ended side t order lots met w left ring next goal joined first more =
     sym (appended-none next (appended-counted (met_events side t order lots) ring next more))
     ∙ joined-more side t order lots met (met_none side t w left) ring next goal joined first more
 
--- the same of the bytes
+-- the bytes after the events of one order are those after all events, where the rest is still to come
 pub written-more : (side : Side) (t : TakerTerms) (order : Order) (lots : ℕ) (met rest : Meeting) (bytes next goal : List ℕ) → pushed_all met.events bytes ≡ goal
     → met ≡ met_first side t order lots rest → next ≡ pushed_all (met_events side t order lots) bytes → pushed_all rest.events next ≡ goal
 written-more side t order lots met rest bytes next goal written first more =
@@ -202,7 +202,7 @@ written-more side t order lots met rest bytes next goal written first more =
 pub written-same : (rest now : Meeting) (bytes goal : List ℕ) → rest ≡ now → pushed_all rest.events bytes ≡ goal → pushed_all now.events bytes ≡ goal
 written-same rest now bytes goal same written = subst (λ (m : Meeting). pushed_all m.events bytes ≡ goal) same written
 
--- the same, by another name for what is left to meet
+-- a carried meeting, by another name for what is left to meet
 pub carried-same : (whole rest now : Meeting) (sums : Sums) → rest ≡ now → IsCarried whole rest sums → IsCarried whole now sums
 carried-same whole rest now sums same carried = subst (λ (m : Meeting). IsCarried whole m sums) same carried
 

@@ -1,5 +1,5 @@
 -- What the code's taker is in the definitions: its terms, what it wants, and what it meets.
-use Rattle.dex_fills.specs.declared.wants.Terms.{Terms}
+use Rattle.dex_fills.specs.declared.wants.MeetingTerms.{MeetingTerms}
 use Rattle.dex_fills.specs.declared.wants.Want.{Want}
 use Rattle.std.specs.Prelude.{ℕ, ◌*◌, List}
 use Rattle.dex_fills.specs.declared.fills.Fill.{Fill}
@@ -8,7 +8,7 @@ use Rattle.dex_types.specs.declared.terms.Side.{Side}
 use Rattle.dex_types.specs.Meeting.{TakerTerms, Demand, Meeting, meet, met_lots, met_pc, met_rebate}
 
 -- the code's terms of a taker as the definitions have them
-abbrev pub taking : Terms → TakerTerms
+abbrev pub taking : MeetingTerms → TakerTerms
 taking taker = record {
   program = taker.program;
   sizes = taker.sizes;
@@ -23,7 +23,7 @@ abbrev pub demand : Want → Demand
 demand want = record { lots = want.lots; budget = want.budget; matches = want.matches }
 
 -- the lots, base, quote and rebate that move where a met order loses so many lots
-abbrev pub fill_met : Terms → Order → ℕ → Fill
+abbrev pub fill_met : MeetingTerms → Order → ℕ → Fill
 fill_met taker order lots = record {
   lots = met_lots (taking taker) order lots;
   base = met_lots (taking taker) order lots * taker.sizes.coin;
@@ -32,5 +32,5 @@ fill_met taker order lots = record {
 }
 
 -- the taker's meeting with these orders of the opposite side
-abbrev pub met_by : Side → Terms → Want → List Order → Meeting
+abbrev pub met_by : Side → MeetingTerms → Want → List Order → Meeting
 met_by side taker want opposing = meet side (taking taker) (demand want) opposing

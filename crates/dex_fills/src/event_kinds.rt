@@ -17,7 +17,7 @@ pub enum Kind {
 
 /// The native amounts of an event: what it releases, what is paid or stays locked, and the fee or the rebate.
 #[derive(Clone, Copy)]
-pub struct Amounts {
+pub struct EventAmounts {
     pub released: u64,
     pub paid: u64,
     pub fee_or_rebate: u64,

@@ -4,10 +4,10 @@ ghost use Rattle.dex_types.specs.Meeting as meeting;
 ghost use Rattle.dex_types.specs.Side as book;
 ghost use Rattle.dex_fills.specs.Taker.{taking, demand, fill_met};
 
-use crate::event_kinds::Amounts;
+use crate::event_kinds::EventAmounts;
 use crate::prices::price_of;
 use crate::taking::is_own;
-use crate::wants::{Sums, Terms, Want};
+use crate::wants::{MeetingTerms, Sums, Want};
 use dex_fees::maker_rebate;
 use dex_fees::tiers::tier_at;
 use dex_types::{Lots, Order, SelfTrade, Side};
@@ -59,7 +59,7 @@ fn want_after_own(rule: SelfTrade, want: Want, lots: u64) -> Want
 
 /// What a taker still wants after an order lost these lots to it.
 #[tactic(auto, unfolding(dex_types::specs::Meeting::demand_after))]
-pub fn want_after(side: Side, taker: Terms, want: Want, order: Order, lots: u64) -> Want
+pub fn want_after(side: Side, taker: MeetingTerms, want: Want, order: Order, lots: u64) -> Want
     ensures { demand result ≡ meeting.demand_after side (taking taker) (demand want) order lots }
 {
     if is_own(taker.owner, order) {
@@ -74,7 +74,7 @@ pub fn want_after(side: Side, taker: Terms, want: Want, order: Order, lots: u64)
 }
 
 /// The maker's rebate of a fill, by the tier that is stored with the order.
-fn rebate_of(taker: Terms, order: Order, pc: u64) -> u64
+fn rebate_of(taker: MeetingTerms, order: Order, pc: u64) -> u64
     requires { order.tier < 7 }
     ensures value { result ≡ fees.maker_rebate taker.program (fees.tier_at order.tier) pc }
     ensures at_most_all { result ≤ pc }
@@ -92,7 +92,7 @@ pub struct Fill {
 }
 
 /// What lots of an order that fill move.
-pub(crate) fn fill_of(taker: Terms, order: Order, lots: u64) -> Fill
+pub(crate) fn fill_of(taker: MeetingTerms, order: Order, lots: u64) -> Fill
     requires tier { order.tier < 7 }
     requires base { lots * taker.sizes.coin < 2 ^ 64 }
     requires pc { meeting.fill_pc taker.sizes order lots < 2 ^ 64 }
@@ -112,7 +112,7 @@ pub(crate) fn fill_of(taker: Terms, order: Order, lots: u64) -> Fill
 }
 
 /// What an order that was met and lost these lots moves: nothing where it is the taker's own.
-pub fn fill_met(taker: Terms, order: Order, lots: u64) -> Fill
+pub fn fill_met(taker: MeetingTerms, order: Order, lots: u64) -> Fill
     requires tier { order.tier < 7 }
     requires base { meeting.met_lots (taking taker) order lots * taker.sizes.coin < 2 ^ 64 }
     requires pc { meeting.met_pc (taking taker) order lots < 2 ^ 64 }
@@ -131,7 +131,7 @@ pub fn fill_met(taker: Terms, order: Order, lots: u64) -> Fill
 }
 
 /// The amounts of a maker's fill: an ask is owed quote and the rebate, a bid pays quote less the rebate.
-pub(crate) fn maker_amounts(side: Side, fill: Fill) -> Amounts
+pub(crate) fn maker_amounts(side: Side, fill: Fill) -> EventAmounts
     requires rebate { fill.rebate ≤ fill.pc }
     requires fits { side ≡ Side.Ask → fill.pc + fill.rebate < 2 ^ 64 }
     ensures bid { side ≡ Side.Bid → result ≡ record {
@@ -146,12 +146,12 @@ pub(crate) fn maker_amounts(side: Side, fill: Fill) -> Amounts
     } }
 {
     match side {
-        Side::Bid => Amounts {
+        Side::Bid => EventAmounts {
             released: fill.base,
             paid: fill.pc - fill.rebate,
             fee_or_rebate: fill.rebate,
         },
-        Side::Ask => Amounts {
+        Side::Ask => EventAmounts {
             released: fill.pc + fill.rebate,
             paid: fill.base,
             fee_or_rebate: fill.rebate,

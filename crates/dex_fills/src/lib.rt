@@ -20,4 +20,4 @@ pub use pending::{pending_fills, with_fills};
 pub use side_meeting::meet_side;
 pub use side_posting::post_or_boot;
 pub use side_walk::{Prospect, foresee};
-pub use wants::{Sums, Terms, Want};
+pub use wants::{MeetingTerms, Sums, Want};

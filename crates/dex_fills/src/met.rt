@@ -5,7 +5,7 @@ ghost use Rattle.dex_types.specs.Meeting as meeting;
 ghost use Rattle.dex_fills.specs.Taker.{taking, demand, fill_met};
 
 use crate::fills::{Fill, fill_met, sums_with, want_after};
-use crate::wants::{Sums, Terms, Want};
+use crate::wants::{MeetingTerms, Sums, Want};
 use dex_types::{Order, Side};
 
 /// What came of meeting the opposite side: what the taker still wants, and the sums of its fills.
@@ -18,7 +18,7 @@ pub struct Met {
 /// What came of meeting, with one more order that lost these lots by this fill.
 pub(crate) fn met_with(
     side: Side,
-    taker: Terms,
+    taker: MeetingTerms,
     met: Met,
     order: Order,
     lots: u64,
@@ -40,7 +40,7 @@ pub(crate) fn met_with(
 }
 
 /// What came of meeting, with one more order that lost these lots.
-pub(crate) fn met_after(side: Side, taker: Terms, met: Met, order: Order, lots: u64) -> Met
+pub(crate) fn met_after(side: Side, taker: MeetingTerms, met: Met, order: Order, lots: u64) -> Met
     requires tier { order.tier < 7 }
     requires lots { met.sums.lots + meeting.met_lots (taking taker) order lots < 2 ^ 64 }
     requires pc { met.sums.pc + meeting.met_pc (taking taker) order lots < 2 ^ 64 }

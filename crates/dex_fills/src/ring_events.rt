@@ -11,16 +11,16 @@ ghost use Rattle.dex_types.specs.Meeting as meeting;
 ghost use Rattle.dex_types.specs.QueuedEvent.{decoded_event, encoded_event};
 ghost use Rattle.dex_types.specs.Side as book;
 
-use crate::event_kinds::{Amounts, Kind, flags};
+use crate::event_kinds::{EventAmounts, Kind, flags};
 use crate::fills::{Fill, lock, maker_amounts};
 use crate::prices::price_of;
 use crate::taking::is_own;
-use crate::wants::Terms;
+use crate::wants::MeetingTerms;
 use dex_ring::RingView;
 use dex_types::{Event, Lots, Order, Side};
 
 /// An event of an order of the side, as the queue holds it.
-fn event(kind: Kind, side: Side, order: Order, amounts: Amounts) -> Event
+fn event(kind: Kind, side: Side, order: Order, amounts: EventAmounts) -> Event
     requires slot { order.slot < 128 }
     requires tier { order.tier < 7 }
     ensures event { decoded_event result ≡ event_with kind side order amounts }
@@ -41,7 +41,7 @@ fn event(kind: Kind, side: Side, order: Order, amounts: Amounts) -> Event
 }
 
 /// Appends an event of an order of the side.
-pub fn push(ring: &mut RingView<'_>, kind: Kind, side: Side, order: Order, amounts: Amounts)
+pub fn push(ring: &mut RingView<'_>, kind: Kind, side: Side, order: Order, amounts: EventAmounts)
     requires accepted { IsEventQueue ring.old.bytes.now }
     requires room { HasRoom 1 (ring_of ring.old.bytes.now) }
     requires slot { order.slot < 128 }
@@ -71,7 +71,7 @@ pub fn push_plain_out(ring: &mut RingView<'_>, side: Side, order: Order)
         Kind::PlainOut,
         side,
         order,
-        Amounts {
+        EventAmounts {
             released: 0,
             paid: 0,
             fee_or_rebate: 0,
@@ -94,7 +94,7 @@ pub fn push_releasing_out(ring: &mut RingView<'_>, side: Side, sizes: Lots, orde
         (meeting.releasing_out side sizes order lots ∷ []) ring.old.bytes.now }
 {
     let price = price_of(order.id);
-    let amounts = Amounts {
+    let amounts = EventAmounts {
         released: lock(side, sizes, price, lots),
         paid: lock(side, sizes, price, order.lots - lots),
         fee_or_rebate: 0,
@@ -103,7 +103,7 @@ pub fn push_releasing_out(ring: &mut RingView<'_>, side: Side, sizes: Lots, orde
 }
 
 /// Appends the fill of an order that was met, with these amounts, and, where that emptied it, its out.
-fn push_fill(ring: &mut RingView<'_>, side: Side, order: Order, lots: u64, amounts: Amounts)
+fn push_fill(ring: &mut RingView<'_>, side: Side, order: Order, lots: u64, amounts: EventAmounts)
     requires accepted { IsEventQueue ring.old.bytes.now }
     requires room { HasRoom (length (filled_events side order lots amounts)) (ring_of ring.old.bytes.now) }
     requires slot { order.slot < 128 }
@@ -123,20 +123,25 @@ fn push_fill(ring: &mut RingView<'_>, side: Side, order: Order, lots: u64, amoun
 pub(crate) fn push_met(
     ring: &mut RingView<'_>,
     side: Side,
-    taker: Terms,
+    taker: MeetingTerms,
     order: Order,
     lots: u64,
     fill: Fill,
 )
+    // The queue has room for the events of an order that had these lots and more.
     requires accepted { IsEventQueue ring.old.bytes.now }
     requires room { HasRoom (length (meeting.met_events side (taking taker) order lots)) (ring_of ring.old.bytes.now) }
     requires slot { order.slot < 128 }
     requires tier { order.tier < 7 }
     requires of_order { lots ≤ order.lots }
+
+    // The fill is the order's, and its amounts fit 64 bits.
     requires fill { fill ≡ fill_met taker order lots }
     requires small { fill.rebate ≤ fill.pc }
     requires received { side ≡ Side.Bid → fill.pc + fill.rebate < 2 ^ 64 }
     requires locks { book.lock (book.opposite side) taker.sizes (book.price_of order.id) order.lots < 2 ^ 64 }
+
+    // They stand behind those that waited.
     ensures queue { KeepsEvents ring.old ring.new }
     ensures list { ring_of ring.new.bytes.now
         ≡ appended (meeting.met_events side (taking taker) order lots) (ring_of ring.old.bytes.now) }

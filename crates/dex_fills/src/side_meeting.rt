@@ -14,7 +14,7 @@ use crate::met::{Met, met_with};
 use crate::ring_events::push_met;
 use crate::side_walk::unmet;
 use crate::taking::taken;
-use crate::wants::{Terms, Want};
+use crate::wants::{MeetingTerms, Want};
 use dex_ring::RingView;
 use dex_types::{Side, SideBook};
 
@@ -22,11 +22,12 @@ use dex_types::{Side, SideBook};
 /// there, and the events are appended to the queue.
 pub fn meet_side<B: SideBook>(
     side: Side,
-    taker: Terms,
+    taker: MeetingTerms,
     want: Want,
     opposing: &mut B,
     ring: &mut RingView<'_>,
 ) -> Met
+    // What is met fits 64 bits, and the queue has room for its events.
     requires holds { B.holds opposing.old }
     requires accepted { IsEventQueue ring.old.bytes.now }
     requires counted { (ring_of ring.old.bytes.now).seq_num < 2 ^ 64 }
@@ -34,12 +35,16 @@ pub fn meet_side<B: SideBook>(
     requires room { HasRoom (length (met_by side taker want (B.orders opposing.old)).events)
         (ring_of ring.old.bytes.now) }
     requires locks { locked (opposite side) taker.sizes (B.orders opposing.old) < 2 ^ 64 }
+
+    // The side, the sums and the queue are those of the definition's meeting.
     ensures met { IsMet (met_by side taker want (B.orders opposing.old)) result }
     ensures left { B.orders opposing.new ≡ (met_by side taker want (B.orders opposing.old)).left }
     ensures list { ring_of ring.new.bytes.now
         ≡ appended (met_by side taker want (B.orders opposing.old)).events (ring_of ring.old.bytes.now) }
     ensures bytes { ring.new.bytes.now ≡ pushed_all
         (met_by side taker want (B.orders opposing.old)).events ring.old.bytes.now }
+
+    // Both stay where they lie.
     ensures queue { KeepsEvents ring.old ring.new }
     ensures side { KeepsSide B.holds B.same_place B.side B.room opposing.old opposing.new }
 {

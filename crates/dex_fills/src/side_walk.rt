@@ -9,9 +9,9 @@ ghost use Rattle.dex_types.specs.Side as book;
 
 use crate::met::{Met, met_after};
 use crate::prices::{crosses, price_of};
-use crate::taking::{is_own, reaches, taken};
-use crate::wants::{Sums, Terms, Want};
-use dex_types::{Order, SelfTrade, Side, SideRead};
+use crate::taking::{aborts_at, is_own, taken};
+use crate::wants::{MeetingTerms, Sums, Want};
+use dex_types::{Order, Side, SideRead};
 
 /// What a taker would meet: what it would still want with the sums of its fills, how many events there would be,
 /// whether the best order left would still cross its limit price, and the id of the own order at which it would have to
@@ -39,7 +39,7 @@ pub(crate) fn unmet(want: Want) -> Met
 }
 
 /// How many events an order that is met leaves where it loses these lots.
-fn events_of(side: Side, taker: Terms, order: Order, lots: u64) -> u32
+fn events_of(side: Side, taker: MeetingTerms, order: Order, lots: u64) -> u32
     ensures value { result ≡ length (meeting.met_events side (taking taker) order lots) }
 {
     let _ = side;
@@ -50,32 +50,8 @@ fn events_of(side: Side, taker: Terms, order: Order, lots: u64) -> u32
     }
 }
 
-fn is_abort(rule: SelfTrade) -> bool
-    ensures { result ≡ meeting.is_abort rule }
-{
-    match rule {
-        SelfTrade::Abort => true,
-        _ => false,
-    }
-}
-
-/// The id of the order, where it is the best one left and the taker has to abort at it.
-fn aborts_at(side: Side, taker: Terms, want: Want, order: Order) -> Option<u128>
-    ensures { (others : List Order)
-        → result ≡ meeting.aborts_at side (taking taker) (demand want) (order ∷ others) }
-{
-    if reaches(side, taker, want, order)
-        && is_own(taker.owner, order)
-        && is_abort(taker.self_trade)
-    {
-        Some(order.id)
-    } else {
-        None
-    }
-}
-
 /// The prospect of a taker that goes no further, with this best order left.
-fn prospect_at(side: Side, taker: Terms, met: Met, events: u32, order: Order) -> Prospect
+fn prospect_at(side: Side, taker: MeetingTerms, met: Met, events: u32, order: Order) -> Prospect
     ensures met { result.met ≡ met }
     ensures events { result.events ≡ events }
     ensures crosses { result.crosses ≡ book.crosses side taker.limit_price (book.price_of order.id) }
@@ -91,7 +67,7 @@ fn prospect_at(side: Side, taker: Terms, met: Met, events: u32, order: Order) ->
 }
 
 /// What a taker of the side would meet of the opposite side from the best order on.
-pub fn foresee<B: SideRead>(side: Side, taker: Terms, want: Want, opposing: &B) -> Prospect
+pub fn foresee<B: SideRead>(side: Side, taker: MeetingTerms, want: Want, opposing: &B) -> Prospect
     requires holds { B.holds opposing.now }
     requires fits { FitsSums side taker.sizes (met_by side taker want (B.orders opposing.now)) }
     ensures { IsForeseen side taker.limit_price (met_by side taker want (B.orders opposing.now)) result }

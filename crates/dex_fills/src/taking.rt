@@ -1,9 +1,10 @@
-ghost use Rattle.std.specs.Prelude.{◌≡◌};
+ghost use Rattle.std.specs.Prelude.{◌≡◌, ◌∷◌, List};
+ghost use Rattle.dex_types.specs.declared.orders.Order.{Order};
 ghost use Rattle.dex_types.specs.Meeting as meeting;
 ghost use Rattle.dex_fills.specs.Taker.{taking, demand};
 
 use crate::prices::{crosses, price_of, quotient};
-use crate::wants::{Terms, Want};
+use crate::wants::{MeetingTerms, Want};
 use dex_types::{Address, Order, OrderType, SelfTrade, Side, is_same};
 
 /// The order is one of the taker's own trader.
@@ -26,7 +27,7 @@ fn is_post_only(order_type: OrderType) -> bool
 }
 
 /// The taker meets the best opposite order.
-pub fn reaches(side: Side, taker: Terms, want: Want, order: Order) -> bool
+pub fn reaches(side: Side, taker: MeetingTerms, want: Want, order: Order) -> bool
     ensures { result ≡ meeting.reaches side (taking taker) (demand want) order }
 {
     0 < want.matches
@@ -59,7 +60,7 @@ fn filled(side: Side, want: Want, order: Order) -> u64
 
 /// The lots that the best opposite order loses; with 0 the meeting is over.
 #[tactic(auto, unfolding(dex_types::specs::Meeting::taken))]
-pub fn taken(side: Side, taker: Terms, want: Want, order: Order) -> u64
+pub fn taken(side: Side, taker: MeetingTerms, want: Want, order: Order) -> u64
     ensures { result ≡ meeting.taken side (taking taker) (demand want) order }
 {
     if !reaches(side, taker, want, order) {
@@ -68,5 +69,29 @@ pub fn taken(side: Side, taker: Terms, want: Want, order: Order) -> u64
         own_taken(taker.self_trade, want, order)
     } else {
         filled(side, want, order)
+    }
+}
+
+fn is_abort(rule: SelfTrade) -> bool
+    ensures { result ≡ meeting.is_abort rule }
+{
+    match rule {
+        SelfTrade::Abort => true,
+        _ => false,
+    }
+}
+
+/// The id of the order, where it is the best one left and the taker has to abort at it.
+pub fn aborts_at(side: Side, taker: MeetingTerms, want: Want, order: Order) -> Option<u128>
+    ensures { (others : List Order)
+        → result ≡ meeting.aborts_at side (taking taker) (demand want) (order ∷ others) }
+{
+    if reaches(side, taker, want, order)
+        && is_own(taker.owner, order)
+        && is_abort(taker.self_trade)
+    {
+        Some(order.id)
+    } else {
+        None
     }
 }

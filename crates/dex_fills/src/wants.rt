@@ -2,7 +2,7 @@ use dex_types::{Address, Lots, OrderType, Program, SelfTrade};
 
 /// What a taker keeps to while it meets the opposite side; its limit price is in quote lots per base lot.
 #[derive(Clone, Copy)]
-pub struct Terms {
+pub struct MeetingTerms {
     pub program: Program,
     pub sizes: Lots,
     pub limit_price: u64,

@@ -470,7 +470,7 @@ module _ {V E O : Type 0} (entries : V → List E) (lane : E → ℕ) (origin : 
         },
       )
 
-  -- the same steps at a seat whose view and hand are known by an equation
+  -- these steps at a seat whose view and hand are known by an equation
   pub looks_at : (slots id : ℕ) (m : M) (c : Card E O) (t : ℕ) → m ≡ (lone c t Waiting, [])
       → Allows Rule slots id m 1 (λ n. n) (Looks entries lane origin (step slots 1 0 0 mathlib.Core.Option.none) m)
   looks_at slots id m c t e = subst (λ (z : M). Allows Rule slots id z 1 (λ n. n) (Looks entries lane origin (step slots 1 0 0 mathlib.Core.Option.none) z)) (sym e) (looks slots id c t)

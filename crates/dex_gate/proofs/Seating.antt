@@ -62,7 +62,7 @@ module _ {V E O : Type 0} where
   pub view_of_posed : (z z' : TableId) (m : Me (Option V) (View E O)) (c : Card E O) (ticket : ℕ) (stage : Stage E) → z' ≡ z → m ≡ posed c ticket stage → pass_view z' m.0 ≡ shown z c stage
   view_of_posed z z' m c ticket stage table e = (λ i. pass_view (table i) (e i).0)
 
-  -- the same where the stage alone changes
+  -- what contracts see of it where the stage alone changes
   pub view_of_stage : (z z' : TableId) (m : Me (Option V) (View E O)) (c : Card E O) (ticket : ℕ) (old stage : Stage E) (p : PassView E O) → z' ≡ z → m ≡ posed c ticket stage → shown z c old ≡ p → pass_view z' m.0 ≡ record p { stage = stage }
   view_of_stage z z' m c ticket old stage p table e is =
       let at : PassView E O → PassView E O = λ q. record q { stage = stage } in

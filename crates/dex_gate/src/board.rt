@@ -76,4 +76,7 @@ pub(crate) type Top<V> = Shared<
     TurnRule<V>,
 >;
 
-pub(crate) type Place<V> = Seat<Option<V>, View<<V as Journaled>::Entry, <V as Journaled>::Origin>>;
+pub(crate) type BoardSeat<V> = Seat<
+    Option<V>,
+    View<<V as Journaled>::Entry, <V as Journaled>::Origin>,
+>;

@@ -6,15 +6,14 @@ ghost use Rattle.dex_gate.specs.History.{added, Extends, of_lane, AddsOne};
 ghost use Rattle.dex_gate.specs.PassView.{first_pass, next_pass, AreAll};
 
 use crate::bells::Bells;
-use crate::board::{Board, DRAWN, Opened, Place};
+use crate::board::{Board, BoardSeat, DRAWN, Opened};
 use crate::journaled::Journaled;
-use crate::no_memory::NoMemory;
 use crate::pass::Pass;
 use crate::plays::{Draw, HandOut, TakeIn};
 use crate::steps::{comes, look, pass_on, take_out};
 use crate::turn::Turn;
 use atomic_table::Table;
-use std::alloc::Global;
+use std::alloc::{AllocError, Global};
 use std::marker::Model;
 use std::snapshot::Snapshot;
 use std::sync::Wait;
@@ -57,7 +56,7 @@ impl<V: Journaled> Gate<V> {
 
     /// Opens a gate over a value. There may be as many passes as stated, of which this gives the first one, of number
     /// 0. On refusal the value is dropped.
-    pub fn open(alloc: Global, value: V, passes: u32) -> Result<(Gate<V>, Pass<V>), NoMemory>
+    pub fn open(alloc: Global, value: V, passes: u32) -> Result<(Gate<V>, Pass<V>), AllocError>
     where
         V: Drop,
         requires { (1 ≤ passes) × (passes ≤ PASSES) }
@@ -73,7 +72,7 @@ impl<V: Journaled> Gate<V> {
         let mut slots = Vec::with_capacity(alloc, 1)?;
         slots.push(Some(value))?;
         let Ok((table, seat)) = Table::new(alloc, &[count, count], slots, &opened) else {
-            return Err(NoMemory);
+            return Err(AllocError);
         };
         let gate = Gate {
             table,
@@ -130,6 +129,7 @@ impl<V: Journaled> Gate<V> {
                 Err(_) => self.bells.sleep(rt, pass.ticket),
             }
         }
+        // The loop has no end.
         unreachable!()
     }
 
@@ -197,13 +197,14 @@ impl<V: Journaled> Gate<V> {
     }
 
     // One seat with the cards of all passes.
-    fn gather(&self, mut passes: Vec<Pass<V>>) -> Place<V>
+    fn gather(&self, mut passes: Vec<Pass<V>>) -> BoardSeat<V>
         requires gate { All (λ p. p.gate ≡ Some self.now) passes.items }
         requires idle { All (λ p. p.stage ≡ Idle) passes.items }
         requires some { 0 < vec_len passes }
         ensures table { result.table_id ≡ self.now.table }
         ensures view { (result.me.0.cards ≡ map (shown_card self.now) passes.items) × (result.me.0.stage ≡ Idle) }
     {
+        // By the condition there is one pass at least.
         let Some(last) = passes.pop() else {
             unreachable!()
         };

@@ -1,11 +1,11 @@
 //! A pass: the right to draw tickets, and what its holder has seen and done.
-use crate::board::Place;
+use crate::board::BoardSeat;
 use crate::journaled::Journaled;
 use std::marker::Model;
 
 /// A pass of one gate. It may go from thread to thread, and one thread at a time uses it.
 pub struct Pass<V: Journaled> {
-    pub(crate) seat: Place<V>,
+    pub(crate) seat: BoardSeat<V>,
     pub(crate) ticket: u64,
 }
 
@@ -34,7 +34,7 @@ impl<V: Journaled> Pass<V> {
     ghost use Rattle.dex_gate.specs.Seats.{IsSeatOf};
 
     // Its seat alone.
-    pub(crate) fn into_seat(self) -> Place<V>
+    pub(crate) fn into_seat(self) -> BoardSeat<V>
         ensures { IsSeatOf self result.table_id result.me }
     {
         let Self { seat, ticket: _ } = self;

@@ -4,7 +4,7 @@ ghost use Rattle.dex_gate.specs.declared.stage.Stage.TheVariants.{Idle};
 ghost use Rattle.dex_gate.specs.Rule.{claims, IsEnd};
 ghost use Rattle.dex_gate.specs.Seats.{IsBoard, IsWaiting, TakesTurn, MayPassOn, PassesTurn};
 
-use crate::board::{Board, Place, SERVED, Top};
+use crate::board::{Board, BoardSeat, SERVED, Top};
 use crate::journaled::Journaled;
 use crate::plays::{Look, PassOn};
 use std::hint;
@@ -30,7 +30,11 @@ pub(crate) fn comes<V: Journaled>(top: &Top<V>, ticket: u64) -> bool
 }
 
 /// Takes the value, if the turn of the ticket has come, and else gives the ticket whose turn it is.
-pub(crate) fn look<V: Journaled>(top: &Top<V>, seat: &mut Place<V>, ticket: u64) -> Result<V, u64>
+pub(crate) fn look<V: Journaled>(
+    top: &Top<V>,
+    seat: &mut BoardSeat<V>,
+    ticket: u64,
+) -> Result<V, u64>
     requires table { IsBoard top.now.table_id × (seat.old.table_id ≡ top.now.table_id) }
     requires waiting { IsWaiting ticket seat.old.me }
     ensures table { seat.new.table_id ≡ seat.old.table_id }
@@ -46,7 +50,7 @@ pub(crate) fn look<V: Journaled>(top: &Top<V>, seat: &mut Place<V>, ticket: u64)
 }
 
 /// Gives the value back, passes the turn on, and tells whose ticket is next.
-pub(crate) fn pass_on<V: Journaled>(top: &Top<V>, seat: &mut Place<V>, value: V) -> u64
+pub(crate) fn pass_on<V: Journaled>(top: &Top<V>, seat: &mut BoardSeat<V>, value: V) -> u64
     requires table { IsBoard top.now.table_id × (seat.old.table_id ≡ top.now.table_id) }
     requires turn { MayPassOn V.entries V.lane V.origin seat.old.me value }
     ensures table { seat.new.table_id ≡ seat.old.table_id }
@@ -55,13 +59,14 @@ pub(crate) fn pass_on<V: Journaled>(top: &Top<V>, seat: &mut Place<V>, value: V)
     // Its clause bounds the list, so that the word has room for one turn more.
     let _count = value.count();
     let left = top.exchange(seat, 0, Some(value));
+    // While the value was out, its slot was empty.
     let None = left else { unreachable!() };
     let passed = top.fetch_add::<PassOn<V>>(seat, SERVED, 1);
     passed.wrapping_add(1)
 }
 
 /// The value that is in the slot of a table whose passes have all come back to one seat.
-pub(crate) fn take_out<V: Journaled>(table: Board<V>, seat: Place<V>) -> V
+pub(crate) fn take_out<V: Journaled>(table: Board<V>, seat: BoardSeat<V>) -> V
     requires table { IsBoard table.shared.table_id × (seat.table_id ≡ table.shared.table_id) }
     requires all { (seat.me.0.stage ≡ Idle)
         × ((k : ℕ) → k < table.shared.key.passes → 0 < claims k seat.me.0) }

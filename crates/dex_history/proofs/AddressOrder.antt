@@ -70,7 +70,7 @@ is_less-total (byte ∷ bytes) (other ∷ others) not =
     (and_cases (eqb byte other) (is_less bytes others) parts.1))
     (cases_lt other byte)
 
--- the same of addresses
+-- of two addresses that differ one is lower
 is_lower-total : (address other : Address) → is_same address other ≡ false → is_lower address other ≡ false → is_lower other address ≡ true
 is_lower-total address other apart not =
     ⊎_elim

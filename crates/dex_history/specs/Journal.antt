@@ -140,7 +140,7 @@ is_refused call = is_refusal call.entry.reply
 abbrev pub is_held : Call → Bool
 is_held call = is_take call.asked.request.instruction && is_done call.entry.reply
 
--- the same row with nothing to do
+-- what was asked, with an instruction that does nothing in the place of its own
 abbrev pub idle : Asked → Asked
 idle asked = record asked { request = record asked.request { instruction = Ok (MatchOrders 0) } }
 

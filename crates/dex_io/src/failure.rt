@@ -1,4 +1,4 @@
-//! Why a read, a write or the making of a buffer gave up.
+//! Why a read or a write gave up.
 
 ghost use Rattle.std.specs.Prelude.{◌≡◌, ◌≤◌};
 ghost use Rattle.dex_io.specs.Faults.{Rose, next_count};
@@ -12,11 +12,6 @@ use thiserror::Error;
 #[error("the call failed")]
 pub struct Failed;
 
-/// Memory was wanting.
-#[derive(Clone, Copy, Debug, PartialEq, Eq, Error)]
-#[error("no memory")]
-pub struct NoMemory;
-
 /// Counts one more fault.
 pub(crate) fn fault(faults: &mut u64) -> Failed
     ensures one_more { faults.new ≡ next_count faults.old }
@@ -25,12 +20,6 @@ pub(crate) fn fault(faults: &mut u64) -> Failed
 {
     *faults = faults.saturating_add(1);
     Failed
-}
-
-impl From<AllocError> for NoMemory {
-    fn from(_error: AllocError) -> NoMemory {
-        NoMemory
-    }
 }
 
 /// Why the whole of a source could not be read.

@@ -11,7 +11,7 @@ mod reading;
 mod standard;
 mod writing;
 
-pub use failure::{Failed, NoMemory, ReadAll, WriteStop};
+pub use failure::{Failed, ReadAll, WriteStop};
 pub use memory::listed_sink::MemSink;
 pub use memory::listed_source::MemSource;
 pub use memory::plain_sink::SureSink;

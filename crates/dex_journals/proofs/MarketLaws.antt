@@ -1,20 +1,22 @@
 -- A market's journal with one call more.
-use Rattle.std.proofs.Common.{◌≡◌, ℕ, ◌≤◌, ◌<◌, List, [], ◌∷◌, ◌++◌, length, sym, ap, ◌∙◌, subst, arith, refl}
+use Rattle.std.proofs.Common.{◌≡◌, ℕ, ◌≤◌, ◌<◌, Bool, List, [], ◌∷◌, ◌++◌, length, sym, ap, ◌∙◌, subst, arith}
 use Rattle.std.specs.List.{filter}
 use Rattle.std.proofs.lemmas.List.{length_push}
 use Rattle.std.proofs.lemmas.List.Sums.{length-filter}
-use Rattle.dex_types.specs.declared.rows.Row.{Row}
+use Rattle.dex_types.specs.declared.replies.Reply.{Reply}
 use Rattle.dex_types.specs.declared.rows.Seen.{Seen}
 use Rattle.dex_types.specs.Accounts.{PlainMarketAccounts}
 use Rattle.dex_types.specs.Addresses.{is_same}
-use Rattle.dex_types.specs.Rows.{PlainRow, row_of}
+use Rattle.dex_types.specs.Rows.{PlainRow}
 use Rattle.dex_history.specs.Journal.{Call}
-use Rattle.dex_cell.specs.CellState.{HasActed, HasSpare, IsMarketCell, MarketCellState, call_on, held_made, held_on}
+use Rattle.dex_act.specs.declared.places.WalletPlaces.{WalletPlaces}
+use Rattle.dex_act.specs.Steps.{CanStep, HasDone, made_by}
+use Rattle.dex_cell.specs.CellState.{HasSpare, IsMarketCell, MarketCellState, market_at}
 use Rattle.dex_wallet.specs.CellState.{CellState}
 use Rattle.dex_script_types.specs.PlainScript.{PlainScript}
 use Rattle.dex_world.specs.RowsOf.{rows_of_market, rows_on}
 use Rattle.dex_stamps.specs.Stamped.{AreRising, items_of, stamped}
-use Rattle.dex_journals.specs.Journals.{BankMarketState, IsBankMarket, MayAct, calls_by, market_calls, market_more}
+use Rattle.dex_journals.specs.Journals.{BankMarketState, IsBankMarket, MayStep, calls_by, market_calls, market_more}
 use Rattle.dex_journals.proofs.Counting.{fewer}
 use Rattle.dex_journals.proofs.StampedLists.{below-more, items_of-stamped, lanes-more, length-stamped, rising-more, stamped-more}
 
@@ -84,24 +86,22 @@ market-more market cell call stamp kept is_cell more start room few above = reco
 abbrev pub market_of : MarketCellState → PlainScript → List ℕ → ℕ → BankMarketState
 market_of cell script stamps last = record { cell = cell; stamps = stamps; last = last; script = script }
 
--- a cell with one call more
-pub record AddsCall (call : Call) (before after : MarketCellState) : Type 0 where
-  pub calls : after.calls ≡ before.calls ++ call ∷ []
-  pub start : after.start ≡ before.start
-  pub room : after.room ≡ before.room
-
-pub acted-adds : (row : Row) (seen : Seen) (before after : MarketCellState) → HasActed row seen before after → AddsCall (call_on row seen before) before after
-acted-adds row seen before after acted = record { calls = acted.calls; start = acted.start; room = acted.room }
-
-pub held-adds : (row : Row) (seen : Seen) (before after : MarketCellState) → after ≡ held_on row seen before → AddsCall (held_made (row_of row) seen) before after
-held-adds row seen before after held = subst (AddsCall (held_made (row_of row) seen) before) (sym held) (record { calls = refl; start = refl; room = refl })
-
 -- it has one call more, and what always holds of it holds again
-pub has-more : (seen : Seen) (wallets : List CellState) (market : BankMarketState) (row : Row) (cell : MarketCellState) (call : Call) (stamp last : ℕ) (stamps : List ℕ)
-    → IsBankMarket market → MayAct row seen stamp market wallets → IsMarketCell cell → AddsCall call market.cell cell → call.asked.lane ≡ row.lane
-    → stamps ≡ market.stamps ++ stamp ∷ [] → last ≡ stamp → IsBankMarket (market_of cell market.script stamps last)
-has-more seen wallets market row cell call stamp last stamps kept may is_cell adds lane_is stamped_is last_is =
+pub has-more : (market : BankMarketState) (row : PlainRow) (waits : Bool) (seen : Seen) (reply : Reply) (cell : MarketCellState) (wallets left : List CellState)
+    (stamp last : ℕ) (stamps : List ℕ) → IsBankMarket market → calls_by row.lane market.cell.calls < rows_left market row.lane → market.last < stamp
+    → HasDone row waits seen reply market.cell cell wallets left → stamps ≡ market.stamps ++ stamp ∷ [] → last ≡ stamp
+    → IsBankMarket (market_of cell market.script stamps last)
+has-more market row waits seen reply cell wallets left stamp last stamps kept few above did stamped_is last_is =
     subst (λ (one : List ℕ). IsBankMarket (market_of cell market.script one last)) (sym stamped_is)
     (subst (λ (one : ℕ). IsBankMarket (market_of cell market.script (market.stamps ++ stamp ∷ []) one)) (sym last_is)
-    (market-more market cell call stamp kept is_cell adds.calls adds.start adds.room
-    (subst (λ (lane : ℕ). calls_by lane market.cell.calls < rows_left market lane) (sym lane_is) may.lane) may.above))
+    (market-more market cell (made_by waits row seen (market_at market.cell)) stamp kept did.kept did.calls did.start did.room few above))
+
+-- a row that may step can
+pub can-step : (row : PlainRow) (places : WalletPlaces) (stamp : ℕ) (market : BankMarketState) (wallets : List CellState) → IsBankMarket market
+    → MayStep row places stamp market wallets → CanStep row places market.cell wallets
+can-step row places stamp market wallets kept may = record {
+  on = may.on;
+  market = kept.cell;
+  spare = spare-market market kept row.lane may.lane;
+  wallets = may.wallets;
+}

@@ -2,13 +2,17 @@
 use Rattle.std.specs.Prelude.{ℕ, ◌≡◌, ◌==◌, ◌≤◌, ◌<◌, List, [], ◌∷◌, ◌++◌, All, length}
 use Rattle.std.specs.List.{filter}
 use Rattle.dex_types.specs.declared.movements.WalletEntry.{WalletEntry}
-use Rattle.dex_types.specs.declared.rows.Row.{Row}
-use Rattle.dex_types.specs.declared.rows.Seen.{Seen}
 use Rattle.dex_types.specs.Accounts.{PlainAccount, PlainMarketAccounts}
+use Rattle.dex_types.specs.Rows.{PlainRow, row_of}
 use Rattle.dex_history.specs.Journal.{Call}
-use Rattle.dex_cell.specs.CellState.{IsFor, IsMarketCell, MarketCellState}
+use Rattle.dex_cell.specs.CellState.{IsMarketCell, MarketCellState}
 use Rattle.dex_wallet.specs.CellState.{CellState, IsWalletCell}
-use Rattle.dex_act.specs.Wallets.{SeesCells, made_of}
+use Rattle.dex_act.specs.declared.places.WalletPlaces.{WalletPlaces}
+use Rattle.dex_act.specs.declared.sight.Terms.{Terms}
+use Rattle.dex_act.specs.declared.steps.Legs.{Legs}
+use Rattle.dex_act.specs.Steps.{HasWallets, IsTakeOrRefused}
+use Rattle.dex_act.specs.Wallets.{made_of}
+use Rattle.dex_world.specs.Items.{ShareNothing}
 use Rattle.dex_script_types.specs.PlainScript.{PlainScript}
 use Rattle.dex_world.specs.RowsOf.{rows_naming, rows_of_market, rows_of_wallet, rows_on}
 use Rattle.dex_stamps.specs.Stamped.{AreRising, Stamped, stamped}
@@ -54,14 +58,24 @@ pub record IsBankMarket (market : BankMarketState) : Type 0 where
   pub lanes : (lane : ℕ)
       → calls_by lane market.cell.calls ≤ length (rows_of_market lane market.cell.start.address market.script.rows)
 
--- a row may act on the market and on the wallets in hand under a stamp: it is one on the market, and sees these
--- wallets; its lane has a row left, and the stamp is above all others
-pub record MayAct (row : Row) (seen : Seen) (stamp : ℕ) (market : BankMarketState) (wallets : List CellState) : Type 0 where
-  pub on : IsFor row seen market.cell
-  pub sees : SeesCells seen wallets
+-- a row may act on the market under a stamp, and on the wallets in hand, which stand at these places: its lane has a
+-- row left on the market, and the stamp is above all of its journal's
+pub record MayStep (row : PlainRow) (places : WalletPlaces) (stamp : ℕ) (market : BankMarketState) (cells : List CellState)
+    : Type 0 where
+  pub on : row.market ≡ market.cell.accounts.address
   pub lane : calls_by row.lane market.cell.calls
       < length (rows_of_market row.lane market.cell.start.address market.script.rows)
   pub above : market.last < stamp
+  pub wallets : HasWallets row places cells
+
+-- so may both legs of a swap, which share no market and no wallet; each of the two is a take, or is refused
+pub record MayStepBoth (terms : Terms) (legs : Legs) (stamp : ℕ) (first second : BankMarketState) (wallets : List CellState)
+    : Type 0 where
+  pub first_may : MayStep (row_of legs.first.row.now) legs.first.places stamp first wallets
+  pub second_may : MayStep (row_of legs.second.row.now) legs.second.places stamp second wallets
+  pub share : ShareNothing (row_of legs.first.row.now) (row_of legs.second.row.now)
+  pub first_take : IsTakeOrRefused terms (row_of legs.first.row.now) first.cell wallets
+  pub second_take : IsTakeOrRefused terms (row_of legs.second.row.now) second.cell wallets
 
 -- ---- a wallet
 

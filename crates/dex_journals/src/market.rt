@@ -1,22 +1,18 @@
 //! A market that threads share.
 
-ghost use Rattle.std.specs.Prelude.{◌≡◌, [], IfOk, max};
-ghost use Rattle.dex_types.specs.declared.refusals.Refusal.{Refusal};
-ghost use Rattle.dex_types.specs.declared.replies.Reply.TheVariants.{Done, Refused};
+ghost use Rattle.std.specs.Prelude.{◌≡◌, [], IfOk, false, max};
 ghost use Rattle.dex_types.specs.Rows.{row_of};
-ghost use Rattle.dex_types.specs.Transfers.{no_transfers};
-ghost use Rattle.dex_cell.specs.CellState.{CanHold, HasActed, held_on, refused_on, step_on};
-ghost use Rattle.dex_act.specs.Acted.{HaveActed};
+ghost use Rattle.dex_act.specs.Steps.{AreStepsOn, IsStepOn};
 ghost use Rattle.dex_world.specs.RowsOf.{rows_on};
-ghost use Rattle.dex_journals.specs.Journals.{IsBankMarket, MayAct, market_more};
+ghost use Rattle.dex_journals.specs.Journals.{IsBankMarket, MayStep, MayStepBoth, market_more};
 
 use crate::items::{MarketStart, StampedCall};
-use dex_act::{act, hold, places_in};
+use dex_act::{Legs, RowAt, RowDone, Terms, step, step_two};
 use dex_cell::MarketCell;
 use dex_gate::Journaled;
 use dex_script_types::Script;
 use dex_stamps::{Kept, Log, Stamp};
-use dex_types::{NoMemory, Reply, Row, Seen};
+use dex_types::NoMemory;
 use dex_wallet::WalletCell;
 use std::alloc::Global;
 use std::marker::Model;
@@ -97,55 +93,57 @@ impl BankMarket {
         self.last.later(stamp)
     }
 
-    /// A row acts on the market and on the cells of the wallets that it names, as `dex_act::act` says, under a stamp
+    /// A row acts on the market and on the cells of the wallets that it names, as `dex_act::step` says, under a stamp
     /// that is above all of the journal's; and the journal has one call more, of a lane that has a row left. It takes
     /// no memory.
-    pub fn act(
+    pub fn step(
         &mut self,
         wallets: &mut [WalletCell],
-        row: &Row,
-        seen: &Seen,
+        terms: &Terms,
+        asking: &RowAt<'_>,
         stamp: &Stamp,
-    ) -> Reply
-        requires { MayAct row.now seen.now stamp.now.number self.old wallets.old }
-        ensures reply { result ≡ (step_on row.entry.now seen.now self.old.cell).reply }
-        ensures acted { HasActed row.entry.now seen.now self.old.cell self.new.cell }
-        ensures refused { (why : Refusal) → result ≡ Refused why
-            → self.new.cell ≡ refused_on row.entry.now seen.now self.old.cell }
+    ) -> RowDone
+        requires { MayStep (row_of asking.now.row.now) asking.now.places stamp.now.number self.old wallets.old }
+        ensures step { IsStepOn terms.now (row_of asking.now.row.now) false result self.old.cell self.new.cell
+            wallets.old wallets.new }
         ensures stamped { self.new ≡ market_more self.old self.new.cell stamp.now.number }
-        ensures wallets { HaveActed (row_of row.entry.now) seen.now
-            (step_on row.entry.now seen.now self.old.cell).transfers wallets.old wallets.new }
         ensures kept { IsBankMarket self.new }
     {
-        let places = places_in(wallets, row);
-        let reply = act(self.cell.as_mut(), wallets, row, seen, &places);
+        let done = step(self.cell.as_mut(), wallets, terms, asking);
         self.stamps = self.stamps.and(stamp, &());
         self.last = stamp.later(stamp);
-        reply
+        done
     }
 
-    /// A take is held back on the market, as `dex_act::hold` says, since another row of its item would be refused;
-    /// under a stamp and of a lane as a row that acts. It takes no memory.
-    pub fn hold(
-        &mut self,
+    /// The two legs of a swap act on two markets, as `dex_act::step_two` says, both under one stamp, each on its market
+    /// as a row alone. It takes no memory.
+    pub fn step_two(
+        first: &mut BankMarket,
+        second: &mut BankMarket,
         wallets: &mut [WalletCell],
-        row: &Row,
-        seen: &Seen,
+        terms: &Terms,
+        legs: &Legs<'_>,
         stamp: &Stamp,
-    ) -> Reply
-        requires may { MayAct row.now seen.now stamp.now.number self.old wallets.old }
-        requires held { CanHold row.now seen.now self.old.cell }
-        ensures reply { result ≡ Done }
-        ensures held { self.new.cell ≡ held_on row.entry.now seen.now self.old.cell }
-        ensures stamped { self.new ≡ market_more self.old self.new.cell stamp.now.number }
-        ensures wallets { HaveActed (row_of row.entry.now) seen.now no_transfers wallets.old wallets.new }
-        ensures kept { IsBankMarket self.new }
+    ) -> (RowDone, RowDone)
+        requires { MayStepBoth terms.now legs.now stamp.now.number first.old second.old wallets.old }
+        ensures steps { AreStepsOn terms.now legs.now result first.old.cell first.new.cell second.old.cell
+            second.new.cell wallets.old wallets.new }
+        ensures first { first.new ≡ market_more first.old first.new.cell stamp.now.number }
+        ensures second { second.new ≡ market_more second.old second.new.cell stamp.now.number }
+        ensures kept { IsBankMarket first.new × IsBankMarket second.new }
     {
-        let places = places_in(wallets, row);
-        let reply = hold(self.cell.as_mut(), wallets, row, seen, &places);
-        self.stamps = self.stamps.and(stamp, &());
-        self.last = stamp.later(stamp);
-        reply
+        let dones = step_two(
+            first.cell.as_mut(),
+            second.cell.as_mut(),
+            wallets,
+            terms,
+            legs,
+        );
+        first.stamps = first.stamps.and(stamp, &());
+        first.last = stamp.later(stamp);
+        second.stamps = second.stamps.and(stamp, &());
+        second.last = stamp.later(stamp);
+        dones
     }
 
     /// The cell, at the end.

@@ -188,7 +188,7 @@ Tells-where test tested is side t Q weight told tells = record {
 pub IsTestOfOrder-owner : (owner : Address) → IsTestOfOrder (is_order_of owner) (is_event_of owner)
 IsTestOfOrder-owner owner = record { smaller = λ order lots. refl; event = λ kind order released paid rebate. refl }
 
--- the same of each owner's orders
+-- what an owner's orders lock before a meeting is what they lock after it, with what its events keep
 pub meet-locked_of : (owner : Address) (side : Side) (t : TakerTerms) (w : Demand) (orders : List Order)
     → total (weighed_where (is_order_of owner) (order_lock (opposite side) t.sizes)) orders
     ≡ total (weighed_where (is_order_of owner) (order_lock (opposite side) t.sizes)) (meet side t w orders).left

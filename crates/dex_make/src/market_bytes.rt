@@ -44,6 +44,7 @@ fn initial_terms(ix: Ix) -> InitialTerms
             nonce,
             dust,
         },
+        // By the condition it is of that kind.
         _ => unreachable!(),
     }
 }

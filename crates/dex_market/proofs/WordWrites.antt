@@ -58,7 +58,7 @@ IsMarket-with_number bytes field x beside behind before flags market = record {
   terms = subst AreTerms (sym (terms_kept bytes field x beside)) market.terms;
 }
 
--- the same where the word is none of the flags
+-- a market account stays one where a word is written that is none of the flags
 pub IsMarket-beside : (bytes : List ℕ) (field : Field) (x : ℕ) → list_all (λ other. are_apart other field) (ACCOUNT_FLAGS ∷ term_fields) ≡ true
     → 5 ≤ field.at → end_of field ≤ 381 → IsMarket bytes → IsMarket (with_number bytes field x)
 IsMarket-beside bytes field x beside behind before market =

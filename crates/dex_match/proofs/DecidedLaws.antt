@@ -14,7 +14,7 @@ use Rattle.dex_market.specs.declared.funds.Vaults.{Vaults}
 use Rattle.dex_reasons.proofs.FirstReasons.{first_of-late, first_of-one}
 use Rattle.dex_ring.specs.declared.pending_fills.PendingFills.{PendingFills}
 use Rattle.dex_ring.specs.Ring.{room_of}
-use Rattle.dex_match.specs.declared.foreseeing.Foreseen.{Foreseen}
+use Rattle.dex_match.specs.declared.foreseeing.OrderProspect.{OrderProspect}
 use Rattle.dex_match.specs.declared.order_plan.Decided.{Decided}
 use Rattle.dex_match.specs.declared.order_plan.OrderPlan.{OrderPlan}
 use Rattle.dex_match.specs.declared.order_terms.Taker.{Taker}
@@ -29,7 +29,7 @@ first-late : (early late : List (Option Refusal)) → first_of early ≡ None �
 first-late early late none = ap (λ (r : Option Refusal). first_of (r ∷ first_of late ∷ [])) none ∙ first_of-one (first_of late)
 
 -- what was read of the parts, and foreseen over it; whether an early reason holds
-pub record AreRead (parts : OrderParts) (taker : Taker) (foreseen : Foreseen) (sizes : Lots) (sequence room : ℕ) (early : Option Refusal) : Type 0 where
+pub record AreRead (parts : OrderParts) (taker : Taker) (foreseen : OrderProspect) (sizes : Lots) (sequence room : ℕ) (early : Option Refusal) : Type 0 where
   pub sizes_read : sizes ≡ sizes_of parts.words
   pub next : sequence ≡ parts.next_sequence
   pub room_read : room + length parts.ring.events ≡ parts.ring.capacity
@@ -43,7 +43,7 @@ pub early-same : (parts : OrderParts) (sizes : Lots) (taker : Taker) → sizes �
 early-same parts sizes taker is =
     ap (λ (s : Lots). first_of (no_slot parts.account ∷ ask_too_large taker.id_side s taker.lots ∷ used_up parts.next_sequence ∷ time_past taker.now taker.max_ts ∷ [])) is
 
-told : (parts : OrderParts) (taker : Taker) (foreseen : Foreseen) (sizes : Lots) (sequence room : ℕ) (early : Option Refusal) → AreRead parts taker foreseen sizes sequence room early
+told : (parts : OrderParts) (taker : Taker) (foreseen : OrderProspect) (sizes : Lots) (sequence room : ℕ) (early : Option Refusal) → AreRead parts taker foreseen sizes sequence room early
     → Foretells foreseen (standing_in parts) parts.account taker
 told parts taker foreseen sizes sequence room early read =
     subst (λ (z : Lots). Foretells foreseen (standing_at z parts.next_sequence parts.own parts.own_room parts.opposing) parts.account taker) read.sizes_read
@@ -58,7 +58,7 @@ late-same : (parts : OrderParts) (o : Ordering) (balance : ℕ) (aborts : Option
     → first_of (would_self_trade aborts ∷ no_room needed room ∷ short_by deposit (Some balance) ∷ []) ≡ first_of (without_vaults o parts balance)
 late-same parts o balance aborts needed room deposit a n r d = rw (a, n, r, d) refl
 
-late-read : (parts : OrderParts) (taker : Taker) (balance : ℕ) (foreseen : Foreseen) (sizes : Lots) (sequence room : ℕ) (early : Option Refusal)
+late-read : (parts : OrderParts) (taker : Taker) (balance : ℕ) (foreseen : OrderProspect) (sizes : Lots) (sequence room : ℕ) (early : Option Refusal)
     → AreRead parts taker foreseen sizes sequence room early
     → first_of (would_self_trade foreseen.aborts ∷ no_room foreseen.plan.needed room ∷ short_by foreseen.plan.deposit (Some balance) ∷ [])
     ≡ first_of (without_vaults (ordering_in taker.id_side (order_of taker) parts) parts balance)
@@ -68,7 +68,7 @@ late-read parts taker balance foreseen sizes sequence room early read =
     is.aborts (ap (λ (p : OrderPlan). p.needed) is.plan) (omega (arith, read.room_read)) (ap (λ (p : OrderPlan). p.deposit) is.plan)
 
 -- the vaults and the sums that were read are those after the order
-pub record AreSums (parts : OrderParts) (side : Side) (foreseen : Foreseen) (sizes : Lots) (vaults : Vaults) (pending : PendingFills) : Type 0 where
+pub record AreSums (parts : OrderParts) (side : Side) (foreseen : OrderProspect) (sizes : Lots) (vaults : Vaults) (pending : PendingFills) : Type 0 where
   pub coin_put : vaults.coin ≡ vault_of Coin parts.words + by_side side 0 foreseen.plan.deposit
   pub pc_put : vaults.pc ≡ vault_of Pc parts.words + by_side side foreseen.plan.deposit 0
   pub coin_left : pending.coin ≡ all_leaving Coin parts.ring.events + by_side side (foreseen.sums.lots * sizes.coin) 0
@@ -83,7 +83,7 @@ outcome-same : (reason reason' : Option Refusal) (plan plan' : OrderPlan) (coin 
 outcome-same reason reason' plan plan' coin coin' pc pc' a b c d = rw (a, b, c, d) refl
 
 -- else the vaults decide
-pub answers : (parts : OrderParts) (taker : Taker) (balance : ℕ) (foreseen : Foreseen) (sizes : Lots) (sequence room : ℕ) (early late last : Option Refusal) (vaults : Vaults) (pending : PendingFills)
+pub answers : (parts : OrderParts) (taker : Taker) (balance : ℕ) (foreseen : OrderProspect) (sizes : Lots) (sequence room : ℕ) (early late last : Option Refusal) (vaults : Vaults) (pending : PendingFills)
     → AreRead parts taker foreseen sizes sequence room early → early ≡ None
     → late ≡ first_of (would_self_trade foreseen.aborts ∷ no_room foreseen.plan.needed room ∷ short_by foreseen.plan.deposit (Some balance) ∷ []) → late ≡ None
     → AreSums parts taker.id_side foreseen sizes vaults pending → last ≡ first_of (beyond vaults.coin pending.coin ∷ beyond vaults.pc pending.pc ∷ [])

@@ -8,7 +8,7 @@ use Rattle.dex_types.specs.BookSide.{CanRest}
 use Rattle.dex_types.specs.Owed.{order_lock}
 use Rattle.dex_types.specs.Posting.{post}
 use Rattle.dex_sound.proofs.OrderSoundPlaces.{All-booted}
-use Rattle.dex_fills.specs.declared.event_kinds.Amounts.{Amounts}
+use Rattle.dex_fills.specs.declared.event_kinds.EventAmounts.{EventAmounts}
 use Rattle.dex_ring.specs.Appended.{pushed_all}
 use Rattle.dex_ring.proofs.AppendLaws.{pushed_all-pushed_all}
 use Rattle.dex_types.specs.Meeting.{Meeting, event_of}
@@ -18,7 +18,7 @@ use Rattle.dex_match.specs.declared.order_plan.OrderPlan.{OrderPlan}
 use Rattle.dex_match.specs.Applying.{CanLeave, events_by, fill_events_by, got_by, order_by, posted_by, spent_by}
 
 -- events that are appended in three steps, of the order and the amounts of a plan
-pub traded : (side : Side) (sizes : Lots) (n : NewOrder) (plan : OrderPlan) (met : Meeting) (room : ℕ) (own : List Order) (order : Order) (amounts : Amounts) (bytes first second third : List ℕ)
+pub traded : (side : Side) (sizes : Lots) (n : NewOrder) (plan : OrderPlan) (met : Meeting) (room : ℕ) (own : List Order) (order : Order) (amounts : EventAmounts) (bytes first second third : List ℕ)
     → order ≡ order_by plan n → amounts ≡ record { released = got_by side sizes plan; paid = spent_by side sizes plan; fee_or_rebate = plan.fee }
     → first ≡ pushed_all met.events bytes
     → second ≡ pushed_all (if plan.pc == 0 then [] else event_of (TakerFill side) order amounts.released amounts.paid amounts.fee_or_rebate ∷ []) first
@@ -29,7 +29,7 @@ traded side sizes n plan met room own order amounts bytes first second third ord
     let last : List QueuedEvent = last_events side sizes (order_by plan n) (posted_by side n plan room own).booted in
     let b' : second ≡ pushed_all fills first = b
     ∙ ap (λ (o : Order). pushed_all (if plan.pc == 0 then [] else event_of (TakerFill side) o amounts.released amounts.paid amounts.fee_or_rebate ∷ []) first) orders
-    ∙ ap (λ (x : Amounts). pushed_all (if plan.pc == 0 then [] else event_of (TakerFill side) (order_by plan n) x.released x.paid x.fee_or_rebate ∷ []) first) amount in
+    ∙ ap (λ (x : EventAmounts). pushed_all (if plan.pc == 0 then [] else event_of (TakerFill side) (order_by plan n) x.released x.paid x.fee_or_rebate ∷ []) first) amount in
     let c' : third ≡ pushed_all last second = c ∙ ap (λ (o : Order). pushed_all (last_events side sizes o (post side room o own).booted) second) orders in
     c' ∙ ap (pushed_all last) (b' ∙ ap (pushed_all fills) a ∙ pushed_all-pushed_all met.events fills bytes) ∙ pushed_all-pushed_all (met.events ++ fills) last bytes
 

@@ -20,7 +20,7 @@ use Rattle.dex_market.specs.declared.funds.MarketFunds.{MarketFunds}
 use Rattle.dex_market.specs.MarketAccount.{MarketWords, market_words}
 use Rattle.dex_market.specs.MarketFunds.{with_funds, words_with_funds}
 use Rattle.dex_market.specs.RequestQueue.{next_sequence}
-use Rattle.dex_fills.specs.declared.event_kinds.Amounts.{Amounts}
+use Rattle.dex_fills.specs.declared.event_kinds.EventAmounts.{EventAmounts}
 use Rattle.dex_fills.specs.Prospects.{FitsSums}
 use Rattle.dex_ring.specs.Appended.{HasRoom}
 use Rattle.dex_orders.specs.declared.amounts.Funds.{Funds}
@@ -159,7 +159,7 @@ order_by plan n = record {
 }
 
 -- the one event of all the fills of an order, where they have quote
-abbrev pub fill_events : Side → Order → ℕ → Amounts → List QueuedEvent
+abbrev pub fill_events : Side → Order → ℕ → EventAmounts → List QueuedEvent
 fill_events side order pc amounts =
     if pc == 0 then []
     else event_of (TakerFill side) order amounts.released amounts.paid amounts.fee_or_rebate ∷ []

@@ -8,7 +8,7 @@ use Rattle.dex_types.specs.QueuedEvent.{QueuedEvent}
 use Rattle.dex_types.specs.Side.{Coin, Pc}
 use Rattle.dex_types.specs.Solvency.{all_leaving}
 use Rattle.dex_types.specs.Trader.{Account}
-use Rattle.dex_match.specs.declared.foreseeing.Foreseen.{Foreseen}
+use Rattle.dex_match.specs.declared.foreseeing.OrderProspect.{OrderProspect}
 use Rattle.dex_match.specs.declared.order_terms.Taker.{Taker}
 use Rattle.dex_match.specs.Ordering.{plan_by}
 use Rattle.dex_match.specs.OrderTerms.{order_of}
@@ -30,7 +30,7 @@ ordering_at s account taker =
 
 -- what was foreseen of an order at this standing is what it would do; the base of its fills fits 64 bits, and the
 -- rebates are at most the quote
-pub record Foretells (foreseen : Foreseen) (s : Standing) (account : Account) (taker : Taker) : Type 0 where
+pub record Foretells (foreseen : OrderProspect) (s : Standing) (account : Account) (taker : Taker) : Type 0 where
   pub plan : foreseen.plan ≡ plan_by (order_of taker) (ordering_at s account taker)
   pub aborts : foreseen.aborts ≡ (meeting_of taker.id_side s (order_of taker)).aborts
   pub lots : foreseen.sums.lots ≡ (meeting_of taker.id_side s (order_of taker)).lots

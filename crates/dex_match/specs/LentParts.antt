@@ -38,7 +38,7 @@ pub record Handed : Type 0 where
   pub own_room : ℕ
   pub opposing : List Order
 
--- the same, by the members of both sides' traits
+-- what is handed by views and by two sides, whose orders and room their traits' members tell
 abbrev pub handed : {B A : Type 0} → (B → List Order) → (B → ℕ) → (A → List Order) → MarketView → RequestView → RingView → OrdersView → B → A → Handed
 handed own_orders own_room opposing market requests ring account own opposite = record {
   market = market;

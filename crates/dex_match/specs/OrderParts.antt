@@ -22,7 +22,7 @@ pub record OrderGiven : Type 0 where
   pub own_room : ℕ
   pub opposing : List Order
 
--- the same, one by one
+-- what is handed one by one, as one record
 abbrev pub given_by : List ℕ → List ℕ → List ℕ → List ℕ → List Order → ℕ → List Order → OrderGiven
 given_by market requests events account own own_room opposing = record {
   market = market;

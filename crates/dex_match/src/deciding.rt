@@ -13,7 +13,7 @@ ghost use Rattle.dex_ring.specs.Ring.{IsEventQueue, ring_of};
 ghost use Rattle.dex_types.specs.Reasons as reasons;
 ghost use Rattle.dex_types.specs.Side as book;
 
-use crate::foreseeing::{Foreseen, foresee_order};
+use crate::foreseeing::{OrderProspect, foresee_order};
 use crate::order_input::{OrderInput, gathered};
 use crate::order_plan::{Decided, OrderPlan};
 use crate::order_refusals::{refused_early, sequence_of};
@@ -49,7 +49,7 @@ fn vaults_after(market: &MarketRef<'_>, side: Side, deposit: u64) -> Vaults
 }
 
 /// Why an order is refused by what it would do, apart from what the vaults would hold.
-fn refused_late(foreseen: &Foreseen, room: u32, balance: u64) -> Option<Refusal>
+fn refused_late(foreseen: &OrderProspect, room: u32, balance: u64) -> Option<Refusal>
     ensures { result ≡ reasons.first_of (reasons.would_self_trade foreseen.now.aborts
         ∷ reasons.no_room foreseen.now.plan.needed room
         ∷ reasons.short_by foreseen.now.plan.deposit (Some balance) ∷ []) }

@@ -21,7 +21,7 @@ use dex_types::{Lots, Side, SideRead};
 /// What a new order would do: its plan, the id of the own order at which it would have to abort, and the sums of its
 /// fills.
 #[derive(Clone, Copy)]
-pub(crate) struct Foreseen {
+pub(crate) struct OrderProspect {
     pub(crate) plan: OrderPlan,
     pub(crate) aborts: Option<u128>,
     pub(crate) sums: Sums,
@@ -68,7 +68,7 @@ pub(crate) fn foresee_order<B: SideRead, A: SideRead>(
     own: &B,
     opposite: &A,
     orders: &OrdersRef<'_>,
-) -> Foreseen
+) -> OrderProspect
     requires own { B.holds own.now }
     requires opposite { A.holds opposite.now }
     requires account { IsOpen orders.now.bytes.now }
@@ -92,7 +92,7 @@ pub(crate) fn foresee_order<B: SideRead, A: SideRead>(
         slot: lowest_slot(orders),
         id: id_of(taker.id_side, taker.price, sequence),
     };
-    Foreseen {
+    OrderProspect {
         plan,
         aborts: prospect.aborts,
         sums,

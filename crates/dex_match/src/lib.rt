@@ -20,4 +20,4 @@ pub use deciding::{decide_order, decide_order_with_pending};
 pub use dex_fills::post_or_boot;
 pub use order_input::{OrderInput, gathered};
 pub use order_plan::{Decided, OrderPlan};
-pub use order_terms::{Taker, want_of};
+pub use order_terms::{Taker, terms_of, want_of};

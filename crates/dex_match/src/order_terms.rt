@@ -7,7 +7,7 @@ ghost use Rattle.dex_types.specs.NewOrder as orders;
 
 use dex_fees::spendable;
 use dex_fills::prices::quotient;
-use dex_fills::{Terms, Want};
+use dex_fills::{MeetingTerms, Want};
 use dex_types::{Address, Lots, OrderType, Program, SelfTrade, Side, Tier};
 
 /// A new order of a trader: its side, its limit price in quote lots per base lot, its base lots, the native quote that
@@ -55,12 +55,12 @@ fn budget_of(sizes: Lots, taker: Taker) -> u64
 }
 
 /// What a new order keeps to while it meets the opposite side.
-pub(crate) fn terms_of(sizes: Lots, taker: Taker) -> Terms
+pub fn terms_of(sizes: Lots, taker: Taker) -> MeetingTerms
     ensures keeps { taking result ≡ orders.terms_of sizes (order_of taker) }
     ensures sizes { result.sizes ≡ sizes }
     ensures limit { result.limit_price ≡ taker.price }
 {
-    Terms {
+    MeetingTerms {
         program: taker.program,
         sizes,
         limit_price: taker.price,

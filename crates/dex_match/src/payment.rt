@@ -8,7 +8,7 @@ ghost use Rattle.dex_types.specs.NewOrder as orders;
 
 use crate::order_plan::OrderPlan;
 use crate::order_terms::{Taker, lock_of};
-use dex_fills::event_kinds::Amounts;
+use dex_fills::event_kinds::EventAmounts;
 use dex_fills::fills::lock;
 use dex_orders::{Funds, OrdersView};
 use dex_types::{Lots, Side};
@@ -24,7 +24,7 @@ pub struct Moves {
 }
 
 /// The amounts of the event of all fills: what they bring in, what they take from the lock, and the fee.
-pub(crate) fn fill_amounts(sizes: Lots, taker: Taker, plan: &OrderPlan) -> Amounts
+pub(crate) fn fill_amounts(sizes: Lots, taker: Taker, plan: &OrderPlan) -> EventAmounts
     requires { applying.CanMove taker.id_side sizes (order_of taker) plan.now }
     ensures { result ≡ record {
       released = applying.got_by taker.id_side sizes plan.now;
@@ -33,12 +33,12 @@ pub(crate) fn fill_amounts(sizes: Lots, taker: Taker, plan: &OrderPlan) -> Amoun
     } }
 {
     match taker.id_side {
-        Side::Bid => Amounts {
+        Side::Bid => EventAmounts {
             released: plan.lots * sizes.coin,
             paid: plan.pc + plan.fee,
             fee_or_rebate: plan.fee,
         },
-        Side::Ask => Amounts {
+        Side::Ask => EventAmounts {
             released: plan.pc - plan.fee,
             paid: plan.lots * sizes.coin,
             fee_or_rebate: plan.fee,
@@ -87,11 +87,14 @@ fn funds_with(side: Side, moves: Moves, funds: Funds) -> Funds
 
 /// Takes the plan's slot of the account for the order, and moves the funds.
 pub(crate) fn pay(plan: &OrderPlan, taker: Taker, moves: Moves, orders: &mut OrdersView<'_>)
+    // The slot is free, no slot holds the order's id, and the funds pay.
     requires accepted { IsOpen orders.old.bytes.now }
     requires slot { plan.now.slot < 128 }
     requires free { slice_index_or (account_of orders.old.bytes.now).slots plan.now.slot None ≡ None }
     requires fresh { HasNoOrder plan.now.id taker.id_side (account_of orders.old.bytes.now).slots }
     requires can_pay { applying.CanPay taker.id_side moves (funds_of (account_of orders.old.bytes.now)) }
+
+    // The slot holds the order, and the funds are moved, in the bytes and as they are read.
     ensures place { orders.new.bytes.ghost_name ≡ orders.old.bytes.ghost_name }
     ensures bytes { orders.new.bytes.now ≡ funded (added orders.old.bytes.now plan.now.slot plan.now.id taker.id_side
         taker.client)

@@ -18,7 +18,7 @@ use crate::order_plan::OrderPlan;
 use crate::order_terms::{Taker, terms_of, want_of};
 use crate::payment::fill_amounts;
 use dex_fees::tiers::tier_number;
-use dex_fills::event_kinds::{Amounts, Kind};
+use dex_fills::event_kinds::{EventAmounts, Kind};
 use dex_fills::ring_events::{push, push_plain_out, push_releasing_out};
 use dex_fills::{meet_side, post_or_boot};
 use dex_ring::RingView;
@@ -31,6 +31,7 @@ fn meet_opposite<A: SideBook>(
     opposite: &mut A,
     ring: &mut RingView<'_>,
 ) -> u64
+    // What is met fits 64 bits, and the queue has room for its events.
     requires holds { A.holds opposite.old }
     requires accepted { IsEventQueue ring.old.bytes.now }
     requires counted { (ring_of ring.old.bytes.now).seq_num < 2 ^ 64 }
@@ -38,9 +39,13 @@ fn meet_opposite<A: SideBook>(
     requires room { HasRoom (length (meeting_with sizes taker (A.orders opposite.old)).events)
         (ring_of ring.old.bytes.now) }
     requires locks { locked (book.opposite taker.id_side) sizes (A.orders opposite.old) < 2 ^ 64 }
+
+    // The opposite side and the rebates are those of the meeting.
     ensures rebates { result ≡ (meeting_with sizes taker (A.orders opposite.old)).rebates }
     ensures left { A.orders opposite.new ≡ (meeting_with sizes taker (A.orders opposite.old)).left }
     ensures side { KeepsSide A.holds A.same_place A.side A.room opposite.old opposite.new }
+
+    // Its events stand behind those that waited.
     ensures list { ring_of ring.new.bytes.now ≡ appended (meeting_with sizes taker (A.orders opposite.old)).events
         (ring_of ring.old.bytes.now) }
     ensures bytes { ring.new.bytes.now ≡ pushed_all
@@ -68,7 +73,7 @@ fn order_by(plan: &OrderPlan, taker: Taker) -> Order
 }
 
 /// Appends the one event of all fills of the order, where they have quote.
-fn push_fills(ring: &mut RingView<'_>, side: Side, order: Order, pc: u64, amounts: Amounts)
+fn push_fills(ring: &mut RingView<'_>, side: Side, order: Order, pc: u64, amounts: EventAmounts)
     requires accepted { IsEventQueue ring.old.bytes.now }
     requires counted { (ring_of ring.old.bytes.now).seq_num < 2 ^ 64 }
     requires room { HasRoom (length (applying.fill_events side order pc amounts)) (ring_of ring.old.bytes.now) }
@@ -86,13 +91,18 @@ fn push_fills(ring: &mut RingView<'_>, side: Side, order: Order, pc: u64, amount
 
 /// Posts an order that has lots, and answers the one that had to leave for it.
 fn post<B: SideBook>(book: &mut B, order: Order) -> Option<Order>
+    // The order is a new one, on a side that can hold one.
     requires holds { B.holds book.old }
     requires new { IsNewId order.id (B.orders book.old) }
     requires can_rest { 1 ≤ order.lots → CanRest order }
     requires capacity { 1 ≤ B.room book.old }
+
+    // The orders, and the one that left, are those of the definition's posting.
     ensures orders { B.orders book.new ≡ (posting.post (B.side book.old) (B.room book.old) order
         (B.orders book.old)).side }
     ensures booted { result ≡ (posting.post (B.side book.old) (B.room book.old) order (B.orders book.old)).booted }
+
+    // Side, room and place stay.
     ensures holds { B.holds book.new }
     ensures side { B.side book.new ≡ B.side book.old }
     ensures room { B.room book.new ≡ B.room book.old }
@@ -135,6 +145,7 @@ fn rest_or_end<B: SideBook>(
     own: &mut B,
     ring: &mut RingView<'_>,
 )
+    // The order can rest, and the queue has room for its last event.
     requires holds { B.holds own.old }
     requires side { B.side own.old ≡ side }
     requires posts { applying.CanPost side sizes order (B.room own.old) (B.orders own.old) }
@@ -142,8 +153,12 @@ fn rest_or_end<B: SideBook>(
     requires counted { (ring_of ring.old.bytes.now).seq_num < 2 ^ 64 }
     requires room { let ends = applying.end_events side sizes order (B.room own.old) (B.orders own.old) in
         HasRoom (length ends) (ring_of ring.old.bytes.now) }
+
+    // The order rests where it has lots.
     ensures orders { B.orders own.new ≡ (posting.post side (B.room own.old) order (B.orders own.old)).side }
     ensures side { KeepsSide B.holds B.same_place B.side B.room own.old own.new }
+
+    // Its last event stands behind those that waited.
     ensures list { let ends = applying.end_events side sizes order (B.room own.old) (B.orders own.old) in
         ring_of ring.new.bytes.now ≡ appended ends (ring_of ring.old.bytes.now) }
     ensures bytes { let ends = applying.end_events side sizes order (B.room own.old) (B.orders own.old) in
@@ -164,18 +179,23 @@ pub(crate) fn trade<B: SideBook, A: SideBook>(
     opposite: &mut A,
     ring: &mut RingView<'_>,
 ) -> u64
+    // The plan can be done on both sides and the queue.
     requires own { B.holds own.old }
     requires opposite { A.holds opposite.old }
     requires side { B.side own.old ≡ taker.id_side }
     requires accepted { IsEventQueue ring.old.bytes.now }
     requires can_trade { applying.CanTrade taker.id_side sizes (order_of taker) plan.now (B.room own.old)
         (B.orders own.old) (A.orders opposite.old) (ring_of ring.old.bytes.now) }
+
+    // The order has met the opposite side, and what is left of it rests on its own.
     ensures rebates { result ≡ (meeting_with sizes taker (A.orders opposite.old)).rebates }
     ensures own { B.orders own.new ≡ (applying.posted_by taker.id_side (order_of taker) plan.now (B.room own.old)
         (B.orders own.old)).side }
     ensures own_side { KeepsSide B.holds B.same_place B.side B.room own.old own.new }
     ensures opposite { A.orders opposite.new ≡ (meeting_with sizes taker (A.orders opposite.old)).left }
     ensures opposite_side { KeepsSide A.holds A.same_place A.side A.room opposite.old opposite.new }
+
+    // All its events stand behind those that waited.
     ensures list { ring_of ring.new.bytes.now ≡ appended (applying.trade_events taker.id_side sizes
         (order_of taker) plan.now (B.room own.old) (B.orders own.old) (A.orders opposite.old))
         (ring_of ring.old.bytes.now) }

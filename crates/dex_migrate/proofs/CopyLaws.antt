@@ -60,7 +60,7 @@ copy-step side room all copied order held joined reached =
       smaller = omega (arith, left);
     }
 
--- the same of the orders of a slab, where the next of them is known
+-- the orders of a slab are copied so far, where the next of them is known
 pub copy-from : (side : Side) (from : List ℕ) (slab : IsSlab from) (copied : List Order) (next : Option Order) (order : Order) → next ≡ Some order
     → copied ++ orders_from next (resting side from) ≡ resting side from → IsReached next (resting side from) → IsCopied side (resting side from) copied order
 copy-from side from slab copied next order is joined reached =

@@ -15,7 +15,8 @@ use Rattle.dex_accounts.specs.Accepted.{IsAccepted}
 use Rattle.dex_ring.specs.Ring.{Ring}
 use Rattle.dex_accounts.specs.StandsFor.{StandsFor}
 use Rattle.dex_state.specs.Addresses.{address_of, addresses_of, all_of_market, times}
-use Rattle.dex_state.specs.Accepted.{AreAccepted, HasMints}
+use Rattle.dex_types.specs.declared.limits.Limits.{Limits}
+use Rattle.dex_state.specs.Accepted.{AreAccepted, HasFew, HasMints}
 use Rattle.dex_slab.specs.Nodes.{room_of}
 use Rattle.dex_migrate.specs.Migrated.{AreMigrated, IsMigrated, with_capacities}
 use Rattle.dex_migrate.specs.TooSmall.{Fits}
@@ -43,7 +44,7 @@ module _ (nodes events : ℕ) where
         named = kept.named;
       }
 
-  -- the same of all markets
+  -- what migrating keeps of one market it keeps of all
   each-migrated : (P Q : PlainMarketAccounts → Type 0) → ((old new : PlainMarketAccounts) → IsMigrated nodes events old new → P old → Q new)
       → (olds news : List PlainMarketAccounts) → AllZip (IsMigrated nodes events) olds news → All P olds → All Q news
   each-migrated P Q keeps [] [] are all = All-nil Q
@@ -67,12 +68,9 @@ module _ (nodes events : ℕ) where
   many-same (old ∷ olds) [] are = absurd are
   many-same (old ∷ olds) (new ∷ news) are = ap suc (many-same olds news are.1)
 
-  abbrev HasFew : PlainMarketAccounts → Type 0
-  HasFew market = length market.orders ≤ 64
-
-  pub migrated-accepted : (old new : PlainAccounts) → AreMigrated nodes events old new → AreAccepted old → AreAccepted new
-  migrated-accepted old new are accepted =
-      let kept : AreAccepted (record new { markets = old.markets }) = subst AreAccepted (sym are.others) accepted in
+  pub migrated-accepted : (limits : Limits) (old new : PlainAccounts) → AreMigrated nodes events old new → AreAccepted limits old → AreAccepted limits new
+  migrated-accepted limits old new are accepted =
+      let kept : AreAccepted limits (record new { markets = old.markets }) = subst (AreAccepted limits) (sym are.others) accepted in
       let here : PlainAccounts = record new { markets = old.markets } in
       record {
         mints = kept.mints;
@@ -90,11 +88,12 @@ module _ (nodes events : ℕ) where
         srm = kept.srm;
         msrm = kept.msrm;
         apart = kept.apart;
+        within = kept.within;
         few_mints = kept.few_mints;
         few_wallets = kept.few_wallets;
-        few_markets = subst (λ (n : ℕ). n ≤ 16) (sym (many-same old.markets new.markets are.markets)) kept.few_markets;
-        few_orders = each-migrated HasFew HasFew (λ before after is few.
-            subst (λ (m : PlainMarketAccounts). HasFew m) (sym is.others) few) old.markets new.markets are.markets kept.few_orders;
+        few_markets = subst (λ (n : ℕ). n ≤ limits.markets) (sym (many-same old.markets new.markets are.markets)) kept.few_markets;
+        few_orders = each-migrated (HasFew limits) (HasFew limits) (λ before after is few.
+            subst (λ (m : PlainMarketAccounts). HasFew limits m) (sym is.others) few) old.markets new.markets are.markets kept.few_orders;
       }
 
   -- the market that a market's accounts stand for afterwards

@@ -4,16 +4,17 @@ ghost use Rattle.std.specs.Prelude.{◌≡◌, ◌≤◌, ℕ};
 ghost use Rattle.dex_accounts.specs.StandsFor.{StandsFor};
 ghost use Rattle.dex_audit.specs.Findings.{findings};
 ghost use Rattle.dex_state.specs.Accepted.{AreAccepted};
+ghost use Rattle.dex_types.specs.declared.limits.Limits.{Limits};
 ghost use Rattle.dex_migrate.specs.Migrated.{AreMigrated, IsMigrated, with_capacities};
 ghost use Rattle.dex_migrate.specs.TooSmall.{Fits};
 ghost use Rattle.dex_types.specs.Accounts.{PlainAccounts, PlainMarketAccounts};
 ghost use Rattle.dex_types.specs.Market.{Market};
 ghost use Rattle.dex_types.specs.Soundness.{IsSound};
 
-/// Migrated accounts are accepted, where the accounts were.
+/// Migrated accounts are accepted within the limits within which the accounts were.
 pub fn migrated_accounts_are_accepted()
-    ensures { (nodes events : ℕ) (old new : PlainAccounts) → AreMigrated nodes events old new
-        → AreAccepted old → AreAccepted new }
+    ensures { (limits : Limits) (nodes events : ℕ) (old new : PlainAccounts) → AreMigrated nodes events old new
+        → AreAccepted limits old → AreAccepted limits new }
 {}
 
 /// Migrated accounts have the findings that the accounts had: so none, where they had none.

@@ -15,11 +15,14 @@ use std::alloc::Global;
 
 /// Puts the orders of a side on an empty one, the best first.
 fn copy_orders(from: &SlabRef<'_>, to: &mut SlabView<'_>)
+    // The orders fit the empty side.
     requires from { IsSlab from.now.bytes.now }
     requires to { IsSlab to.old.bytes.now }
     requires side { from.now.side ≡ to.old.side }
     requires empty { resting to.old.side to.old.bytes.now ≡ [] }
     requires fits { length (resting to.old.side from.now.bytes.now) ≤ room_in to.old.bytes.now }
+
+    // They rest there. Side, room and place stay.
     ensures orders { resting to.new.side to.new.bytes.now ≡ resting to.old.side from.now.bytes.now }
     ensures holds { IsSlab to.new.bytes.now }
     ensures side { to.new.side ≡ to.old.side }

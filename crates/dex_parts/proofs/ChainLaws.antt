@@ -16,6 +16,8 @@ use Rattle.dex_world.specs.Items.{Item, fold_items, items_of}
 use Rattle.dex_world.specs.World.{MarketState, WalletState, World}
 use Rattle.dex_world.proofs.GroupLaws.{grouped-behind}
 use Rattle.dex_world.proofs.MappedLists.{All-front}
+use Rattle.dex_types.specs.declared.limits.Limits.{Limits}
+use Rattle.dex_state.specs.Accepted.{AreAccepted}
 use Rattle.dex_state.specs.Addresses.{address_of}
 use Rattle.dex_state.specs.Outcomes.{PlainMarketJournal, PlainOutcome, PlainWalletJournal}
 use Rattle.dex_script_types.specs.PlainScript.{PlainScript}
@@ -184,7 +186,7 @@ module _ (script first second : PlainScript) (one two : PlainOutcome) (are : Are
       wallet_journals = behind-first (λ (journal : PlainWalletJournal). journal.address) wallet_journal_behind (λ x y. refl) one.wallets two.wallets wallet-journals-long
           ∙ left.start.wallet_journals;
     };
-    accepted = then.accepted;
+    accepted = subst (λ (l : Limits). AreAccepted l two.accounts) (are.same_limits ∙ sym are.limits) then.accepted;
     markets =
         let joined : List Entry → List Entry → List Entry = λ (before entries : List Entry). before ++ entries in
         behind-told (λ (journal : PlainMarketJournal). journal.entries) market_journal_behind joined (λ x y. refl) one.markets two.markets
@@ -209,7 +211,7 @@ module _ (script first second : PlainScript) (one two : PlainOutcome) (are : Are
   two-parts : IsReplayOf script (outcome_behind one two)
   two-parts =
       subst (λ (world : World). IsLeftIn script world (outcome_behind one two)) (sym ends)
-      (left-as first script (world_behind early late) (outcome_behind one two) are.start both-left)
+      (left-as first script (world_behind early late) (outcome_behind one two) are.start are.limits both-left)
 
 pub two-are-one : (script first second : PlainScript) (one two : PlainOutcome) → AreTwoParts script first one second → IsReplayOf first one → IsReplayOf second two
     → IsReplayOf script (outcome_behind one two)
@@ -217,14 +219,15 @@ two-are-one script first second one two are left then = two-parts script first s
 
 -- ---- any number of parts
 
--- a replay knows of its script the start, the rows and the program
-replay-as : (a b : PlainScript) (outcome : PlainOutcome) → a.start ≡ b.start → a.rows ≡ b.rows → a.program ≡ b.program → IsReplayOf a outcome → IsReplayOf b outcome
-replay-as a b outcome start rows program replay =
+-- a replay knows of its script the start, the rows, the program and the limits
+replay-as : (a b : PlainScript) (outcome : PlainOutcome) → a.start ≡ b.start → a.rows ≡ b.rows → a.program ≡ b.program → a.limits ≡ b.limits
+    → IsReplayOf a outcome → IsReplayOf b outcome
+replay-as a b outcome start rows program limits replay =
     let worlds : world_after a (items_of a.rows) ≡ world_after b (items_of b.rows) =
     ap (λ (all : List PlainRow). fold_items (items_of all) (start_world a)) rows
     ∙ ap (λ (accounts : PlainAccounts). fold_items (items_of b.rows) (start_world (record a { start = accounts }))) start
     ∙ ap (λ (one : Program). fold_items (items_of b.rows) (start_world (record b { program = one }))) program in
-    left-as a b (world_after b (items_of b.rows)) outcome start (subst (λ (world : World). IsLeftIn a world outcome) worlds replay)
+    left-as a b (world_after b (items_of b.rows)) outcome start limits (subst (λ (world : World). IsLeftIn a world outcome) worlds replay)
 
 abbrev IsApart : PlainRow → PlainRow → Type 0
 IsApart one other = (one.number == other.number) ≡ false
@@ -242,15 +245,15 @@ cut-behind done rows later cut behind =
 
 -- parts behind a first one
 chain-behind : (script first : PlainScript) (one : PlainOutcome) (parts : List PlainScript) (others : List PlainOutcome) → script.rows ≡ first.rows ++ rows_of_parts parts
-    → IsCut first.rows (rows_of_parts parts) → AreCut parts → first.start ≡ script.start → first.program ≡ script.program → IsReplayOf first one
-    → AreLinked script.program one.accounts parts others → IsReplayOf script (outcomes_behind one others)
-chain-behind script first one [] [] rows cut cuts start program replay links =
-    replay-as first script one start (sym (append-nil first.rows) ∙ sym rows) program replay
-chain-behind script first one [] (other ∷ others) rows cut cuts start program replay links = absurd links
-chain-behind script first one (part ∷ parts) [] rows cut cuts start program replay links = absurd links
-chain-behind script first one (part ∷ parts) (two ∷ others) rows cut cuts start program replay links =
+    → IsCut first.rows (rows_of_parts parts) → AreCut parts → first.start ≡ script.start → first.program ≡ script.program → first.limits ≡ script.limits
+    → IsReplayOf first one → AreLinked script.limits script.program one.accounts parts others → IsReplayOf script (outcomes_behind one others)
+chain-behind script first one [] [] rows cut cuts start program limits replay links =
+    replay-as first script one start (sym (append-nil first.rows) ∙ sym rows) program limits replay
+chain-behind script first one [] (other ∷ others) rows cut cuts start program limits replay links = absurd links
+chain-behind script first one (part ∷ parts) [] rows cut cuts start program limits replay links = absurd links
+chain-behind script first one (part ∷ parts) (two ∷ others) rows cut cuts start program limits replay links =
     let rest : List PlainRow = rows_of_parts parts in
-    let both : PlainScript = record { start = script.start; rows = first.rows ++ part.rows; lanes = script.lanes; program = script.program } in
+    let both : PlainScript = record { start = script.start; rows = first.rows ++ part.rows; lanes = script.lanes; program = script.program; limits = script.limits } in
     let are : AreTwoParts both first one part = record {
       rows = refl;
       cut = cut-front first.rows part.rows rest cut;
@@ -258,11 +261,13 @@ chain-behind script first one (part ∷ parts) (two ∷ others) rows cut cuts st
       goes_on = links.0;
       program = program;
       same_program = links.1;
+      limits = limits;
+      same_limits = links.2;
     } in
     chain-behind script both (outcome_behind one two) parts others (rows ∙ sym (append_assoc first.rows part.rows rest))
-    (cut-behind first.rows part.rows rest cut cuts.0) cuts.1 refl refl (two-are-one both first part one two are replay links.2) links.3
+    (cut-behind first.rows part.rows rest cut cuts.0) cuts.1 refl refl refl (two-are-one both first part one two are replay links.3) links.4
 
 pub chain-is-one : (script part : PlainScript) (parts : List PlainScript) (one : PlainOutcome) (others : List PlainOutcome) → IsChainOf script (part ∷ parts) (one ∷ others)
     → IsReplayOf script (outcomes_behind one others)
 chain-is-one script part parts one others chain =
-    chain-behind script part one parts others chain.rows chain.cut.0 chain.cut.1 chain.links.0 chain.links.1 chain.links.2 chain.links.3
+    chain-behind script part one parts others chain.rows chain.cut.0 chain.cut.1 chain.links.0 chain.links.1 chain.links.2 chain.links.3 chain.links.4

@@ -1,7 +1,7 @@
 -- Rows that are cut where no number is parted are a chain.
-use Rattle.std.proofs.Common.{◌≡◌, ◌<◌, ◌≤◌, ◌+◌, ◌-◌, ◌==◌, ◌⊎◌, inl, inr, ℕ, zero, suc, false, List, [], ◌∷◌, ◌++◌, append_assoc, drop, get_or, length, map, max, take, refl, sym, ap, ◌∙◌, subst, arith, ⊎_elim}
+use Rattle.std.proofs.Common.{◌≡◌, ◌<◌, ◌≤◌, ◌+◌, ◌-◌, ◌==◌, ◌⊎◌, inl, inr, ℕ, zero, suc, false, List, [], ◌∷◌, ◌++◌, append_assoc, drop, get_or, length, map, take, refl, sym, ap, ◌∙◌, subst, arith, ⊎_elim}
 use Rattle.std.specs.List.{All, AllPairs}
-use Rattle.std.proofs.lemmas.Bool.{cases_eq, ne_eqb}
+use Rattle.std.proofs.lemmas.Bool.{cases_eq, eq-eqb, false≢true, ne_eqb}
 use Rattle.std.proofs.lemmas.List.{append-nil, get_or-drop, get_or-map, get_or-take, get_or_default, length-drop, length-map, length-take-le}
 use Rattle.dex_types.specs.declared.rows.RowPlaces.{RowPlaces}
 use Rattle.dex_types.specs.Rows.{PlainRow}
@@ -12,7 +12,7 @@ use Rattle.dex_script_types.specs.Places.{AreBeside, IsBeside}
 use Rattle.dex_script_types.specs.PlainScript.{PlainScript}
 use Rattle.dex_state.specs.Outcomes.{PlainOutcome}
 use Rattle.dex_parts.specs.Chains.{AreCut, AreLinked, IsChainOf, IsCut, rows_of_parts}
-use Rattle.dex_parts.specs.Cuts.{AreCutBy, AreInOrder, ArePartedAt, IsPart, numbers_of, parts_by}
+use Rattle.dex_parts.specs.Cuts.{AreCutBy, AreInOrder, AreLegsIn, ArePartedAt, IsPart, numbers_of, parts_by}
 
 -- ---- lists in two
 
@@ -64,6 +64,16 @@ parted-at numbers count order some apart = λ i d within j e behind.
         ⊎_elim (λ (same : one ≡ other). subst (λ (n : ℕ). get_or numbers one 0 ≤ get_or numbers n 0) same (omega arith))
         (λ (differ : one ≡ other → ⊥). order.rising one other (omega (arith, most, differ)) inside) (cases_eq one other)
 
+-- numbers on both sides of a cut differ
+apart-at : (numbers : List ℕ) (count : ℕ) → 0 < count → count < length numbers → get_or numbers (count - 1) 0 ≡ get_or numbers count 0 → ArePartedAt count numbers → ⊥
+apart-at numbers count some inside same parted =
+    let last : get_or (take count numbers) (count - 1) 0 ≡ get_or numbers (count - 1) 0 = get_or-take count numbers (count - 1) 0 (omega (arith, some)) in
+    let next : get_or (drop count numbers) 0 0 ≡ get_or numbers count 0 =
+    get_or-drop count numbers 0 0 ∙ ap (λ (k : ℕ). get_or numbers k 0) (omega arith) in
+    false≢true
+    (sym (parted (count - 1) 0 (omega (arith, some, inside, length-take-le count numbers (omega (arith, inside)))) 0 0 (omega (arith, inside, length-drop count numbers)))
+    ∙ eq-eqb (get_or (take count numbers) (count - 1) 0) (get_or (drop count numbers) 0 0) (last ∙ same ∙ sym next))
+
 -- the number at a place
 pub number-at : (places : List RowPlaces) (place : ℕ) (d : RowPlaces) → place < length places
     → get_or (map (λ (at : RowPlaces). at.number) places) place 0 ≡ (get_or places place d).number
@@ -91,38 +101,75 @@ rows-in-order rows rising two = record {
 
 -- ---- where a part ends
 
-module _ (places : List RowPlaces) (most : ℕ) (order : AreInOrder (map (λ (at : RowPlaces). at.number) places)) (some : 0 < most) (within : most < length places) where
+module _ (places : List RowPlaces) (most : ℕ) (order : AreInOrder (map (λ (at : RowPlaces). at.number) places)) (some : 0 < most) where
   abbrev numbers : List ℕ
   numbers = map (λ (at : RowPlaces). at.number) places
 
   long : length numbers ≡ length places
   long = length-map places (λ (at : RowPlaces). at.number)
 
-  -- where the number rises
-  pub parted-before : (d e : RowPlaces) → (get_or places (most - 1) d).number < (get_or places most e).number → ArePartedAt most numbers
-  parted-before d e rises =
-      parted-at numbers most order some (λ inside. omega (arith, rises, number-at places (most - 1) d (omega (arith, within)), number-at places most e within))
+  -- with the last row
+  pub all-of-them : 0 < length places → length places ≤ most → IsPart most (length places) numbers
+  all-of-them one few = record {
+    some = one;
+    within = omega (arith, long);
+    parted = parted-at numbers (length places) order one (λ inside. absurd (omega (arith, inside, long)));
+    few = inl few;
+    full = λ more above fits inside parted. absurd (omega (arith, above, inside, long));
+  }
 
-  module _ (d e : RowPlaces) (stays : (get_or places most e).number ≤ (get_or places (most - 1) d).number) where
-    stays-there : get_or numbers most 0 ≤ get_or numbers (most - 1) 0
-    stays-there = omega (arith, stays, number-at places (most - 1) d (omega (arith, within)), number-at places most e within)
+  module _ (within : most < length places) (d e : RowPlaces) where
+    first-there : get_or numbers (most - 1) 0 ≡ (get_or places (most - 1) d).number
+    first-there = number-at places (most - 1) d (omega (arith, within))
 
-    -- behind the first two, where they have one number
-    pub parted-two : most ≡ 1 → ArePartedAt 2 numbers
-    parted-two is =
-        let first : get_or numbers (most - 1) 0 ≡ get_or numbers 0 0 = ap (λ (k : ℕ). get_or numbers k 0) (omega (arith, is)) in
-        let second : get_or numbers most 0 ≡ get_or numbers 1 0 = ap (λ (k : ℕ). get_or numbers k 0) is in
-        parted-at numbers 2 order (omega arith) (λ inside. let rises : get_or numbers 0 0 < get_or numbers 2 0 = order.two 0 inside in omega (arith, stays-there, first, second, rises))
+    next-there : get_or numbers most 0 ≡ (get_or places most e).number
+    next-there = number-at places most e within
 
-    -- one place before
-    pub parted-less : (most ≡ 1 → ⊥) → ArePartedAt (most - 1) numbers
-    parted-less more =
-        parted-at numbers (most - 1) order (omega (arith, some, more))
-        (λ inside.
-        let rises : get_or numbers (most - 2) 0 < get_or numbers (most - 2 + 2) 0 = order.two (most - 2) (omega (arith, within, long, some, more)) in
-        let last : get_or numbers (most - 2 + 2) 0 ≡ get_or numbers most 0 = ap (λ (k : ℕ). get_or numbers k 0) (omega (arith, some, more)) in
-        let before : get_or numbers (most - 1 - 1) 0 ≡ get_or numbers (most - 2) 0 = ap (λ (k : ℕ). get_or numbers k 0) (omega (arith, some, more)) in
-        omega (arith, rises, last, before, stays-there))
+    -- where the number rises
+    pub as-many-as-fit : (get_or places (most - 1) d).number < (get_or places most e).number → IsPart most most numbers
+    as-many-as-fit rises = record {
+      some = some;
+      within = omega (arith, within, long);
+      parted = parted-at numbers most order some (λ inside. omega (arith, rises, first-there, next-there));
+      few = inl (omega arith);
+      full = λ more above fits inside parted. absurd (omega (arith, above, fits));
+    }
+
+    module _ (stays : (get_or places most e).number ≤ (get_or places (most - 1) d).number) where
+      one-number : get_or numbers (most - 1) 0 ≡ get_or numbers most 0
+      one-number =
+          let rising : get_or numbers (most - 1) 0 ≤ get_or numbers most 0 = order.rising (most - 1) most (omega (arith, some)) (omega (arith, within, long)) in
+          omega (arith, rising, stays, first-there, next-there)
+
+      -- the first two, where they have one number
+      pub both-legs : most ≡ 1 → IsPart most 2 numbers
+      both-legs is =
+          let first : get_or numbers (most - 1) 0 ≡ get_or numbers 0 0 = ap (λ (k : ℕ). get_or numbers k 0) (omega (arith, is)) in
+          let second : get_or numbers most 0 ≡ get_or numbers 1 0 = ap (λ (k : ℕ). get_or numbers k 0) is in record {
+            some = omega arith;
+            within = omega (arith, is, within, long);
+            parted = parted-at numbers 2 order (omega arith)
+                (λ inside. let rises : get_or numbers 0 0 < get_or numbers 2 0 = order.two 0 inside in omega (arith, one-number, first, second, rises));
+            few = inr (refl, (is, sym first ∙ one-number ∙ second));
+            full = λ more above fits inside parted. absurd (omega (arith, above, fits, is));
+          }
+
+      -- one place before
+      pub one-fewer : (most ≡ 1 → ⊥) → IsPart most (most - 1) numbers
+      one-fewer more = record {
+        some = omega (arith, some, more);
+        within = omega (arith, within, long);
+        parted = parted-at numbers (most - 1) order (omega (arith, some, more))
+            (λ inside.
+            let rises : get_or numbers (most - 2) 0 < get_or numbers (most - 2 + 2) 0 = order.two (most - 2) (omega (arith, within, long, some, more)) in
+            let last : get_or numbers (most - 2 + 2) 0 ≡ get_or numbers most 0 = ap (λ (k : ℕ). get_or numbers k 0) (omega (arith, some, more)) in
+            let before : get_or numbers (most - 1 - 1) 0 ≡ get_or numbers (most - 2) 0 = ap (λ (k : ℕ). get_or numbers k 0) (omega (arith, some, more)) in
+            omega (arith, rises, last, before, one-number));
+        few = inl (omega arith);
+        full = λ next above fits inside parted.
+            let is : next ≡ most = omega (arith, above, fits, some) in
+            apart-at numbers most some (omega (arith, within, long)) one-number (subst (λ (n : ℕ). ArePartedAt n numbers) is parted);
+      }
 
 -- ---- parts, one after the other
 
@@ -130,18 +177,6 @@ module _ (places : List RowPlaces) (most : ℕ) (order : AreInOrder (map (λ (at
 pub record AreCutUpTo (most : ℕ) (counts : List ℕ) (left places : List RowPlaces) : Type 0 where
   pub order : AreInOrder (map (λ (at : RowPlaces). at.number) left)
   pub cut : (more : List ℕ) → AreCutBy most more (map (λ (at : RowPlaces). at.number) left) → AreCutBy most (counts ++ more) (map (λ (at : RowPlaces). at.number) places)
-
-pub is-part : (most count : ℕ) (left : List RowPlaces) → 0 < count → count ≤ length left → count ≤ max most 2 → (length left ≤ count) ⊎ (most ≤ count + 1)
-    → ArePartedAt count (map (λ (at : RowPlaces). at.number) left) → IsPart most count (map (λ (at : RowPlaces). at.number) left)
-is-part most count left some within few full parted =
-    let long = length-map left (λ (at : RowPlaces). at.number) in
-    record {
-      some = some;
-      within = omega (arith, within, long);
-      few = few;
-      full = ⊎_elim (λ (last : length left ≤ count). inl (omega (arith, last, long))) (λ (most_of : most ≤ count + 1). inr most_of) full;
-      parted = parted;
-    }
 
 pub one-part-more : (most count : ℕ) (counts new : List ℕ) (left rest places : List RowPlaces) → AreCutUpTo most counts left places
     → IsPart most count (map (λ (at : RowPlaces). at.number) left) → new ≡ counts ++ count ∷ [] → rest ≡ drop count left → AreCutUpTo most new rest places
@@ -165,6 +200,41 @@ all-parts most counts left places upto none =
     empty : (some : List RowPlaces) → length some ≡ 0 → some ≡ []
     empty [] is = refl
     empty (at ∷ others) is = absurd (omega (arith, is))
+
+-- ---- one way to cut
+
+same-by : (a b : ℕ) → (a < b → ⊥) → (b < a → ⊥) → a ≡ b
+same-by zero zero below above = refl
+same-by zero (suc b) below above = absurd (below (omega arith))
+same-by (suc a) zero below above = absurd (above (omega arith))
+same-by (suc a) (suc b) below above = ap suc (same-by a b (λ less. below (omega (arith, less))) (λ less. above (omega (arith, less))))
+
+-- legs that are one part are no two parts
+no-leg-alone : (most a : ℕ) (numbers : List ℕ) → IsPart most a numbers → a ≤ most → 2 ≤ length numbers → AreLegsIn most numbers → ⊥
+no-leg-alone most a numbers one few long legs =
+    let is : a ≡ 1 = omega (arith, one.some, few, legs.0) in
+    apart-at numbers 1 (omega arith) (omega (arith, long)) legs.1 (subst (λ (n : ℕ). ArePartedAt n numbers) is one.parted)
+
+one-part : (most a b : ℕ) (numbers : List ℕ) → IsPart most a numbers → IsPart most b numbers → a ≡ b
+one-part most a b numbers one other =
+    ⊎_elim
+    (λ (few : a ≤ most).
+    ⊎_elim
+    (λ (fewer : b ≤ most). same-by a b (λ less. one.full b less fewer other.within other.parted) (λ less. other.full a less few one.within one.parted))
+    (λ (legs : (b ≡ 2) × AreLegsIn most numbers). absurd (no-leg-alone most a numbers one few (omega (arith, legs.0, other.within)) legs.1)) other.few)
+    (λ (legs : (a ≡ 2) × AreLegsIn most numbers).
+    ⊎_elim (λ (fewer : b ≤ most). absurd (no-leg-alone most b numbers other fewer (omega (arith, legs.0, one.within)) legs.1))
+    (λ (both : (b ≡ 2) × AreLegsIn most numbers). legs.0 ∙ sym both.0) other.few)
+    one.few
+
+pub one-cut : (most : ℕ) (counts others numbers : List ℕ) → 0 < most → AreCutBy most counts numbers → AreCutBy most others numbers → counts ≡ others
+one-cut most [] [] numbers some one other = refl
+one-cut most [] (b ∷ others) numbers some one other = absurd (omega (arith, ap length one, other.0.some, other.0.within))
+one-cut most (a ∷ counts) [] numbers some one other = absurd (omega (arith, ap length other, one.0.some, one.0.within))
+one-cut most (a ∷ counts) (b ∷ others) numbers some one other =
+    let same : a ≡ b = one-part most a b numbers one.0 other.0 in
+    let rest : counts ≡ others = one-cut most counts others (drop a numbers) some one.1 (subst (λ (n : ℕ). AreCutBy most others (drop n numbers)) (sym same) other.1) in
+    ap (λ (n : ℕ). n ∷ counts) same ∙ ap (λ (l : List ℕ). b ∷ l) rest
 
 -- ---- the numbers beside rows are theirs
 
@@ -213,7 +283,7 @@ parts-cut most (count ∷ counts) rows (part ∷ parts) cut same =
     )
 
 pub is-chain : (most : ℕ) (counts : List ℕ) (script : PlainScript) (parts : List PlainScript) (outcomes : List PlainOutcome) → AreCutBy most counts (numbers_of script.rows)
-    → map (λ (part : PlainScript). part.rows) parts ≡ parts_by counts script.rows → AreLinked script.program script.start parts outcomes → IsChainOf script parts outcomes
+    → map (λ (part : PlainScript). part.rows) parts ≡ parts_by counts script.rows → AreLinked script.limits script.program script.start parts outcomes → IsChainOf script parts outcomes
 is-chain most counts script parts outcomes cut same links =
     let are = parts-cut most counts script.rows parts cut same in
     record { rows = are.0; cut = are.1; links = links }

@@ -14,6 +14,8 @@ use Rattle.dex_wallet.specs.CellState.{balance_of}
 use Rattle.dex_world.specs.Items.{Item}
 use Rattle.dex_world.specs.World.{MarketState, WalletState, World}
 use Rattle.dex_world.proofs.MappedLists.{head-same, map-map, tail-same, zip-map}
+use Rattle.dex_types.specs.declared.limits.Limits.{Limits}
+use Rattle.dex_state.specs.Accepted.{AreAccepted}
 use Rattle.dex_state.specs.Addresses.{address_of}
 use Rattle.dex_state.specs.Outcomes.{PlainMarketJournal, PlainOutcome, PlainWalletJournal}
 use Rattle.dex_script_types.specs.PlainScript.{PlainScript}
@@ -26,10 +28,11 @@ use Rattle.dex_parts.proofs.KeptLaws.{named, named-kept}
 abbrev pub StandIn : PlainMarketAccounts → MarketState → Type 0
 StandIn accounts state = StandsFor accounts state.market
 
--- ---- only the start of a script counts
+-- ---- only the start of a script and its limits count
 
-pub left-as : (a b : PlainScript) (world : World) (outcome : PlainOutcome) → a.start ≡ b.start → IsLeftIn a world outcome → IsLeftIn b world outcome
-left-as a b world outcome same left = record {
+pub left-as : (a b : PlainScript) (world : World) (outcome : PlainOutcome) → a.start ≡ b.start → a.limits ≡ b.limits → IsLeftIn a world outcome
+    → IsLeftIn b world outcome
+left-as a b world outcome same limits left = record {
   start = record {
     mints = left.start.mints ∙ ap (λ (start : PlainAccounts). start.mints) same;
     srm = left.start.srm ∙ ap (λ (start : PlainAccounts). start.srm) same;
@@ -39,7 +42,7 @@ left-as a b world outcome same left = record {
     market_journals = left.start.market_journals ∙ ap (λ (start : PlainAccounts). map (λ (accounts : PlainMarketAccounts). accounts.address) start.markets) same;
     wallet_journals = left.start.wallet_journals ∙ ap (λ (start : PlainAccounts). map address_of start.wallets) same;
   };
-  accepted = left.accepted;
+  accepted = subst (λ (l : Limits). AreAccepted l outcome.accounts) limits left.accepted;
   markets = left.markets;
   wallets = left.wallets;
   stand = left.stand;

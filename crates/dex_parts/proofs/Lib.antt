@@ -6,10 +6,8 @@ pub mod ChainLaws
 pub mod NumberLaws
 pub mod ShardWorlds
 pub mod ShardLaws
-pub mod ShardWorths
 pub mod ShardSums
 pub mod JoinLaws
 pub mod LinkLaws
 pub mod ShardedLaws
 pub mod CutLaws
-pub mod AuditLaws

@@ -43,7 +43,7 @@ module _ (start : PlainAccounts) where
 
   -- ---- shards
 
-  module _ (labels : List ℕ) (long : length labels ≡ markets + wallets) (few : wallets ≤ 256) where
+  module _ (labels : List ℕ) (long : length labels ≡ markets + wallets) (few : wallets ≤ 65535) where
     abbrev of_markets : List ℕ
     of_markets = map (in_market markets) (take markets labels)
 
@@ -162,7 +162,7 @@ module _ (start : PlainAccounts) where
 
 -- ---- a script
 
-module _ (script : PlainScript) (places : List RowPlaces) (facts : AreRows script) (few : length script.start.wallets ≤ 256)
+module _ (script : PlainScript) (places : List RowPlaces) (facts : AreRows script) (few : length script.start.wallets ≤ 65535)
     (placed : ArePlaced script.start script.rows places) (beside : AreBeside script.rows places) where
   abbrev start : PlainAccounts
   start = script.start
@@ -359,7 +359,7 @@ module _ (start : PlainAccounts) (rows : List PlainRow) (places own : List RowPl
       (subst (λ (n : ℕ). All (λ (at : RowPlaces). at.market < n) places) many (markets-on start rows places placed))
 
 pub own-shards : (script : PlainScript) (places own : List RowPlaces) (markets wallets : ℕ) → length script.start.markets ≡ markets → length script.start.wallets ≡ wallets
-    → own ≡ places → ArePlaced script.start script.rows places → AreBeside script.rows places → AreRows script → length script.start.wallets ≤ 256
+    → own ≡ places → ArePlaced script.start script.rows places → AreBeside script.rows places → AreRows script → length script.start.wallets ≤ 65535
     → (of_markets of_wallets of_rows : List ℕ) → of_markets ≡ market_shards markets wallets own → of_wallets ≡ wallet_shards markets wallets own → of_rows ≡ row_shards of_markets own
     → AreShardsOf script of_markets of_wallets of_rows
 own-shards script places own markets wallets many more same placed beside facts few of_markets of_wallets of_rows is_markets is_wallets is_rows =

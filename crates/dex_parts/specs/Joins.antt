@@ -36,7 +36,8 @@ role_links markets market role = if nat_lt role 65535 then (market, markets + ro
 abbrev pub row_links : ℕ → RowPlaces → List Link
 row_links markets at =
     role_links markets at.market at.coin
-    ++ (role_links markets at.market at.pc ++ (role_links markets at.market at.discount ++ role_links markets at.market at.referrer))
+    ++ (role_links markets at.market at.pc
+    ++ (role_links markets at.market at.discount ++ role_links markets at.market at.referrer))
 
 -- the markets of the legs of a swap: a row, and the one behind it, if that has its number
 abbrev pub leg_links : RowPlaces → List RowPlaces → List Link

@@ -6,4 +6,3 @@ pub mod Joins
 pub mod Numbers
 pub mod Sharded
 pub mod Cuts
-pub mod Audits

@@ -1,5 +1,6 @@
 -- The numbers of shards, by the labels that joins leave.
-use Rattle.std.specs.Prelude.{◌+◌, ℕ, zero, suc, List, [], ◌∷◌, ◌++◌, drop, if◌then◌else◌, map, nat_lt, slice_index, take}
+use Rattle.std.specs.Prelude.{◌+◌, ℕ, zero, suc, List, [], ◌∷◌, ◌++◌, drop, if◌then◌else◌, map, nat_lt}
+use Rattle.std.specs.Prelude.{slice_index, take}
 use Rattle.dex_types.specs.declared.rows.RowPlaces.{RowPlaces}
 use Rattle.dex_parts.specs.Joins.{all_joined, links_of}
 

@@ -1,5 +1,6 @@
 -- The shards of a script as numbers of its markets, its wallets and its rows.
-use Rattle.std.specs.Prelude.{◌≡◌, ◌≤◌, ◌<◌, ℕ, false, List, Option, Some, None, All, length, map, slice_index, slice_index_or}
+use Rattle.std.specs.Prelude.{◌≡◌, ◌≤◌, ◌<◌, ℕ, false, List, Option, Some, None, All, length, map}
+use Rattle.std.specs.Prelude.{slice_index, slice_index_or}
 use Rattle.dex_types.specs.declared.addresses.Address.{Address}
 use Rattle.dex_types.specs.Accounts.{PlainAccounts, PlainMarketAccounts}
 use Rattle.dex_types.specs.Rows.{PlainRow}
@@ -20,20 +21,24 @@ sharding_by start markets wallets = record {
   wallet = λ (address : Address). number_at (wallet_place address start.wallets) wallets;
 }
 
--- the numbers of a script's markets, wallets and rows: the script falls into the shards that those of markets and wallets are, and a
--- row's number is its market's
+-- the numbers of a script's markets, wallets and rows: the script falls into the shards that those of markets and
+-- wallets are, and a row's number is its market's
 pub record AreShardsOf (script : PlainScript) (of_markets of_wallets of_rows : List ℕ) : Type 0 where
   pub falls : FallsInto (sharding_by script.start of_markets of_wallets) script
-  pub rows : of_rows ≡ map (λ (row : PlainRow). (sharding_by script.start of_markets of_wallets).market row.market) script.rows
+  pub rows :
+      of_rows ≡ map (λ (row : PlainRow). (sharding_by script.start of_markets of_wallets).market row.market) script.rows
   pub markets : length of_markets ≡ length script.start.markets
   pub wallets : length of_wallets ≡ length script.start.wallets
   -- a shard's number is the place of its first market
   pub low : (place : ℕ) → place < length of_markets → slice_index of_markets place ≤ place
-  pub first : (place : ℕ) → place < length of_markets → slice_index of_markets (slice_index of_markets place) ≡ slice_index of_markets place
+  pub first : (place : ℕ) → place < length of_markets
+      → slice_index of_markets (slice_index of_markets place) ≡ slice_index of_markets place
   -- a wallet that no row names is of shard 0
   pub lone : (wallet : Address) → All (λ (row : PlainRow). names row wallet ≡ false) script.rows
       → (sharding_by script.start of_markets of_wallets).wallet wallet ≡ 0
   -- no shard could be parted: markets of one are of one in all shards into which the script falls
-  pub fine : (other : Sharding) → FallsInto other script → (one two : ℕ) (default : PlainMarketAccounts) → one < length of_markets → two < length of_markets
+  pub fine : (other : Sharding) → FallsInto other script → (one two : ℕ) (default : PlainMarketAccounts)
+      → one < length of_markets → two < length of_markets
       → slice_index of_markets one ≡ slice_index of_markets two
-      → other.market (slice_index_or script.start.markets one default).address ≡ other.market (slice_index_or script.start.markets two default).address
+      → other.market (slice_index_or script.start.markets one default).address
+      ≡ other.market (slice_index_or script.start.markets two default).address

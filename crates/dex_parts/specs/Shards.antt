@@ -21,7 +21,8 @@ pub record Sharding : Type 0 where
 
 -- a row's wallets are of its market's shard
 abbrev pub IsOfOneShard : Sharding → PlainRow → Type 0
-IsOfOneShard sharding row = (wallet : Address) → names row wallet ≡ true → sharding.wallet wallet ≡ sharding.market row.market
+IsOfOneShard sharding row =
+    (wallet : Address) → names row wallet ≡ true → sharding.wallet wallet ≡ sharding.market row.market
 
 -- rows of one number, which are the legs of a swap, are of one shard
 abbrev pub AreOfOneShard : Sharding → PlainRow → PlainRow → Type 0
@@ -64,7 +65,8 @@ module _ (sharding : Sharding) (shard : ℕ) where
 
   -- accounts without the markets and wallets of other shards
   abbrev pub accounts_in : PlainAccounts → PlainAccounts
-  accounts_in accounts = record accounts { wallets = wallets_in accounts.wallets; markets = markets_in accounts.markets }
+  accounts_in accounts =
+      record accounts { wallets = wallets_in accounts.wallets; markets = markets_in accounts.markets }
 
   -- a world without them
   abbrev pub world_in : World → World
@@ -80,8 +82,9 @@ module _ (sharding : Sharding) (shard : ℕ) where
   abbrev pub wallet_journals_in : List PlainWalletJournal → List PlainWalletJournal
   wallet_journals_in journals = filter (λ (journal : PlainWalletJournal). has_wallet journal.address) journals
 
--- a script is this shard of another: it starts with the shard's markets and wallets, under the same names of SRM and MSRM and the same
--- program, and has the shard's rows. Its mints may state supplies of their own, since what they are of is held in all shards together
+-- a script is this shard of another: it starts with the shard's markets and wallets, under the same names of SRM and
+-- MSRM and the same program, and has the shard's rows. Its mints may state supplies of their own, since what they are
+-- of is held in all shards together
 pub record IsShardOf (sharding : Sharding) (shard : ℕ) (script part : PlainScript) : Type 0 where
   pub markets : part.start.markets ≡ markets_in sharding shard script.start.markets
   pub wallets : part.start.wallets ≡ wallets_in sharding shard script.start.wallets
@@ -90,8 +93,8 @@ pub record IsShardOf (sharding : Sharding) (shard : ℕ) (script part : PlainScr
   pub program : part.program ≡ script.program
   pub rows : part.rows ≡ rows_in sharding shard script.rows
 
--- an outcome is that of this shard: its journals are those of the shard's markets and wallets, its wallets are the same bytes, and of
--- each market it has accounts that stand for one
+-- an outcome is that of this shard: its journals are those of the shard's markets and wallets, its wallets are the same
+-- bytes, and of each market it has accounts that stand for one
 pub record IsLeftInShard (sharding : Sharding) (shard : ℕ) (whole part : PlainOutcome) : Type 0 where
   pub market_journals : part.markets ≡ market_journals_in sharding shard whole.markets
   pub wallet_journals : part.wallets ≡ wallet_journals_in sharding shard whole.wallets

@@ -1,8 +1,8 @@
 //! Where a script may be cut into parts that follow each other.
 
-ghost use Rattle.std.specs.Prelude.{◌≡◌, ◌<◌, ◌≤◌, ◌+◌, ◌++◌, ◌⊎◌, ◌∷◌, [], ℕ, IfOk, OnOk, length, map, max};
+ghost use Rattle.std.specs.Prelude.{◌≡◌, ◌<◌, ◌++◌, ◌∷◌, [], IfOk, OnOk, length, map};
 ghost use Rattle.dex_types.specs.declared.rows.RowPlaces.{RowPlaces as RowPlacesOf};
-ghost use Rattle.dex_parts.specs.Cuts.{AreCutBy, AreInOrder, ArePartedAt, numbers_of};
+ghost use Rattle.dex_parts.specs.Cuts.{AreCutBy, AreInOrder, IsPart, numbers_of};
 
 use dex_script_types::Script;
 use dex_types::{NoMemory, RowPlaces};
@@ -18,16 +18,12 @@ fn push_count(counts: &mut Vec<usize>, count: usize) -> Result<(), NoMemory>
     }
 }
 
-/// How many of these rows a part has that begins with the first: `most` at most, one less where that would part a swap, and two where the
-/// first two are a swap and `most` is one.
+/// How many of these rows a part has that begins with the first: `most`, or all that there are; one fewer where that
+/// would part a swap; and two where the first two are a swap and `most` is one.
 fn front_of(places: &[RowPlaces], most: usize) -> usize
     requires some { (0 < length places.now) × (0 < most) }
     requires order { AreInOrder (map (λ (at : RowPlacesOf). at.number) places.now) }
-    ensures some { 0 < result }
-    ensures within { result ≤ length places.now }
-    ensures few { result ≤ max most 2 }
-    ensures full { (length places.now ≤ result) ⊎ (most ≤ result + 1) }
-    ensures parted { ArePartedAt result (map (λ (at : RowPlacesOf). at.number) places.now) }
+    ensures { IsPart most result (map (λ (at : RowPlacesOf). at.number) places.now) }
 {
     if places.len() <= most {
         return places.len();
@@ -55,8 +51,8 @@ fn counts_of(alloc: Global, places: &[RowPlaces], most: usize) -> Result<Vec<usi
     Ok(counts)
 }
 
-/// How many rows each part of a chain has, for parts of at most `rows` rows (or two, where that is one): no swap has its legs in two
-/// parts. Asks memory.
+/// How many rows each part of a chain has: as many as can be, but at most `rows`, or two that are a swap where that is
+/// one. No swap has its legs in two parts. Asks memory.
 pub fn chained(alloc: Global, script: &Script, rows: usize) -> Result<Vec<usize>, NoMemory>
     requires { 0 < rows }
     ensures { IfOk result (λ counts. AreCutBy rows counts.items (numbers_of script.now.rows)) }

@@ -1,7 +1,8 @@
 //! Labels of markets and wallets, made one where rows join them.
 
 ghost use Rattle.std.specs.Prelude.{◌≡◌, All, length, map};
-ghost use Rattle.dex_parts.specs.Joins.{IsWithin, all_joined, joined, leg_links, links_of, relabelled, role_links, row_links};
+ghost use Rattle.dex_parts.specs.Joins.{IsWithin, all_joined, joined, leg_links, links_of, relabelled};
+ghost use Rattle.dex_parts.specs.Joins.{role_links, row_links};
 
 use dex_types::RowPlaces;
 

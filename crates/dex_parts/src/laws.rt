@@ -1,14 +1,9 @@
 //! Laws of scripts in parts. Each is a function without a body, and its clauses are the law.
 
-ghost use Rattle.std.specs.Prelude.{◌≡◌, ◌++◌, ◌∷◌, ◌<◌, ◌↔◌, ℕ, List, All, map};
-ghost use Rattle.std.specs.List.{AllPairs, Contains, filter};
+ghost use Rattle.std.specs.Prelude.{◌≡◌, ◌++◌, ◌∷◌, ◌<◌, ℕ, List, All, map};
+ghost use Rattle.std.specs.List.{AllPairs};
 ghost use Rattle.dex_types.specs.declared.addresses.Address.{Address};
 ghost use Rattle.dex_types.specs.Accounts.{PlainAccount, PlainAccounts, PlainMarketAccounts};
-ghost use Rattle.dex_audit.specs.Findings.{told};
-ghost use Rattle.dex_audit.specs.Supplies.{supply_off};
-ghost use Rattle.dex_audit_rules.specs.Funds.{differs};
-ghost use Rattle.dex_audit_rules.specs.declared.finding.Finding.{Finding};
-ghost use Rattle.dex_audit_rules.specs.declared.market.Rule.{Rule};
 ghost use Rattle.dex_world.specs.Items.{Item, fold_items, items_of};
 ghost use Rattle.dex_world.specs.World.{World};
 ghost use Rattle.dex_state.specs.Conserved.{held_of};
@@ -17,20 +12,17 @@ ghost use Rattle.dex_script_types.specs.PlainScript.{PlainScript};
 ghost use Rattle.dex_replay.specs.Acting.{NeverFalls};
 ghost use Rattle.dex_replay.specs.Alike.{AreAlike};
 ghost use Rattle.dex_replay.specs.Replays.{IsLeftIn, IsReplayOf, world_after};
-ghost use Rattle.dex_replay.specs.WorthTold.{PlainWorthRow, table_told};
-ghost use Rattle.dex_token.specs.MintAccount.{mint_words};
-ghost use Rattle.dex_parts.specs.Audits.{IsFoundIn};
 ghost use Rattle.dex_parts.specs.Chains.{AreLinked, AreTwoParts, IsChainOf, outcome_behind, outcomes_behind};
 ghost use Rattle.dex_parts.specs.Cuts.{AreCutBy, numbers_of, parts_by};
 ghost use Rattle.dex_parts.specs.Numbered.{KeepsApart, outcome_with, script_with};
 ghost use Rattle.dex_parts.specs.Shards.{FallsInto, IsItemOfOneShard, IsLeftInShard, IsShardOf, Sharding};
-ghost use Rattle.dex_parts.specs.Shards.{accounts_in, has_market, items_in, sum_over, world_in};
+ghost use Rattle.dex_parts.specs.Shards.{accounts_in, items_in, sum_over, world_in};
 ghost use Rattle.dex_parts.specs.Together.{bare_world, world_behind};
 
 use dex_replay::laws::a_script_has_one_replay;
 
-/// Items that act behind others leave the markets and wallets that they leave by themselves, and each journal goes on behind the
-/// one that was there: so it makes no difference where rows are cut into parts.
+/// Items that act behind others leave the markets and wallets that they leave by themselves, and each journal goes on
+/// behind the one that was there: so it makes no difference where rows are cut into parts.
 pub fn items_behind_others_act_as_by_themselves()
     ensures cut { (items later : List Item) (world : World)
         → fold_items (items ++ later) world ≡ fold_items later (fold_items items world) }
@@ -38,9 +30,9 @@ pub fn items_behind_others_act_as_by_themselves()
         → fold_items items world ≡ world_behind world (fold_items items (bare_world world)) }
 {}
 
-/// A script in parts, each of which starts with the accounts that the part before left, under the same program, is one replay: the
-/// journals of the parts, each behind those before, and the accounts of the last part. Two of its replays are alike, so it makes no
-/// difference where it is cut.
+/// A script in parts, each of which starts with the accounts that the part before left, under the same program, is one
+/// replay: the journals of the parts, each behind those before, and the accounts of the last part. Two of its replays
+/// are alike, so it makes no difference where it is cut.
 pub fn a_chain_is_one_replay()
     ensures two { (script first second : PlainScript) (one two : PlainOutcome)
         → AreTwoParts script first one second → IsReplayOf first one → IsReplayOf second two
@@ -61,8 +53,9 @@ pub fn rows_counted_anew_leave_the_same()
         → IsReplayOf script outcome → IsReplayOf (script_with number script) (outcome_with number outcome) }
 {}
 
-/// A script that falls into shards is these shards: a replay of a shard leaves what the whole leaves of the shard's markets and wallets,
-/// also where the whole has more rows, markets or wallets than a script may have. So shards may be replayed apart.
+/// A script that falls into shards is these shards: a replay of a shard leaves what the whole leaves of the shard's
+/// markets and wallets, also where the whole has more rows, markets or wallets than a script may have. So shards may be
+/// replayed apart.
 pub fn shards_are_the_whole()
     ensures world { (sharding : Sharding) (shard : ℕ) (items : List Item) (world : World)
         → All (IsItemOfOneShard sharding) items
@@ -76,14 +69,10 @@ pub fn shards_are_the_whole()
         → FallsInto sharding script → (shard : ℕ) (part : PlainScript) (all left : PlainOutcome)
         → IsShardOf sharding shard script part → IsReplayOf script all → IsReplayOf part left
         → IsLeftInShard sharding shard all left }
-    ensures worth { (sharding : Sharding) (script : PlainScript) → AllPairs NeverFalls script.rows
-        → FallsInto sharding script → (shard : ℕ) (part : PlainScript) (all left : PlainOutcome)
-        → IsShardOf sharding shard script part → IsReplayOf script all → IsReplayOf part left
-        → table_told part left
-        ≡ filter (λ (row : PlainWorthRow). has_market sharding shard row.market) (table_told script all) }
 {}
 
-/// What wallets and vaults hold of a mint is the sum of what they hold in the shards: a mint's supply is of all shards together.
+/// What wallets and vaults hold of a mint is the sum of what they hold in the shards: a mint's supply is of all shards
+/// together.
 pub fn shards_hold_together_what_the_whole_holds()
     ensures { (sharding : Sharding) (count : ℕ) (accounts : PlainAccounts)
         → All (λ (market : PlainMarketAccounts). sharding.market market.address < count) accounts.markets
@@ -92,25 +81,13 @@ pub fn shards_hold_together_what_the_whole_holds()
         ≡ sum_over count (λ (shard : ℕ). held_of mint (accounts_in sharding shard accounts)) }
 {}
 
-/// A script that is cut so (`chained`) is a chain: whatever parts have these rows, each from where the one before ends, under the script's
-/// program.
+/// A script that is cut so (`chained`) is a chain: whatever parts have these rows, each from where the one before ends,
+/// under the script's program. There is one way to cut it so.
 pub fn a_script_that_is_cut_is_a_chain()
-    ensures { (most : ℕ) (counts : List ℕ) (script : PlainScript) (parts : List PlainScript)
+    ensures chain { (most : ℕ) (counts : List ℕ) (script : PlainScript) (parts : List PlainScript)
         → (outcomes : List PlainOutcome) → AreCutBy most counts (numbers_of script.rows)
         → map (λ (part : PlainScript). part.rows) parts ≡ parts_by counts script.rows
-        → AreLinked script.program script.start parts outcomes → IsChainOf script parts outcomes }
-{}
-
-/// What an audit finds of markets, by each of its rules, it finds in their shards; and what it compares a mint's supply with is what
-/// all shards hold together.
-pub fn an_audit_finds_in_shards_what_it_finds_in_all()
-    ensures markets { (sharding : Sharding) (count : ℕ) (rule : Rule) (markets : List PlainMarketAccounts)
-        → All (λ (market : PlainMarketAccounts). sharding.market market.address < count) markets
-        → (finding : Finding) → Contains (told rule markets) finding ↔ IsFoundIn sharding count rule markets finding }
-    ensures mints { (sharding : Sharding) (count : ℕ) (accounts : PlainAccounts)
-        → All (λ (market : PlainMarketAccounts). sharding.market market.address < count) accounts.markets
-        → All (λ (wallet : PlainAccount). sharding.wallet wallet.address < count) accounts.wallets
-        → (mint : PlainAccount) → supply_off accounts mint
-        ≡ differs 12 mint.address 36 (mint_words mint.bytes).supply
-        (sum_over count (λ (shard : ℕ). held_of mint.address (accounts_in sharding shard accounts))) }
+        → AreLinked script.limits script.program script.start parts outcomes → IsChainOf script parts outcomes }
+    ensures one { (most : ℕ) (counts others numbers : List ℕ) → 0 < most → AreCutBy most counts numbers
+        → AreCutBy most others numbers → counts ≡ others }
 {}

@@ -1,5 +1,5 @@
-//! A script in parts: chains, whose parts follow each other, and shards, which share no market and no wallet. What the parts leave is
-//! what the whole leaves.
+//! A script in parts: chains, whose parts follow each other, and shards, which share no market and no wallet. What the
+//! parts leave is what the whole leaves.
 #![tactic(auto)]
 
 mod chains;

@@ -11,8 +11,8 @@ use dex_script_types::Script;
 use dex_types::{NoMemory, RowPlaces};
 use std::alloc::Global;
 
-/// The shard of each market, wallet and row of a script. A shard is named by the place of its first market. Rows of different shards
-/// share no market and no wallet.
+/// The shard of each market, wallet and row of a script. A shard is named by the place of its first market. Rows of
+/// different shards share no market and no wallet.
 #[derive(Debug, Drop)]
 pub struct Shards {
     /// Of each market, in declared order.
@@ -78,7 +78,8 @@ fn shards_of_rows(
     Ok(shards)
 }
 
-/// The labels of so many markets, and of so many wallets behind them, where rows at these places join them. Asks memory.
+/// The labels of so many markets, and of so many wallets behind them, where rows at these places join them. Asks
+/// memory.
 fn labels_among(
     alloc: Global,
     markets: u16,

@@ -32,7 +32,7 @@ module _ (script : PlainScript) (cells : CellsState) (own : AreOfScript script c
     wallet_journals = map-map wallet_journal_in (λ (journal : PlainWalletJournal). journal.address) cells.wallets ∙ wallet-addresses script cells own;
   }
 
-  pub is-left : (items : List Item) → AreAccepted script.start → world_of cells ≡ world_after script items → IsLeftBy script items (closed cells)
+  pub is-left : (items : List Item) → AreAccepted script.limits script.start → world_of cells ≡ world_after script items → IsLeftBy script items (closed cells)
   is-left items accepted ended =
       let last : World = world_after script items in
       let end_markets : map market_state_of cells.markets ≡ last.markets = ap (λ (world : World). world.markets) ended in

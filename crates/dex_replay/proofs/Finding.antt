@@ -8,6 +8,7 @@ use Rattle.dex_types.specs.Addresses.{is_same}
 use Rattle.dex_types.specs.Rows.{PlainRow}
 use Rattle.dex_laws.proofs.TraderLaws.{is_same-refl}
 use Rattle.dex_state.specs.Addresses.{address_of, all_of_market, times}
+use Rattle.dex_types.specs.declared.limits.Limits.{Limits}
 use Rattle.dex_state.specs.Accepted.{AreAccepted}
 use Rattle.dex_state.proofs.Times.{times-append, times-cons}
 use Rattle.dex_script_types.specs.Facts.{AreLegs}
@@ -54,7 +55,7 @@ module _ {Y : Type 0} (told : PlainRow → Y) (row : PlainRow) where
 -- ---- a wallet
 
 -- of accepted accounts no address is that of two wallets
-pub wallets-once : (accounts : PlainAccounts) → AreAccepted accounts → (address : Address) → times address (map address_of accounts.wallets) ≤ 1
+pub wallets-once : {limits : Limits} (accounts : PlainAccounts) → AreAccepted limits accounts → (address : Address) → times address (map address_of accounts.wallets) ≤ 1
 wallets-once accounts accepted address =
     omega (
       arith,

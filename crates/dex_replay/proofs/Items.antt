@@ -79,7 +79,7 @@ record HaveRun (script : PlainScript) (before : World) (any : Bool) (rows : List
   replied : All (IsReplied before any) told
   run : IsRun script (done ++ told) (fold (map (done_in before any) rows) world)
 
-module _ (script : PlainScript) (start : IsStart script.start) (before : World) (any : Bool) where
+module _ (script : PlainScript) (start : IsStart script.limits script.start) (before : World) (any : Bool) where
   -- a row that is looked at in the world before the item is refused there as now
   abbrev IsStill : World → PlainRow → Type 0
   IsStill world row = why_in world row ≡ why_in before row
@@ -150,7 +150,7 @@ pub record IsSettled (all : List RowReply) (item : Item) : Type 0 where
   pub inside : All (Contains all) told
   pub held : All (IsHeldRight told) told
 
-module _ (script : PlainScript) (start : IsStart script.start) (done : List RowReply) (world : World) (run : IsRun script done world) where
+module _ (script : PlainScript) (start : IsStart script.limits script.start) (done : List RowReply) (world : World) (run : IsRun script done world) where
   -- of more rows than one each is a leg, and so a take, unless it is refused
   pub take-or-refused : (row : PlainRow) → IsRowOf script.start row → IsLeg row → is_some (why_in world row) ≡ false → is_take (decoded row.bytes) ≡ true
   take-or-refused row fits leg spared =
@@ -207,7 +207,7 @@ pub record HaveAllRun (script : PlainScript) (items : List Item) (done : List Ro
   pub settled : All (IsSettled told) items
   pub run : IsRun script (done ++ told) (fold_items items world)
 
-pub items-run : (script : PlainScript) → IsStart script.start → (items : List Item) (done : List RowReply) (world : World)
+pub items-run : (script : PlainScript) → IsStart script.limits script.start → (items : List Item) (done : List RowReply) (world : World)
     → All (λ (item : Item). IsItemIn script item.first.lane item) items → IsRun script done world → HaveAllRun script items done world
 items-run script start [] done world are run = record {
   told = [];

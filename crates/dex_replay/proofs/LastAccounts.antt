@@ -1,6 +1,7 @@
 -- The accounts that cells leave are accepted, as those with which they started.
 use Rattle.std.proofs.Common.{◌≡◌, ℕ, ◌≤◌, List, [], ◌∷◌, ◌++◌, length, map, get_or, Option, Some, None, refl, sym, ap, ◌∙◌, subst, arith}
 use Rattle.dex_world.proofs.Common.{Address, All-map, Call, Listing, Market, PlainAccount, PlainAccounts, PlainMarketAccounts, acted_of, flat_map, flat_map-map, is_same, length-map, list_any, market_after, step-keeps, step_of}
+use Rattle.dex_state.specs.Accepted.{HasFew}
 use Rattle.dex_replay.proofs.Common.{AreAccepted, AreCells, CellState, CellsState, IsAccepted, IsMarketCell, IsWallet, IsWalletCell, MarketCellState, PlainScript, WalletWords, account_in, address_of, addresses_of, all_of_market, balance_of, closed, market_words, wallet_words, wallet_words-with_amount}
 use Rattle.dex_accounts.specs.Decoded.{market_in}
 use Rattle.std.specs.List.{All}
@@ -82,7 +83,7 @@ module _ (script : PlainScript) (cells : CellsState) (own : AreOfScript script c
       ∙ ap (λ (second : List Address). map address_of script.start.mints ++ (second ++ flat_map all_of_market last.markets)) wallets
       ∙ ap (λ (third : List Address). map address_of script.start.mints ++ (map address_of script.start.wallets ++ third)) markets
 
-  few-orders : (cell : MarketCellState) → IsMarketCell cell → length cell.start.orders ≤ 64 → length cell.accounts.orders ≤ 64
+  few-orders : (cell : MarketCellState) → IsMarketCell cell → HasFew script.limits cell.start → HasFew script.limits cell.accounts
   few-orders cell is few =
       let now = length-map cell.accounts.orders address_of in
       let first = length-map cell.start.orders address_of in
@@ -90,7 +91,7 @@ module _ (script : PlainScript) (cells : CellsState) (own : AreOfScript script c
       ap (λ (addresses : List Address). length addresses) is.one_market.orders in
       omega (arith, few, now, first, same)
 
-  module _ (accepted : AreAccepted script.start) where
+  module _ (accepted : AreAccepted script.limits script.start) where
     -- what holds of each market of the start holds of each cell's
     each-start : (P : PlainMarketAccounts → Type 0) → All P script.start.markets → All (λ (cell : MarketCellState). P cell.start) cells.markets
     each-start P all = All-unmap P (λ (cell : MarketCellState). cell.start) cells.markets
@@ -105,11 +106,11 @@ module _ (script : PlainScript) (cells : CellsState) (own : AreOfScript script c
         let equal : ◌≡◌ {A = ℕ} (length (map f xs)) (length ys) = ap (λ zs. length zs) same in
         omega (arith, lengths, equal, most_is)
 
-    pub last-accepted : AreAccepted last
+    pub last-accepted : AreAccepted script.limits last
     last-accepted =
         let markets = each-start (HasMints script.start) accepted.market_mints in
         let wallets = each-wallet (λ (wallet : PlainAccount). IsMintOf script.start (wallet_words wallet.bytes).mint) accepted.wallet_mints in
-        let orders = each-start (λ (market : PlainMarketAccounts). length market.orders ≤ 64) accepted.few_orders in
+        let orders = each-start (HasFew script.limits) accepted.few_orders in
         record {
           mints = subst (λ (some : List PlainAccount). All (λ (mint : PlainAccount). IsMint mint.bytes) some) (sym own.mints) accepted.mints;
           wallets = All-map (λ (wallet : PlainAccount). IsWallet wallet.bytes) account_in cells.wallets (λ k d within. (kept.wallets k d within).accepted);
@@ -123,11 +124,13 @@ module _ (script : PlainScript) (cells : CellsState) (own : AreOfScript script c
           msrm = named script.start.msrm cells.msrm own.msrm accepted.msrm;
           apart = subst (λ (srm : Option Address). AreApart srm cells.msrm) (sym own.srm)
               (subst (λ (msrm : Option Address). AreApart script.start.srm msrm) (sym own.msrm) accepted.apart);
-          few_mints = subst (λ (some : List PlainAccount). length some ≤ 16) (sym own.mints) accepted.few_mints;
-          few_wallets = subst (λ (n : ℕ). n ≤ 256) (sym (length-map cells.wallets account_in)) (few start_account cells.wallets script.start.wallets 256 own.wallets accepted.few_wallets);
-          few_markets = subst (λ (n : ℕ). n ≤ 16) (sym (length-map cells.markets (λ (cell : MarketCellState). cell.accounts)))
-              (few (λ (cell : MarketCellState). cell.start) cells.markets script.start.markets 16 own.markets accepted.few_markets);
-          few_orders = All-map (λ (market : PlainMarketAccounts). length market.orders ≤ 64) (λ (cell : MarketCellState). cell.accounts) cells.markets
+          within = accepted.within;
+          few_mints = subst (λ (some : List PlainAccount). length some ≤ script.limits.mints) (sym own.mints) accepted.few_mints;
+          few_wallets = subst (λ (n : ℕ). n ≤ script.limits.wallets) (sym (length-map cells.wallets account_in))
+              (few start_account cells.wallets script.start.wallets script.limits.wallets own.wallets accepted.few_wallets);
+          few_markets = subst (λ (n : ℕ). n ≤ script.limits.markets) (sym (length-map cells.markets (λ (cell : MarketCellState). cell.accounts)))
+              (few (λ (cell : MarketCellState). cell.start) cells.markets script.start.markets script.limits.markets own.markets accepted.few_markets);
+          few_orders = All-map (HasFew script.limits) (λ (cell : MarketCellState). cell.accounts) cells.markets
               (λ k d within. few-orders (get_or cells.markets k d) (kept.markets k d within) (orders k d within));
         }
       where

@@ -278,7 +278,7 @@ module _ (row : PlainRow) (seen : Seen) (m : Market) (wallets : List WalletState
 
 -- ---- the world
 
-module _ (script : PlainScript) (start : IsStart script.start) (done : List RowReply) (world : World) (run : IsRun script done world) where
+module _ (script : PlainScript) (start : IsStart script.limits script.start) (done : List RowReply) (world : World) (run : IsRun script done world) where
   -- wallets have their addresses, and none stands twice
   pub addresses-kept : map address_in world.wallets ≡ map address_of script.start.wallets
   addresses-kept = zip-map (IsMoved done) address_of address_in (λ first state is. is.address) script.start.wallets world.wallets run.wallets

@@ -43,7 +43,7 @@ pub record IsOfStart (script : PlainScript) (outcome : PlainOutcome) : Type 0 wh
 -- the wallets are as they were but for the amount, which reads as the balance there
 pub record IsLeftIn (script : PlainScript) (world : World) (outcome : PlainOutcome) : Type 0 where
   pub start : IsOfStart script outcome
-  pub accepted : AreAccepted outcome.accounts
+  pub accepted : AreAccepted script.limits outcome.accounts
   pub markets : map (λ (journal : PlainMarketJournal). journal.entries) outcome.markets ≡ map (λ (state : MarketState). state.entries) world.markets
   pub wallets : map (λ (journal : PlainWalletJournal). journal.entries) outcome.wallets ≡ map (λ (state : WalletState). state.entries) world.wallets
   pub stand : AllZip (λ (accounts : PlainMarketAccounts) (state : MarketState). StandsFor accounts state.market)

@@ -32,6 +32,6 @@ pub record IsOneOrderOfRows (script : PlainScript) (outcome : PlainOutcome) : Ty
 -- wallets and the vaults hold its supply together
 pub record IsRunOf (script : PlainScript) (outcome : PlainOutcome) : Type 0 where
   pub lawful : IsLawful script outcome
-  pub accepted : AreAccepted outcome.accounts
+  pub accepted : AreAccepted script.limits outcome.accounts
   pub sound : All AreSound outcome.accounts.markets
   pub conserved : All (IsConserved outcome.accounts) outcome.accounts.mints

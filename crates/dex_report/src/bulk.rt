@@ -63,13 +63,12 @@ fn totals(journals: &[MarketJournal]) -> (u64, u64)
     ensures accepted { result.0 ≡ sum_by summaries.accepted_in (map market_journal_of journals.now) }
     ensures refused { result.1 ≡ sum_by summaries.refused_in (map market_journal_of journals.now) }
 {
-    match journals {
-        [first, second] => (
-            accepted(&first.entries) + accepted(&second.entries),
-            refused(&first.entries) + refused(&second.entries),
-        ),
-        _ => unreachable!(),
-    }
+    let first = &journals[0].entries;
+    let second = &journals[1].entries;
+    (
+        accepted(first) + accepted(second),
+        refused(first) + refused(second),
+    )
 }
 
 fn accepted(entries: &[Entry]) -> u64

@@ -198,6 +198,7 @@ fn put_reply(line: &mut [u8; LINE], reply: Reply, end: usize) -> usize
         }
         Reply::Done => put_word(line, b" ok done", end),
         Reply::Swept(pc) => put_told(line, b" ok swept", pc, end),
+        // By the condition it is none.
         Reply::Refused(_) => unreachable!(),
     }
 }

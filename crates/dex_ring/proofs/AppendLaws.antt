@@ -13,7 +13,7 @@ use Rattle.dex_types.specs.Market.{events_counted}
 use Rattle.dex_types.specs.QueuedEvent.{EventKind, QueuedEvent, decoded_event, encoded_event, flags_of, kind_of, MakerFill, TakerFill, PlainOut, ReleasingOut}
 use Rattle.dex_types.specs.declared.terms.Side.TheVariants.{Bid, Ask}
 
--- the same queue, with these events and this count
+-- a queue with these events and this count
 abbrev with_events : Ring → List QueuedEvent → ℕ → Ring
 with_events ring events count = record ring { events = events; seq_num = count }
 

@@ -20,7 +20,7 @@ rows_from state (Some text) = records_from default_config (length text + 1) stat
 abbrev pub rows_left : Reader (Bor (List ℕ)) → List (List (List ℕ))
 rows_left reader = rows_from (reader_state reader) (text_left reader)
 
--- the same, or none where it is over
+-- the rows that a reader still gives, or none where it is over
 abbrev pub rows_unless : Bool → Reader (Bor (List ℕ)) → List (List (List ℕ))
 rows_unless true reader = []
 rows_unless false reader = rows_left reader

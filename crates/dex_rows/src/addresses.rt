@@ -56,11 +56,7 @@ pub fn read_role(text: &[u8], role: &mut Option<Address>) -> bool
 fn read_wallet(text: &[u8], role: &mut Option<Address>) -> bool
     ensures { IsRead result (option_map Some (address_of text.now)) role.new }
 {
-    *role = Some(Address([0; 32]));
-    match role {
-        Some(address) => read_address(text, address),
-        None => unreachable!(),
-    }
+    read_address(text, role.insert(Address([0; 32])))
 }
 
 /// Whether a word is a label: from 1 to 24 characters of `a` to `z`, `0` to `9` and `_`.

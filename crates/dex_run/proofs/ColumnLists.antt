@@ -15,7 +15,7 @@ none [] empty = refl
 none (x ∷ xs) empty = absurd (omega (arith, empty))
 
 module _ {A B : Type 0} (R : A → B → Type 0) where
-  -- the same of lists that end so
+  -- what holds of two lists side by side holds of their fronts and of their ends
   pub AllZip-ends : (all_xs xs : List A) (all_ys ys : List B) (x : A) (y : B) → AllZip R all_xs all_ys → all_xs ≡ xs ++ x ∷ [] → all_ys ≡ ys ++ y ∷ [] → AllZip R xs ys × R x y
   AllZip-ends all_xs xs all_ys ys x y all ends_x ends_y =
       AllZip-last R xs ys x y (subst (λ zs. AllZip R zs (ys ++ y ∷ [])) ends_x (subst (λ zs. AllZip R all_xs zs) ends_y all))

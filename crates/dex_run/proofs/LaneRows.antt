@@ -1,6 +1,6 @@
 -- The items of a lane, one after the other.
 use Rattle.std.proofs.Common.{◌≡◌, ℕ, zero, suc, ◌+◌, ◌<◌, ◌≤◌, ⊎_elim, nat_eq, drop, length-drop, Bool, cond, List, [], ◌∷◌, ◌++◌, length, get_or, map, take, sym, ap, ◌∙◌, subst, arith}
-use Rattle.dex_world.proofs.Common.{All-cons, All-filter, All-map, All-nil, All-weaker, get_or-map, length-map, PlainAccounts, PlainRow, Row, eq-eqb, filter-append, row_of, rows_of_lane, take_at}
+use Rattle.dex_world.proofs.Common.{All-cons, All-filter, All-map, All-nil, All-weaker, get_or-map, length-map, PlainRow, Row, eq-eqb, filter-append, row_of, rows_of_lane, take_at}
 use Rattle.dex_replay.proofs.Common.{AreLegs, AreRows, PlainScript, lanes_of}
 use Rattle.std.specs.List.{All}
 use Rattle.dex_world.proofs.MappedLists.{same-get}

@@ -106,7 +106,7 @@ firsts-some {E} {O} P next lanes is (start ∷ starts) (gate ∷ gates) all some
     All-cons (λ (pass : PassView E O). pass.next < pass.until) (fresh_pass 0 next gate) (first_passes next gates) (omega (arith, some, is start gate all.0))
     (firsts-some P next lanes is starts gates all.1 some)
 
--- the same of passes that are these
+-- each of the first passes is of its gate
 pub firsts-gates : {E O : Type 0} (next : ℕ) (gates : List (GateView E O)) (passes : List (PassView E O)) → passes ≡ first_passes next gates
     → AllZip (λ gate pass. pass.gate ≡ Some gate) gates passes
 firsts-gates next gates passes is =

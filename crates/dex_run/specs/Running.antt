@@ -27,7 +27,7 @@ pub record CanRun (lanes : Lanes) (seat : SeatState) : Type 0 where
   pub index : IsIndex lanes.rows.now lanes.by_lane.now
   pub within : seat.lane < length lanes.by_lane.now
 
--- the same seat of the bank, when all rows of its lane are done
+-- a seat of the bank when all rows of its lane are done
 pub record HasRun (bank : BankState) (before after : SeatState) : Type 0 where
   pub of_bank : IsSeatOf bank after
   pub lane : after.lane ≡ before.lane

@@ -104,15 +104,13 @@ fn closed(bank: Bank, seats: Vec<LaneSeat>, room: ClosingRoom) -> Outcome
     hand_out_all(&bank, seats, &mut markets.columns, &mut wallets.columns);
     let BankParts {
         mints,
-        srm,
-        msrm,
-        program,
+        terms,
         markets: market_gates,
         wallets: wallet_gates,
     } = bank.into_parts();
     let market_cells = closed_cells(market_gates, markets.columns, markets.cells);
     let wallet_cells = closed_cells(wallet_gates, wallets.columns, wallets.cells);
-    Cells::of(mints, srm, msrm, market_cells, wallet_cells, program).close_into(left)
+    Cells::of(mints, terms, market_cells, wallet_cells).close_into(left)
 }
 
 /// What lanes leave when their rows are done is what all items leave one after the other, in some order that keeps the

@@ -52,6 +52,7 @@ pub(crate) fn closed_cells<V: OfCell + Drop>(
     ensures { AreClosed (IsClosed V.entries V.lane V.origin) V.kept V.gives gates.items columns.items result.items }
 {
     while let Some(gate) = gates.pop() {
+        // There are as many columns as gates.
         let Some(column) = columns.pop() else {
             unreachable!()
         };

@@ -5,6 +5,7 @@ use Rattle.dex_types.specs.declared.addresses.Address.{Address}
 use Rattle.dex_types.specs.declared.terms.Program.{Program}
 use Rattle.dex_types.specs.Rows.{PlainRow}
 use Rattle.dex_rows.specs.Records.{rows_of}
+use Rattle.dex_types.specs.declared.limits.Limits.{Limits}
 use Rattle.dex_dump.specs.Answers.{PlainAnswer, next_number}
 use Rattle.dex_dump.specs.Reading.{is_among}
 use Rattle.dex_audit.specs.Findings.{findings}
@@ -23,12 +24,12 @@ use Rattle.dex_script_types.specs.Facts.{HasNoSwap}
 use Rattle.dex_script.specs.Drafts.{PlainDraft, behind_dump, no_rows}
 use Rattle.dex_script.specs.Known.{is_any_among, made_addresses, mint_at, orders_at}
 use Rattle.dex_script.specs.Rows.{checked_name, checked_new, exceeds_market, exceeds_row, instruction_row, is_full, is_unknown, set_of, with_instruction, with_item, with_known, with_market, with_mint, with_msrm, with_orders_row, with_program, with_row, with_srm, with_statement, with_wallet}
-use Rattle.dex_script.specs.Scripts.{AnswersBy, Reads, Refusal, begins_with_dump, behind, draft_after, fault_in, script_from, unless_found}
+use Rattle.dex_script.specs.Scripts.{AnswersBy, ReadsWithin, Refusal, begins_with_dump, behind, draft_after, fault_in, script_from, unless_found}
 use Rattle.dex_script.proofs.FaultLaws.{bind-ok, differ, no-error, ok-same}
 use Rattle.dex_script.proofs.ItemRows.{IsSwapRow, first_leg, second_leg, swap-row}
 use Rattle.dex_script.proofs.OrderLaws.{by-row, first-row, last_script, through}
 
--- the same draft of a script for another command
+-- a draft as it is for another command
 abbrev other_use : Bool → PlainDraft → PlainDraft
 other_use use_batch draft = record draft { batch = use_batch }
 
@@ -57,7 +58,7 @@ module _ (b : Bool) (draft : PlainDraft) where
 
   mint-other : (address : Address) (decimals : ℕ) → with_mint (other_use b draft) address decimals ≡ other_left b (with_mint draft address decimals)
   unfolding with_mint checked_new
-  mint-other address decimals = bind-other b (checked_new draft (is_among address draft.taken) (nat_le 16 (length draft.script.start.mints))) _ _ (λ _. refl)
+  mint-other address decimals = bind-other b (checked_new draft (is_among address draft.taken) (nat_le draft.script.limits.mints (length draft.script.start.mints))) _ _ (λ _. refl)
 
   srm-other : (mint : Address) → with_srm (other_use b draft) mint ≡ other_left b (with_srm draft mint)
   unfolding with_srm checked_name
@@ -72,13 +73,13 @@ module _ (b : Bool) (draft : PlainDraft) where
   unfolding with_wallet checked_new
   wallet-other address mint owner amount =
       bind-other b (found_or (mint_at mint draft.script.start.mints) UnknownLabel) _ _ (λ words.
-      bind-other b (checked_new draft (is_among address draft.taken) (nat_le 256 (length draft.script.start.wallets))) _ _ (λ _.
+      bind-other b (checked_new draft (is_among address draft.taken) (nat_le draft.script.limits.wallets (length draft.script.start.wallets))) _ _ (λ _.
       unless-other b (nat_le (2 ^ 64) (words.supply + amount)) _ _ _ refl))
 
   market-other : (words : PlainMarketWords) → with_market (other_use b draft) words ≡ other_left b (with_market draft words)
   unfolding with_market checked_new
   market-other words =
-      let full = nat_le 16 (length draft.script.start.markets) || exceeds_market words in
+      let full = nat_le draft.script.limits.markets (length draft.script.start.markets) || exceeds_market words in
       unless-other b (not (has_account words.coin draft.script.start.mints) || not (has_account words.pc draft.script.start.mints)) _ _ _
       (bind-other b (checked_new draft (is_any_among (made_addresses words.address) draft.taken) full) _ _ (λ _. bind-other b (set_of words) _ _ (λ set. refl)))
 
@@ -86,7 +87,7 @@ module _ (b : Bool) (draft : PlainDraft) where
   unfolding with_orders_row checked_new
   orders-other market address =
       bind-other b (found_or (orders_at market draft.script.start.markets) UnknownLabel) _ _ (λ count.
-      bind-other b (checked_new draft (is_among address draft.taken) (nat_le 64 count)) _ _ (λ _. refl))
+      bind-other b (checked_new draft (is_among address draft.taken) (nat_le draft.script.limits.orders count)) _ _ (λ _. refl))
 
   instruction-other : (number : ℕ) (words : PlainInstruction)
       → with_instruction (other_use b draft) number words ≡ other_left b (with_instruction draft number words)
@@ -198,21 +199,22 @@ unless-none : (found : List Finding) (next other : Result PlainScript Refusal) (
 unless-none [] next other script same is = same is
 unless-none (finding ∷ found) next other script same is = absurd (no-error _ script (sym is))
 
-from-dump : (batch b : Bool) (dump : PlainAnswer) (script : PlainScript) → (batch ≡ true) ⊎ HasNoSwap script.rows → Ok script ≡ behind batch dump
-    → Ok script ≡ behind b dump
-from-dump batch b (Err fault) script quiet is = absurd (no-error _ script (sym is))
-from-dump batch b (Ok dump) script quiet is =
-    unless-none (findings dump.accounts) (script_from (behind_dump batch dump.accounts) (next_number dump.count) dump.behind)
-    (script_from (behind_dump b dump.accounts) (next_number dump.count) dump.behind) script
-    (from-rows b (next_number dump.count) (behind_dump batch dump.accounts) dump.behind script quiet) is
+from-dump : (limits : Limits) (batch b : Bool) (dump : PlainAnswer) (script : PlainScript) → (batch ≡ true) ⊎ HasNoSwap script.rows → Ok script ≡ behind limits batch dump
+    → Ok script ≡ behind limits b dump
+from-dump limits batch b (Err fault) script quiet is = absurd (no-error _ script (sym is))
+from-dump limits batch b (Ok dump) script quiet is =
+    unless-none (findings dump.accounts) (script_from (behind_dump limits batch dump.accounts) (next_number dump.count) dump.behind)
+    (script_from (behind_dump limits b dump.accounts) (next_number dump.count) dump.behind) script
+    (from-rows b (next_number dump.count) (behind_dump limits batch dump.accounts) dump.behind script quiet) is
 
-by-answer : (batch b begins : Bool) (rows : List Fields) (script : PlainScript) → (batch ≡ true) ⊎ HasNoSwap script.rows
-    → AnswersBy batch begins rows (Ok script) → AnswersBy b begins rows (Ok script)
-by-answer batch b true rows script quiet told = (told.0, told.1, from-dump batch b told.0 script quiet told.2)
-by-answer batch b false rows script quiet is = from-rows b 1 (no_rows batch) rows script quiet is
+by-answer : (limits : Limits) (batch b begins : Bool) (rows : List Fields) (script : PlainScript) → (batch ≡ true) ⊎ HasNoSwap script.rows
+    → AnswersBy limits batch begins rows (Ok script) → AnswersBy limits b begins rows (Ok script)
+by-answer limits batch b true rows script quiet told = (told.0, told.1, from-dump limits batch b told.0 script quiet told.2)
+by-answer limits batch b false rows script quiet is = from-rows b 1 (no_rows limits batch) rows script quiet is
 
-pub read-listed : (text : List ℕ) (script : PlainScript) → Reads true text script → Reads false text script
-read-listed text script reads = by-answer true false (begins_with_dump (rows_of text)) (rows_of text) script (inl refl) reads
+pub read-listed : (limits : Limits) (text : List ℕ) (script : PlainScript) → ReadsWithin limits true text script → ReadsWithin limits false text script
+read-listed limits text script reads = by-answer limits true false (begins_with_dump (rows_of text)) (rows_of text) script (inl refl) reads
 
-pub read-batch : (text : List ℕ) (script : PlainScript) → Reads false text script → HasNoSwap script.rows → Reads true text script
-read-batch text script reads none = by-answer false true (begins_with_dump (rows_of text)) (rows_of text) script (inr none) reads
+pub read-batch : (limits : Limits) (text : List ℕ) (script : PlainScript) → ReadsWithin limits false text script → HasNoSwap script.rows
+    → ReadsWithin limits true text script
+read-batch limits text script reads none = by-answer limits false true (begins_with_dump (rows_of text)) (rows_of text) script (inr none) reads

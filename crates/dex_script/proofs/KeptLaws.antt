@@ -28,14 +28,15 @@ pub record Kept (before after : PlainDraft) : Type 0 where
   pub items : after.items ≡ before.items
   pub batch : after.batch ≡ before.batch
   pub late : after.is_late ≡ before.is_late
+  pub limits : after.script.limits ≡ before.script.limits
   pub start : before.is_late ≡ true → after.script.start ≡ before.script.start
-  pub few : AreFew before.script.start → AreFew after.script.start
+  pub few : AreFew before.script.limits before.script.start → AreFew after.script.limits after.script.start
 
 declared : (draft : PlainDraft) (new : List Address) (start : PlainAccounts) (after : PlainDraft) → Declares draft new start after
-    → (AreFew draft.script.start → AreFew start) → Kept draft after
+    → (AreFew draft.script.limits draft.script.start → AreFew draft.script.limits start) → Kept draft after
 declared draft new start after row few =
     subst (Kept draft) row.leaves
-    (record { rows = refl; lanes = refl; items = refl; batch = refl; late = refl; start = λ late. absurd (differ (sym late ∙ row.early)); few = few })
+    (record { rows = refl; lanes = refl; items = refl; batch = refl; late = refl; limits = refl; start = λ late. absurd (differ (sym late ∙ row.early)); few = few })
 
 module _ (draft : PlainDraft) (after : PlainDraft) where
   -- a row that chooses the program or sets the clock leaves the accounts, and what is taken
@@ -50,33 +51,34 @@ module _ (draft : PlainDraft) (after : PlainDraft) where
   clock-row now is = ok-same (with_clock draft now) after is
 
   pub kept-clock : (now : ℤ) → ◌≡◌ {A = Result PlainDraft FaultKind} (Ok (with_clock draft now)) (Ok after) → Kept draft after
-  kept-clock now is = subst (Kept draft) (clock-row now is) (record { rows = refl; lanes = refl; items = refl; batch = refl; late = refl; start = λ late. refl; few = λ few. few })
+  kept-clock now is = subst (Kept draft) (clock-row now is) (record { rows = refl; lanes = refl; items = refl; batch = refl; late = refl; limits = refl; start = λ late. refl; few = λ few. few })
 
 -- a row that declares accounts or chooses the program
 pub kept-setup : (number : ℕ) (before after : PlainDraft) (statement : Statement) → IsSetup statement
     → with_statement before number statement ≡ Ok after → Kept before after
 kept-setup number before after (row.Program program) setup is =
     subst (Kept before) (program-row before after program is)
-    (record { rows = refl; lanes = refl; items = refl; batch = refl; late = refl; start = λ late. refl; few = λ few. few })
+    (record { rows = refl; lanes = refl; items = refl; batch = refl; late = refl; limits = refl; start = λ late. refl; few = λ few. few })
 kept-setup number before after (row.Clock now) setup is = absurd setup
 kept-setup number before after (row.Mint address decimals) setup is =
-    declared before _ _ after (mint-row before after address decimals is).declares (λ few. record { markets = few.markets; wallets = few.wallets })
+    declared before _ _ after (mint-row before after address decimals is).declares (λ few. record { within = few.within; markets = few.markets; wallets = few.wallets })
 kept-setup number before after (row.Srm mint) setup is =
-    declared before _ _ after (srm-row before after mint is).1 (λ few. record { markets = few.markets; wallets = few.wallets })
+    declared before _ _ after (srm-row before after mint is).1 (λ few. record { within = few.within; markets = few.markets; wallets = few.wallets })
 kept-setup number before after (row.Msrm mint) setup is =
-    declared before _ _ after (msrm-row before after mint is).1 (λ few. record { markets = few.markets; wallets = few.wallets })
+    declared before _ _ after (msrm-row before after mint is).1 (λ few. record { within = few.within; markets = few.markets; wallets = few.wallets })
 kept-setup number before after (row.Wallet address mint owner amount) setup is =
     let made = wallet-row before after address mint owner amount is in
     let wallet : PlainAccount = record { address = address; bytes = wallet_bytes mint owner amount } in
     declared before _ _ after made.declares
-    (λ few. record { markets = few.markets; wallets = omega (arith, length-append before.script.start.wallets (wallet ∷ []), made.few) })
+    (λ few. record { within = few.within; markets = few.markets; wallets = omega (arith, length-append before.script.start.wallets (wallet ∷ []), made.few) })
 kept-setup number before after (row.Market words) setup is =
     let made = market-row before after words is in
     declared before _ _ after made.declares
-    (λ few. record { markets = omega (arith, length-append before.script.start.markets (made_accounts made.set ∷ []), made.few); wallets = few.wallets })
+    (λ few. record { within = few.within; markets = omega (arith, length-append before.script.start.markets (made_accounts made.set ∷ []), made.few); wallets = few.wallets })
 kept-setup number before after (row.Orders market address) setup is =
     declared before _ _ after (orders-row before after market address is).declares
     (λ few. record {
+      within = few.within;
       markets = omega (arith, few.markets, length-grown market (blank_account address) before.script.start.markets);
       wallets = few.wallets;
     })

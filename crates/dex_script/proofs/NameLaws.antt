@@ -169,6 +169,6 @@ module _ (start : PlainAccounts) (parties : PlainParties) where
         referrer = role-at start.wallets parties.referrer places.referrer are.referrer;
       }
 
-  -- the same of accounts that are these
+  -- names stand in accounts that are these
   pub stand-in : (other : PlainAccounts) (places : Stand) → other ≡ start → places_of start parties ≡ Some places → StandAt other parties places
   stand-in other places same is = subst (λ (s : PlainAccounts). StandAt s parties places) (sym same) (stand places is)

@@ -7,6 +7,8 @@ use Rattle.std.proofs.lemmas.List.Quantifiers.{all_pairs_push}
 use Rattle.dex_types.specs.Accounts.{PlainAccounts}
 use Rattle.dex_types.specs.Rows.{PlainRow}
 use Rattle.dex_rows.specs.Records.{rows_of}
+use Rattle.dex_types.specs.declared.limits.Limits.{Limits}
+use Rattle.dex_types.specs.Limits.{AreLimits}
 use Rattle.dex_state.specs.Accepted.{AreAccepted}
 use Rattle.dex_state.specs.Held.{HoldBytes}
 use Rattle.dex_dump.specs.Answers.{AnswersDump, PlainAnswer, next_number}
@@ -25,7 +27,7 @@ use Rattle.dex_script_types.specs.Facts.{AreLegs, AreRows, HasNoSwap, IsRowOf, l
 use Rattle.dex_script_types.specs.Known.{has_market, is_known_role}
 use Rattle.dex_script.specs.Drafts.{PlainDraft, behind_dump, no_rows}
 use Rattle.dex_script.specs.Rows.{exceeds_row, instruction_row, is_full, is_unknown, with_item, with_row, with_statement}
-use Rattle.dex_script.specs.Scripts.{AnswersBy, Reads, Refusal, begins_with_dump, behind, draft_after, fault_in, script_from, unless_found}
+use Rattle.dex_script.specs.Scripts.{AnswersBy, ReadsWithin, Refusal, begins_with_dump, behind, draft_after, fault_in, script_from, unless_found}
 use Rattle.dex_script.proofs.FaultLaws.{bind-ok, differ, no-error, ok-same, or-none}
 use Rattle.dex_script.proofs.ItemRows.{IsOneRow, IsSwapRow, first_leg, instruction-row, second_leg, swap-row}
 use Rattle.dex_script.proofs.KeptLaws.{Kept, kept-clock, kept-setup}
@@ -112,8 +114,8 @@ pub item-good : (number : ℕ) (draft : PlainDraft) (first : PlainRow) (others :
 item-good number draft first others lane good free same order lanes single =
     let rows = draft.script.rows in
     let more = first ∷ others in
-    let room = or-none (nat_le 100000 draft.items) (number == 2 ^ 32 - 1) free in
-    let space : draft.items < 100000 = leb-false 100000 draft.items room.0 in
+    let room = or-none (nat_le draft.script.limits.items draft.items) (number == 2 ^ 32 - 1) free in
+    let space : draft.items < draft.script.limits.items = leb-false draft.script.limits.items draft.items room.0 in
     let other : number ≡ 2 ^ 32 - 1 → ⊥ = eqb-false number (2 ^ 32 - 1) room.1 in
     let next : next_number number ≡ number + 1 = omega (arith, other, good.small) in
     let items : length (items_of (rows ++ more)) ≡ length (items_of rows) + 1 = items-more rows number first others good.below same in
@@ -168,7 +170,7 @@ empty-rows : (script : PlainScript) → script.rows ≡ [] → script.lanes ≡ 
 empty-rows script none one =
     let order = subst (AreInOrder script.start) (sym none) (no-rows-in-order script.start) in
     record {
-      few = subst (λ (rows : List PlainRow). length (items_of rows) ≤ 100000) (sym none) (omega arith);
+      few = subst (λ (rows : List PlainRow). length (items_of rows) ≤ script.limits.items) (sym none) (omega arith);
       each = order.each;
       rising = order.rising;
       legs = order.legs;
@@ -176,11 +178,13 @@ empty-rows script none one =
       lanes = one ∙ sym (ap lanes_of none);
     }
 
-same-rows : (before after : PlainScript) → after.rows ≡ before.rows → after.lanes ≡ before.lanes → after.start ≡ before.start → AreRows before → AreRows after
-same-rows before after rows lanes start are =
+same-rows : (before after : PlainScript) → after.rows ≡ before.rows → after.lanes ≡ before.lanes → after.start ≡ before.start
+    → after.limits ≡ before.limits → AreRows before → AreRows after
+same-rows before after rows lanes start limits are =
     let order = subst (λ (s : PlainAccounts). AreInOrder s after.rows) (sym start) (subst (AreInOrder before.start) (sym rows) (in-order before are)) in
     record {
-      few = subst (λ (rs : List PlainRow). length (items_of rs) ≤ 100000) (sym rows) are.few;
+      few = subst (λ (l : Limits). length (items_of after.rows) ≤ l.items) (sym limits)
+          (subst (λ (rs : List PlainRow). length (items_of rs) ≤ before.limits.items) (sym rows) are.few);
       each = order.each;
       rising = order.rising;
       legs = order.legs;
@@ -192,7 +196,7 @@ kept-good : (number : ℕ) (before after : PlainDraft) → IsGood number before 
 kept-good number before after good kept = by before.is_late refl
   where
     rows_now : (late : Bool) → before.is_late ≡ late → AreRows after.script
-    rows_now true is = same-rows before.script after.script kept.rows kept.lanes (kept.start is) good.rows
+    rows_now true is = same-rows before.script after.script kept.rows kept.lanes (kept.start is) kept.limits good.rows
     rows_now false is =
         let none = good.quiet is in
         empty-rows after.script (kept.rows ∙ none) (kept.lanes ∙ good.rows.lanes ∙ ap lanes_of none)
@@ -248,6 +252,7 @@ through P step number before last (fields ∷ rows) holds is =
 record Goes (first : PlainDraft) (number : ℕ) (draft : PlainDraft) : Type 0 where
   pub good : IsGood number draft
   pub start : first.is_late ≡ true → draft.script.start ≡ first.script.start
+  pub limits : draft.script.limits ≡ first.script.limits
   pub late : first.is_late ≡ true → draft.is_late ≡ true
   pub batch : draft.batch ≡ first.batch
 
@@ -256,6 +261,7 @@ module _ (first : PlainDraft) (number : ℕ) (before after : PlainDraft) (goes :
   by-kept kept = record {
     good = kept-good number before after goes.good kept;
     start = λ is. kept.start (goes.late is) ∙ goes.start is;
+    limits = kept.limits ∙ goes.limits;
     late = λ is. kept.late ∙ goes.late is;
     batch = kept.batch ∙ goes.batch;
   }
@@ -265,6 +271,7 @@ module _ (first : PlainDraft) (number : ℕ) (before after : PlainDraft) (goes :
   by-item rows lane is good = record {
     good = good;
     start = λ late. sym (ap (λ (d : PlainDraft). d.script.start) is) ∙ goes.start late;
+    limits = sym (ap (λ (d : PlainDraft). d.script.limits) is) ∙ goes.limits;
     late = λ _. sym (ap (λ (d : PlainDraft). d.is_late) is);
     batch = sym (ap (λ (d : PlainDraft). d.batch) is) ∙ goes.batch;
   }
@@ -295,22 +302,24 @@ last_script last = Ok last.script
 pub record Gives (draft : PlainDraft) (script : PlainScript) : Type 0 where
   pub rows : AreRows script
   pub start : draft.is_late ≡ true → script.start ≡ draft.script.start
+  pub limits : script.limits ≡ draft.script.limits
   pub single : draft.batch ≡ true → HasNoSwap script.rows
 
 pub from-rows : (number : ℕ) (draft : PlainDraft) (rows : List Fields) (script : PlainScript) → IsGood number draft
     → Ok script ≡ script_from draft number rows → Gives draft script
 from-rows number draft rows script good is =
     let a = bind-ok (draft_after draft number rows) last_script script (sym is) in
-    let before : Goes draft number draft = record { good = good; start = λ _. refl; late = λ late. late; batch = refl } in
+    let before : Goes draft number draft = record { good = good; start = λ _. refl; limits = refl; late = λ late. late; batch = refl } in
     let ends = (through (Goes draft) (λ n b d fields goes. goes-row draft n b d goes fields) number draft a.0 rows before a.1).1 in
     subst (Gives draft) (ok-same {E = Refusal} a.0.script script a.2)
-    (record { rows = ends.good.rows; start = ends.start; single = λ batch. ends.good.single (ends.batch ∙ batch) })
+    (record { rows = ends.good.rows; start = ends.start; limits = ends.limits; single = λ batch. ends.good.single (ends.batch ∙ batch) })
 
 -- what a dump and the rows after it give
-pub record StartsWith (batch : Bool) (script : PlainScript) : Type 0 where
+pub record StartsWith (limits : Limits) (batch : Bool) (script : PlainScript) : Type 0 where
+  pub limits_are : script.limits ≡ limits
   pub rows : AreRows script
   pub single : batch ≡ true → HasNoSwap script.rows
-  pub accepted : AreAccepted script.start
+  pub accepted : AreAccepted script.limits script.start
   pub held : HoldBytes script.start
   pub none : findings script.start ≡ []
 
@@ -318,38 +327,58 @@ none-found : {A : Type 0} (found : List Finding) (next : Result A Refusal) (x : 
 none-found [] next x is = (refl, is)
 none-found (finding ∷ found) next x is = absurd (no-error _ x (sym is))
 
-pub from-dump : (batch : Bool) (rows : List Fields) (dump : PlainAnswer) (script : PlainScript) → AnswersDump rows dump → Ok script ≡ behind batch dump
-    → StartsWith batch script
-from-dump batch rows (Err fault) script told is = absurd (no-error _ script (sym is))
-from-dump batch rows (Ok dump) script told is =
-    let draft = behind_dump batch dump.accounts in
+pub from-dump : (limits : Limits) → AreLimits limits → (batch : Bool) (rows : List Fields) (dump : PlainAnswer) (script : PlainScript)
+    → AnswersDump limits rows dump → Ok script ≡ behind limits batch dump → StartsWith limits batch script
+from-dump limits are batch rows (Err fault) script told is = absurd (no-error _ script (sym is))
+from-dump limits are batch rows (Ok dump) script told is =
+    let draft = behind_dump limits batch dump.accounts in
     let next = script_from draft (next_number dump.count) dump.behind in
     let a = none-found (findings dump.accounts) next script is in
     let b = from-rows (next_number dump.count) draft dump.behind script (first-good (next_number dump.count) draft refl refl refl (omega arith)) a.1 in
     let same : script.start ≡ dump.accounts = b.start refl in
-    let read = dump-read rows dump told in
+    let read = dump-read limits are rows dump told in
     record {
       rows = b.rows;
       single = b.single;
-      accepted = subst AreAccepted (sym same) read.accepted;
+      limits_are = b.limits;
+      accepted = subst (λ (l : Limits). AreAccepted l script.start) (sym b.limits) (subst (AreAccepted limits) (sym same) read.accepted);
       held = subst HoldBytes (sym same) read.held;
       none = subst (λ (accounts : PlainAccounts). findings accounts ≡ []) (sym same) a.0;
     }
 
-by-answer : (batch begins : Bool) (rows : List Fields) (script : PlainScript) → AnswersBy batch begins rows (Ok script)
-    → AreRows script × (batch ≡ true → HasNoSwap script.rows)
-by-answer batch true rows script told = let starts = from-dump batch rows told.0 script told.1 told.2 in (starts.rows, starts.single)
-by-answer batch false rows script is =
-    let gives = from-rows 1 (no_rows batch) rows script (first-good 1 (no_rows batch) refl refl refl (omega arith)) is in (gives.rows, gives.single)
+-- what holds of every script within limits
+record IsRead (limits : Limits) (batch : Bool) (script : PlainScript) : Type 0 where
+  rows : AreRows script
+  single : batch ≡ true → HasNoSwap script.rows
+  limits_are : script.limits ≡ limits
 
-pub read-rows : (batch : Bool) (text : List ℕ) (script : PlainScript) → Reads batch text script → AreRows script
-read-rows batch text script reads = (by-answer batch (begins_with_dump (rows_of text)) (rows_of text) script reads).0
+behind-read : (limits : Limits) (batch : Bool) (dump : PlainAnswer) (script : PlainScript) → Ok script ≡ behind limits batch dump → IsRead limits batch script
+behind-read limits batch (Err fault) script is = absurd (no-error _ script (sym is))
+behind-read limits batch (Ok dump) script is =
+    let draft = behind_dump limits batch dump.accounts in
+    let a = none-found (findings dump.accounts) (script_from draft (next_number dump.count) dump.behind) script is in
+    let gives = from-rows (next_number dump.count) draft dump.behind script (first-good (next_number dump.count) draft refl refl refl (omega arith)) a.1 in
+    record { rows = gives.rows; single = gives.single; limits_are = gives.limits }
 
-pub read-apart : (text : List ℕ) (script : PlainScript) → Reads true text script → HasNoSwap script.rows
-read-apart text script reads = (by-answer true (begins_with_dump (rows_of text)) (rows_of text) script reads).1 refl
+by-answer : (limits : Limits) (batch begins : Bool) (rows : List Fields) (script : PlainScript) → AnswersBy limits batch begins rows (Ok script)
+    → IsRead limits batch script
+by-answer limits batch true rows script told = behind-read limits batch told.0 script told.2
+by-answer limits batch false rows script is =
+    let none = no_rows limits batch in
+    let gives = from-rows 1 none rows script (first-good 1 none refl refl refl (omega arith)) is in
+    record { rows = gives.rows; single = gives.single; limits_are = gives.limits }
 
-pub read-dump : (batch : Bool) (text : List ℕ) (script : PlainScript) → begins_with_dump (rows_of text) ≡ true → Reads batch text script
-    → StartsWith batch script
-read-dump batch text script begins reads =
-    let told = subst (λ (b : Bool). AnswersBy batch b (rows_of text) (Ok script)) begins reads in
-    from-dump batch (rows_of text) told.0 script told.1 told.2
+pub read-rows : (limits : Limits) (batch : Bool) (text : List ℕ) (script : PlainScript) → ReadsWithin limits batch text script → AreRows script
+read-rows limits batch text script reads = (by-answer limits batch (begins_with_dump (rows_of text)) (rows_of text) script reads).rows
+
+pub read-limits : (limits : Limits) (batch : Bool) (text : List ℕ) (script : PlainScript) → ReadsWithin limits batch text script → script.limits ≡ limits
+read-limits limits batch text script reads = (by-answer limits batch (begins_with_dump (rows_of text)) (rows_of text) script reads).limits_are
+
+pub read-apart : (limits : Limits) (text : List ℕ) (script : PlainScript) → ReadsWithin limits true text script → HasNoSwap script.rows
+read-apart limits text script reads = (by-answer limits true (begins_with_dump (rows_of text)) (rows_of text) script reads).single refl
+
+pub read-dump : (limits : Limits) → AreLimits limits → (batch : Bool) (text : List ℕ) (script : PlainScript)
+    → begins_with_dump (rows_of text) ≡ true → ReadsWithin limits batch text script → StartsWith limits batch script
+read-dump limits are batch text script begins reads =
+    let told = subst (λ (b : Bool). AnswersBy limits batch b (rows_of text) (Ok script)) begins reads in
+    from-dump limits are batch (rows_of text) told.0 script told.1 told.2

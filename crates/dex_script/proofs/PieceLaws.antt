@@ -137,14 +137,14 @@ record Steps (draft : PlainDraft) (next : PlainDraft) (left : Result PlainDraft 
   alike : AreAlike draft next
 
 module _ (draft piece : PlainDraft) (alike : AreAlike draft piece) (number : ℕ) (next : PlainDraft) where
-  room-there : is_full piece number ≡ false → draft.items + (piece.items + 1) ≤ 100000 → is_full (joined draft piece) number ≡ false
+  room-there : is_full piece number ≡ false → draft.items + (piece.items + 1) ≤ draft.script.limits.items → is_full (joined draft piece) number ≡ false
   room-there free room =
-      let a = or-none (nat_le 100000 piece.items) (number == 2 ^ 32 - 1) free in
-      rw (lt-leb 100000 (draft.items + piece.items) (omega (arith, room)), a.1) refl
+      let a = or-none (nat_le piece.script.limits.items piece.items) (number == 2 ^ 32 - 1) free in
+      rw (lt-leb draft.script.limits.items (draft.items + piece.items) (omega (arith, room)), a.1) refl
 
-  more-items : (rows : List PlainRow) (lane : ℕ) → with_item piece rows lane ≡ next → draft.items + next.items ≤ 100000
-      → draft.items + (piece.items + 1) ≤ 100000
-  more-items rows lane is room = subst (λ (d : PlainDraft). draft.items + d.items ≤ 100000) (sym is) room
+  more-items : (rows : List PlainRow) (lane : ℕ) → with_item piece rows lane ≡ next → draft.items + next.items ≤ draft.script.limits.items
+      → draft.items + (piece.items + 1) ≤ draft.script.limits.items
+  more-items rows lane is room = subst (λ (d : PlainDraft). draft.items + d.items ≤ draft.script.limits.items) (sym is) room
 
   by-item : (rows : List PlainRow) (lane : ℕ) (left : Result PlainDraft FaultKind) → with_item piece rows lane ≡ next
       → left ≡ Ok (with_item (joined draft piece) rows lane) → Steps draft next left
@@ -156,6 +156,7 @@ module _ (draft piece : PlainDraft) (alike : AreAlike draft piece) (number : ℕ
           draft_underway = alike.draft_underway;
           piece_underway = record { late = refl; first = refl };
           batch = alike.batch;
+          limits = alike.limits;
           places = alike.places;
         };
       })
@@ -163,7 +164,7 @@ module _ (draft piece : PlainDraft) (alike : AreAlike draft piece) (number : ℕ
   there : (words : PlainInstruction) → is_unknown piece.script.start words.parties ≡ false → is_unknown draft.script.start words.parties ≡ false
   there words = known-there piece.script.start draft.script.start alike.places words.parties
 
-  steps : (statement : Statement) → with_statement piece number statement ≡ Ok next → draft.items + next.items ≤ 100000
+  steps : (statement : Statement) → with_statement piece number statement ≡ Ok next → draft.items + next.items ≤ draft.script.limits.items
       → Steps draft next (with_statement (joined draft piece) number statement)
   steps (row.Clock now) is room =
       subst (λ (d : PlainDraft). Steps draft d (Ok (with_clock (joined draft piece) now))) (ok-same (with_clock piece now) next is)
@@ -173,6 +174,7 @@ module _ (draft piece : PlainDraft) (alike : AreAlike draft piece) (number : ℕ
           draft_underway = alike.draft_underway;
           piece_underway = record { late = alike.piece_underway.late; first = refl };
           batch = alike.batch;
+          limits = alike.limits;
           places = alike.places;
         };
       })
@@ -187,7 +189,7 @@ module _ (draft piece : PlainDraft) (alike : AreAlike draft piece) (number : ℕ
       (room-there two.room (more-items _ words.lane two.is room)) two.first_within two.second_within two.good (sym alike.batch ∙ two.apart))
   steps setup is room = absurd (no-setup number piece next setup alike.piece_underway tt is)
 
-  row-steps : (fields : Fields) → with_row piece number fields ≡ Ok next → draft.items + next.items ≤ 100000
+  row-steps : (fields : Fields) → with_row piece number fields ≡ Ok next → draft.items + next.items ≤ draft.script.limits.items
       → Steps draft next (with_row (joined draft piece) number fields)
   unfolding with_row
   row-steps fields is room =
@@ -206,7 +208,7 @@ grows number before last rows is =
     number before last rows (omega arith) is).1
 
 pub rows-joined : (draft : PlainDraft) (number : ℕ) (piece last : PlainDraft) (rows : List Fields) → AreAlike draft piece
-    → draft_after piece number rows ≡ Ok last → draft.items + last.items ≤ 100000
+    → draft_after piece number rows ≡ Ok last → draft.items + last.items ≤ draft.script.limits.items
     → draft_after (joined draft piece) number rows ≡ Ok (joined draft last)
 rows-joined draft number piece last [] alike is room = ap (λ (d : PlainDraft). Ok (joined draft d)) (ok-same {E = Refusal} piece last is)
 rows-joined draft number piece last (fields ∷ rows) alike is room =
@@ -229,13 +231,13 @@ bare-same start = record {
 
 -- rows that are read beside a script are read after it, where their clock is right and there is room
 pub read-behind : (draft : PlainDraft) (clock : ℤ) (number : ℕ) (rows : List Fields) (piece : PlainDraft) → IsUnderway draft → clock ≡ draft.clock
-    → draft_after (beside draft clock) number rows ≡ Ok piece → draft.items + piece.items ≤ 100000
+    → draft_after (beside draft clock) number rows ≡ Ok piece → draft.items + piece.items ≤ draft.script.limits.items
     → draft_after draft number rows ≡ Ok (joined draft piece)
 read-behind draft clock number rows piece under same is room =
     let none = beside draft clock in
     ap (λ (d : PlainDraft). draft_after d number rows) (sym (joined-none draft under none refl refl refl same))
     ∙ rows-joined draft number none piece rows
-    (record { draft_underway = under; piece_underway = record { late = refl; first = refl }; batch = refl; places = bare-same draft.script.start }) is room
+    (record { draft_underway = under; piece_underway = record { late = refl; first = refl }; batch = refl; limits = refl; places = bare-same draft.script.start }) is room
 
 -- ---- what stays behind an instruction row
 
@@ -327,12 +329,13 @@ joined-reading draft piece places others alike reading also = record {
   few = reading.few;
 }
 
-pub beside-reading : (draft : PlainDraft) (clock : ℤ) → AreFew draft.script.start → IsReading (beside draft clock) []
+pub beside-reading : (draft : PlainDraft) (clock : ℤ) → AreFew draft.script.limits draft.script.start → IsReading (beside draft clock) []
 beside-reading draft clock few = record {
   placed = tt;
   beside = tt;
   quiet = λ early. refl;
   few = record {
+    within = few.within;
     markets = omega (arith, few.markets, length-map draft.script.start.markets bare_market);
     wallets = omega (arith, few.wallets, length-map draft.script.start.wallets bare_wallet);
   };

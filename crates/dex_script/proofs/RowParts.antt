@@ -53,7 +53,7 @@ pub record IsNew (draft : PlainDraft) (is_taken is_full : Bool) : Type 0 where
 -- a new mint
 pub record IsMintRow (draft : PlainDraft) (address : Address) (decimals : ℕ) (after : PlainDraft) : Type 0 where
   pub free : is_among address draft.taken ≡ false
-  pub few : length draft.script.start.mints < 16
+  pub few : length draft.script.start.mints < draft.script.limits.mints
   pub declares : Declares draft (address ∷ []) (more_mints draft.script.start address decimals) after
 
 -- a row that gives a name to a mint that is declared, and has this many decimals
@@ -68,7 +68,7 @@ pub record IsWalletRow (draft : PlainDraft) (address mint owner : Address) (amou
   pub words : MintWords
   pub found : mint_at mint draft.script.start.mints ≡ Some words
   pub free : is_among address draft.taken ≡ false
-  pub few : length draft.script.start.wallets < 256
+  pub few : length draft.script.start.wallets < draft.script.limits.wallets
   pub fits : words.supply + amount < 2 ^ 64
   pub declares : Declares draft (address ∷ []) (more_wallets draft.script.start address mint owner amount) after
 
@@ -77,7 +77,7 @@ pub record IsMarketRow (draft : PlainDraft) (words : PlainMarketWords) (after : 
   pub coin : has_account words.coin draft.script.start.mints ≡ true
   pub pc : has_account words.pc draft.script.start.mints ≡ true
   pub free : is_any_among (made_addresses words.address) draft.taken ≡ false
-  pub few : length draft.script.start.markets < 16
+  pub few : length draft.script.start.markets < draft.script.limits.markets
   pub within : exceeds_market words ≡ false
   pub set : MarketSet
   pub is : set_of words ≡ Ok set
@@ -88,7 +88,7 @@ pub record IsOrdersRow (draft : PlainDraft) (market address : Address) (after : 
   pub count : ℕ
   pub found : orders_at market draft.script.start.markets ≡ Some count
   pub free : is_among address draft.taken ≡ false
-  pub few : count < 64
+  pub few : count < draft.script.limits.orders
   pub declares : Declares draft (address ∷ []) (more_orders draft.script.start market address) after
 
 -- ---- a row without a fault
@@ -109,9 +109,9 @@ module _ (draft : PlainDraft) (after : PlainDraft) where
   unfolding with_mint
   mint-row address decimals =
       let P : PlainDraft → Type 0 = IsMintRow draft address decimals in
-      gives-bind P (checked_new draft (is_among address draft.taken) (nat_le 16 (length start.mints))) _ (λ u is.
+      gives-bind P (checked_new draft (is_among address draft.taken) (nat_le draft.script.limits.mints (length start.mints))) _ (λ u is.
       let row = checked draft _ _ u is in
-      gives-ok P _ (record { free = row.free; few = leb-false 16 (length start.mints) row.few; declares = record { early = row.early; leaves = refl } })) after
+      gives-ok P _ (record { free = row.free; few = leb-false draft.script.limits.mints (length start.mints) row.few; declares = record { early = row.early; leaves = refl } })) after
 
   named : (mint : Address) (name : Option Address) (decimals : ℕ) (u : Unit {0}) → checked_name draft mint name decimals ≡ Ok u
       → IsName draft mint decimals
@@ -152,14 +152,14 @@ module _ (draft : PlainDraft) (after : PlainDraft) where
   wallet-row address mint owner amount =
       let P : PlainDraft → Type 0 = IsWalletRow draft address mint owner amount in
       gives-found P (mint_at mint start.mints) UnknownLabel _ (λ words found.
-      gives-bind P (checked_new draft (is_among address draft.taken) (nat_le 256 (length start.wallets))) _ (λ u is.
+      gives-bind P (checked_new draft (is_among address draft.taken) (nat_le draft.script.limits.wallets (length start.wallets))) _ (λ u is.
       let row = checked draft _ _ u is in
       gives-unless P (nat_le (2 ^ 64) (words.supply + amount)) (SetupRefused code.Supply) _ (λ fits.
       gives-ok P _ (record {
         words = words;
         found = found;
         free = row.free;
-        few = leb-false 256 (length start.wallets) row.few;
+        few = leb-false draft.script.limits.wallets (length start.wallets) row.few;
         fits = leb-false (2 ^ 64) (words.supply + amount) fits;
         declares = record { early = row.early; leaves = refl };
       })))) after
@@ -170,7 +170,7 @@ module _ (draft : PlainDraft) (after : PlainDraft) where
       let P : PlainDraft → Type 0 = IsMarketRow draft words in
       let coin = has_account words.coin start.mints in
       let pc = has_account words.pc start.mints in
-      let full = nat_le 16 (length start.markets) in
+      let full = nat_le draft.script.limits.markets (length start.markets) in
       gives-unless P (not coin || not pc) UnknownLabel _ (λ known.
       gives-bind P (checked_new draft (is_any_among (made_addresses words.address) draft.taken) (full || exceeds_market words)) _ (λ u new.
       gives-bind P (set_of words) _ (λ set is.
@@ -181,7 +181,7 @@ module _ (draft : PlainDraft) (after : PlainDraft) where
         coin = not-false coin both.0;
         pc = not-false pc both.1;
         free = row.free;
-        few = leb-false 16 (length start.markets) limits.0;
+        few = leb-false draft.script.limits.markets (length start.markets) limits.0;
         within = limits.1;
         set = set;
         is = is;
@@ -193,12 +193,12 @@ module _ (draft : PlainDraft) (after : PlainDraft) where
   orders-row market address =
       let P : PlainDraft → Type 0 = IsOrdersRow draft market address in
       gives-found P (orders_at market start.markets) UnknownLabel _ (λ count found.
-      gives-bind P (checked_new draft (is_among address draft.taken) (nat_le 64 count)) _ (λ u is.
+      gives-bind P (checked_new draft (is_among address draft.taken) (nat_le draft.script.limits.orders count)) _ (λ u is.
       let row = checked draft _ _ u is in
       gives-ok P _ (record {
         count = count;
         found = found;
         free = row.free;
-        few = leb-false 64 count row.few;
+        few = leb-false draft.script.limits.orders count row.few;
         declares = record { early = row.early; leaves = refl };
       }))) after

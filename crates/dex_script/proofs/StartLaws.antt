@@ -6,9 +6,11 @@ use Rattle.dex_types.specs.Accounts.{PlainAccount, PlainAccounts}
 use Rattle.dex_rows.specs.Records.{rows_of}
 use Rattle.dex_token.specs.MintAccount.{IsMint}
 use Rattle.dex_accounts.specs.Decoded.{AreSound}
+use Rattle.dex_types.specs.declared.limits.Limits.{Limits}
+use Rattle.dex_types.specs.Limits.{AreLimits}
 use Rattle.dex_state.specs.Conserved.{IsConserved}
 use Rattle.dex_audit.specs.Findings.{findings}
-use Rattle.dex_state.specs.Accepted.{AreAccepted, HasMints}
+use Rattle.dex_state.specs.Accepted.{AreAccepted, HasFew, HasMints}
 use Rattle.dex_state.specs.Held.{HoldBytes}
 use Rattle.dex_statement.specs.declared.statement.Statement.{Statement}
 use Rattle.dex_statement.specs.declared.statement.Statement.TheVariants as row
@@ -18,7 +20,7 @@ use Rattle.dex_script_types.specs.PlainScript.{PlainScript, no_accounts}
 use Rattle.dex_script_types.specs.Facts.{IsStart}
 use Rattle.dex_script.specs.Drafts.{PlainDraft, no_rows}
 use Rattle.dex_script.specs.Rows.{with_row, with_statement}
-use Rattle.dex_script.specs.Scripts.{AnswersBy, Reads, Refusal, begins_with_dump, draft_after, script_from}
+use Rattle.dex_script.specs.Scripts.{AnswersBy, ReadsWithin, Refusal, begins_with_dump, draft_after, script_from}
 use Rattle.dex_script.proofs.FaultLaws.{bind-ok, ok-same}
 use Rattle.dex_script.proofs.KeptLaws.{clock-row, program-row}
 use Rattle.dex_script.proofs.ItemRows.{instruction-row, swap-row}
@@ -27,11 +29,11 @@ use Rattle.dex_script.proofs.RowParts.{market-row, mint-row, msrm-row, orders-ro
 use Rattle.dex_script.proofs.StartRows.{IsDeclared, market-declared, mint-declared, msrm-declared, orders-declared, srm-declared, wallet-declared}
 use Rattle.dex_script.proofs.StartSupplies.{IsBacked, conserved}
 use Rattle.dex_script.proofs.StartAddresses.{AreTaken}
-use Rattle.dex_script.proofs.Started.{AreDeclared, HasFew, IsMade, IsWalletOf, declared-start}
+use Rattle.dex_script.proofs.Started.{AreDeclared, IsMade, IsWalletOf, declared-start}
 use Rattle.dex_script.proofs.StatedLaws.{IsStated, row-stated}
 
-nothing-declared : (batch : Bool) → IsDeclared (no_rows batch)
-nothing-declared batch = record {
+nothing-declared : (limits : Limits) → AreLimits limits → (batch : Bool) → IsDeclared (no_rows limits batch)
+nothing-declared limits are batch = record {
   declared = record {
     mints = All-nil (λ (mint : PlainAccount). IsMint mint.bytes);
     wallets = All-nil (IsWalletOf []);
@@ -39,19 +41,22 @@ nothing-declared batch = record {
     market_mints = All-nil (HasMints no_accounts);
     srm = tt;
     msrm = tt;
+    within = are;
     few_mints = omega arith;
     few_wallets = omega arith;
     few_markets = omega arith;
-    few_orders = All-nil HasFew;
+    few_orders = All-nil (HasFew limits);
   };
   taken = record { all = λ address. omega arith; once = λ address. omega arith };
   backed = All-nil (IsBacked []);
 }
 
 -- a row that leaves the accounts and what is taken
-same-declared : (before after : PlainDraft) → IsDeclared before → before.script.start ≡ after.script.start → before.taken ≡ after.taken → IsDeclared after
-same-declared before after is start taken = record {
-  declared = subst AreDeclared start is.declared;
+same-declared : (before after : PlainDraft) → IsDeclared before → before.script.start ≡ after.script.start → before.taken ≡ after.taken
+    → before.script.limits ≡ after.script.limits → IsDeclared after
+same-declared before after is start taken limits = record {
+  declared =
+      subst (λ (l : Limits). AreDeclared l after.script.start) limits (subst (AreDeclared before.script.limits) start is.declared);
   taken = subst (AreTaken after.script.start) taken (subst (λ (s : PlainAccounts). AreTaken s before.taken) start is.taken);
   backed = subst (λ (s : PlainAccounts). All (IsBacked s.wallets) s.mints) start is.backed;
 }
@@ -60,8 +65,10 @@ by-statement : (number : ℕ) (before after : PlainDraft) (statement : Statement
     → with_statement before number statement ≡ Ok after → IsDeclared after
 by-statement number before after (row.Program program) so stated is =
     same-declared before after so (ap (λ (d : PlainDraft). d.script.start) (program-row before after program is)) (ap (λ (d : PlainDraft). d.taken) (program-row before after program is))
+    (ap (λ (d : PlainDraft). d.script.limits) (program-row before after program is))
 by-statement number before after (row.Clock now) so stated is =
     same-declared before after so (ap (λ (d : PlainDraft). d.script.start) (clock-row before after now is)) (ap (λ (d : PlainDraft). d.taken) (clock-row before after now is))
+    (ap (λ (d : PlainDraft). d.script.limits) (clock-row before after now is))
 by-statement number before after (row.Mint address decimals) so stated is = mint-declared before after so address decimals stated (mint-row before after address decimals is)
 by-statement number before after (row.Srm mint) so stated is = srm-declared before after so mint (srm-row before after mint is)
 by-statement number before after (row.Msrm mint) so stated is = msrm-declared before after so mint (msrm-row before after mint is)
@@ -72,9 +79,11 @@ by-statement number before after (row.Orders market address) so stated is = orde
 by-statement number before after (row.Instruction words) so stated is =
     let item = instruction-row number before after words is in
     same-declared before after so (ap (λ (d : PlainDraft). d.script.start) item.is) (ap (λ (d : PlainDraft). d.taken) item.is)
+    (ap (λ (d : PlainDraft). d.script.limits) item.is)
 by-statement number before after (row.Swap words) so stated is =
     let item = swap-row number before after words is in
     same-declared before after so (ap (λ (d : PlainDraft). d.script.start) item.is) (ap (λ (d : PlainDraft). d.taken) item.is)
+    (ap (λ (d : PlainDraft). d.script.limits) item.is)
 
 by-row : (number : ℕ) (before after : PlainDraft) (fields : Fields) → IsDeclared before → with_row before number fields ≡ Ok after → IsDeclared after
 unfolding with_row
@@ -83,33 +92,37 @@ by-row number before after fields so is =
     by-statement number before after a.0 so (row-stated fields a.0 a.1) a.2
 
 -- what rows without a dump give
-from-rows : (batch : Bool) (rows : List Fields) (script : PlainScript) → Ok script ≡ script_from (no_rows batch) 1 rows → IsStart script.start
-from-rows batch rows script is =
-    let a = bind-ok (draft_after (no_rows batch) 1 rows) last_script script (sym is) in
-    let last = (through (λ _. IsDeclared) by-row 1 (no_rows batch) a.0 rows (nothing-declared batch) a.1).1 in
+from-rows : (limits : Limits) → AreLimits limits → (batch : Bool) (rows : List Fields) (script : PlainScript)
+    → Ok script ≡ script_from (no_rows limits batch) 1 rows → IsStart script.limits script.start
+from-rows limits are batch rows script is =
+    let a = bind-ok (draft_after (no_rows limits batch) 1 rows) last_script script (sym is) in
+    let last = (through (λ _. IsDeclared) by-row 1 (no_rows limits batch) a.0 rows (nothing-declared limits are batch) a.1).1 in
     let start = a.0.script.start in
-    let here = declared-start start a.0.taken last.declared last.taken (conserved start last.declared.markets last.backed) in
-    subst (λ (s : PlainScript). IsStart s.start) (ok-same {E = Refusal} a.0.script script a.2) here
+    let here = declared-start a.0.script.limits start a.0.taken last.declared last.taken (conserved start last.declared.markets last.backed) in
+    subst (λ (s : PlainScript). IsStart s.limits s.start) (ok-same {E = Refusal} a.0.script script a.2) here
 
 -- accounts without findings are those of sound markets
 abbrev pub AuditedAreSound : Type 0
-AuditedAreSound = (accounts : PlainAccounts) → AreAccepted accounts → HoldBytes accounts → findings accounts ≡ [] → All AreSound accounts.markets
+AuditedAreSound =
+    (limits : Limits) (accounts : PlainAccounts) → AreAccepted limits accounts → HoldBytes accounts → findings accounts ≡ [] → All AreSound accounts.markets
 
 -- and their mints are conserved
 abbrev pub AuditedAreConserved : Type 0
 AuditedAreConserved =
-    (accounts : PlainAccounts) → AreAccepted accounts → HoldBytes accounts → findings accounts ≡ [] → All (IsConserved accounts) accounts.mints
+    (limits : Limits) (accounts : PlainAccounts) → AreAccepted limits accounts → HoldBytes accounts → findings accounts ≡ [] → All (IsConserved accounts) accounts.mints
 
-by-answer : AuditedAreSound → AuditedAreConserved → (batch begins : Bool) (rows : List Fields) (script : PlainScript) → AnswersBy batch begins rows (Ok script)
-    → IsStart script.start
-by-answer are-sound are-conserved batch true rows script told =
-    let starts = from-dump batch rows told.0 script told.1 told.2 in
+by-answer : AuditedAreSound → AuditedAreConserved → (limits : Limits) → AreLimits limits → (batch begins : Bool) (rows : List Fields)
+    (script : PlainScript) → AnswersBy limits batch begins rows (Ok script) → IsStart script.limits script.start
+by-answer are-sound are-conserved limits are batch true rows script told =
+    let starts = from-dump limits are batch rows told.0 script told.1 told.2 in
     record {
       accepted = starts.accepted;
-      sound = are-sound script.start starts.accepted starts.held starts.none;
-      conserved = are-conserved script.start starts.accepted starts.held starts.none;
+      sound = are-sound script.limits script.start starts.accepted starts.held starts.none;
+      conserved = are-conserved script.limits script.start starts.accepted starts.held starts.none;
     }
-by-answer are-sound are-conserved batch false rows script is = from-rows batch rows script is
+by-answer are-sound are-conserved limits are batch false rows script is = from-rows limits are batch rows script is
 
-pub starts-sound : AuditedAreSound → AuditedAreConserved → (batch : Bool) (text : List ℕ) (script : PlainScript) → Reads batch text script → IsStart script.start
-starts-sound are-sound are-conserved batch text script reads = by-answer are-sound are-conserved batch (begins_with_dump (rows_of text)) (rows_of text) script reads
+pub starts-sound : AuditedAreSound → AuditedAreConserved → (limits : Limits) (batch : Bool) (text : List ℕ) (script : PlainScript)
+    → AreLimits limits → ReadsWithin limits batch text script → IsStart script.limits script.start
+starts-sound are-sound are-conserved limits batch text script are reads =
+    by-answer are-sound are-conserved limits are batch (begins_with_dump (rows_of text)) (rows_of text) script reads

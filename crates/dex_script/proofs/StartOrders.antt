@@ -10,9 +10,11 @@ use Rattle.dex_types.specs.Accounts.{PlainAccount, PlainMarketAccounts}
 use Rattle.dex_types.specs.Addresses.{is_same}
 use Rattle.dex_make.specs.Blanks.{blank_account}
 use Rattle.dex_make.specs.MarketBytes.{made_accounts}
+use Rattle.dex_types.specs.declared.limits.Limits.{Limits}
+use Rattle.dex_state.specs.Accepted.{HasFew}
 use Rattle.dex_dump.specs.Reading.{with_orders}
 use Rattle.dex_script.specs.Known.{orders_at}
-use Rattle.dex_script.proofs.Started.{HasFew, IsMade}
+use Rattle.dex_script.proofs.Started.{IsMade}
 
 -- the market with one more account
 abbrev pub with_account : PlainAccount → PlainMarketAccounts → PlainMarketAccounts
@@ -41,19 +43,19 @@ length-grown name account (market ∷ markets) = elim (cases_Bool (is_same name 
 ]
 
 -- the first market of the address has room
-pub few-grown : (name : Address) (account : PlainAccount) (count : ℕ) (markets : List PlainMarketAccounts) → orders_at name markets ≡ Some count
-    → count < 64 → All HasFew markets → All HasFew (with_orders name account markets)
-few-grown name account count [] found few h = h
-few-grown name account count (market ∷ markets) found few h = elim (cases_Bool (is_same name market.address)) [
+pub few-grown : (limits : Limits) (name : Address) (account : PlainAccount) (count : ℕ) (markets : List PlainMarketAccounts) → orders_at name markets ≡ Some count
+    → count < limits.orders → All (HasFew limits) markets → All (HasFew limits) (with_orders name account markets)
+few-grown limits name account count [] found few h = h
+few-grown limits name account count (market ∷ markets) found few h = elim (cases_Bool (is_same name market.address)) [
   | inl here ↦
       let size : length market.orders ≡ count = same_Some (length market.orders) count (rw here at found) in
-      All-same HasFew (with_orders name account (market ∷ markets)) (with_account account market ∷ markets) (rw here refl)
-      (All-cons HasFew (with_account account market) markets (omega (arith, length-append market.orders (account ∷ []), size)) (All-tail HasFew market markets h))
+      All-same (HasFew limits) (with_orders name account (market ∷ markets)) (with_account account market ∷ markets) (rw here refl)
+      (All-cons (HasFew limits) (with_account account market) markets (omega (arith, length-append market.orders (account ∷ []), size)) (All-tail (HasFew limits) market markets h))
   | inr other ↦
       let later : orders_at name markets ≡ Some count = rw other at found in
-      All-same HasFew (with_orders name account (market ∷ markets)) (market ∷ with_orders name account markets) (rw other refl)
-      (All-cons HasFew market (with_orders name account markets) (All-head HasFew market markets h)
-      (few-grown name account count markets later few (All-tail HasFew market markets h)))
+      All-same (HasFew limits) (with_orders name account (market ∷ markets)) (market ∷ with_orders name account markets) (rw other refl)
+      (All-cons (HasFew limits) market (with_orders name account markets) (All-head (HasFew limits) market markets h)
+      (few-grown limits name account count markets later few (All-tail (HasFew limits) market markets h)))
 ]
 
 -- a made market with one more blank account is one

@@ -13,7 +13,7 @@ use Rattle.dex_make.specs.MarketBytes.{made_accounts}
 use Rattle.dex_make.specs.MarketSet.{CanTrade}
 use Rattle.dex_make.specs.TokenBytes.{mint_bytes, wallet_bytes}
 use Rattle.dex_make.proofs.TokenLaws.{IsMint-made, IsWallet-made, wallet_words-made}
-use Rattle.dex_state.specs.Accepted.{HasMints}
+use Rattle.dex_state.specs.Accepted.{HasFew, HasMints}
 use Rattle.dex_dump.specs.Reading.{is_among}
 use Rattle.dex_dump.proofs.TakenLaws.{AreApart, AreFree}
 use Rattle.dex_statement.specs.Stated.{PlainMarketWords}
@@ -27,12 +27,12 @@ use Rattle.dex_script.proofs.StartAddresses.{AreTaken, are-free, made-apart, mad
 use Rattle.dex_script.proofs.StartMints.{Grows, HasDecimals, addresses-raised, declared-there, grows-push, grows-raised, grows-same}
 use Rattle.dex_script.proofs.StartOrders.{each-grown, few-grown, length-grown, made-grown}
 use Rattle.dex_script.proofs.StartSupplies.{IsBacked, mint-backed, none-held, wallet-backed}
-use Rattle.dex_script.proofs.Started.{AreDeclared, HasFew, IsMade, IsWalletOf}
+use Rattle.dex_script.proofs.Started.{AreDeclared, IsMade, IsWalletOf}
 use Rattle.dex_script.proofs.StatedLaws.{IsMarketStated, IsWalletStated}
 
 -- what is declared, and what is taken
 pub record IsDeclared (draft : PlainDraft) : Type 0 where
-  pub declared : AreDeclared draft.script.start
+  pub declared : AreDeclared draft.script.limits draft.script.start
   pub taken : AreTaken draft.script.start draft.taken
   pub backed : All (IsBacked draft.script.start.wallets) draft.script.start.mints
 
@@ -62,7 +62,7 @@ name-stays mints later grows decimals (Some address) h = grows.decimals decimals
 one-free : (taken : List Address) (address : Address) → is_among address taken ≡ false → AreFree taken (address ∷ []) × AreApart (address ∷ [])
 one-free taken address free = ((free, tt), (refl, tt))
 
-declares : (draft after : PlainDraft) (new : List Address) (start : PlainAccounts) → Declares draft new start after → AreDeclared start
+declares : (draft after : PlainDraft) (new : List Address) (start : PlainAccounts) → Declares draft new start after → AreDeclared draft.script.limits start
     → AreTaken start (draft.taken ++ new) → All (IsBacked start.wallets) start.mints → IsDeclared after
 declares draft after new start row declared taken backed =
     subst IsDeclared row.leaves (record { declared = declared; taken = taken; backed = backed })
@@ -71,7 +71,7 @@ module _ (draft after : PlainDraft) (is : IsDeclared draft) where
   abbrev start : PlainAccounts
   start = draft.script.start
 
-  abbrev old : AreDeclared draft.script.start
+  abbrev old : AreDeclared draft.script.limits draft.script.start
   old = is.declared
 
   -- ---- mints
@@ -90,6 +90,7 @@ module _ (draft after : PlainDraft) (is : IsDeclared draft) where
         market_mints = markets-stay start next grows start.markets old.market_mints;
         srm = name-stays start.mints next.mints grows 6 start.srm old.srm;
         msrm = name-stays start.mints next.mints grows 0 start.msrm old.msrm;
+        within = old.within;
         few_mints = omega (arith, length-append start.mints (mint ∷ []), row.few);
         few_wallets = old.few_wallets;
         few_markets = old.few_markets;
@@ -116,6 +117,7 @@ module _ (draft after : PlainDraft) (is : IsDeclared draft) where
         market_mints = markets-stay start next (grows-same start.mints) start.markets old.market_mints;
         srm = record { words = row.0.words; found = row.0.found; are = row.0.decimals_are };
         msrm = old.msrm;
+        within = old.within;
         few_mints = old.few_mints;
         few_wallets = old.few_wallets;
         few_markets = old.few_markets;
@@ -134,6 +136,7 @@ module _ (draft after : PlainDraft) (is : IsDeclared draft) where
         market_mints = markets-stay start next (grows-same start.mints) start.markets old.market_mints;
         srm = old.srm;
         msrm = record { words = row.0.words; found = row.0.found; are = row.0.decimals_are };
+        within = old.within;
         few_mints = old.few_mints;
         few_wallets = old.few_wallets;
         few_markets = old.few_markets;
@@ -163,6 +166,7 @@ module _ (draft after : PlainDraft) (is : IsDeclared draft) where
         market_mints = markets-stay start next grows start.markets old.market_mints;
         srm = name-stays start.mints next.mints grows 6 start.srm old.srm;
         msrm = name-stays start.mints next.mints grows 0 start.msrm old.msrm;
+        within = old.within;
         few_mints = omega (arith, old.few_mints, length-with_supply mint amount start.mints);
         few_wallets = omega (arith, length-append start.wallets (wallet ∷ []), row.few);
         few_markets = old.few_markets;
@@ -185,8 +189,8 @@ module _ (draft after : PlainDraft) (is : IsDeclared draft) where
   }
 
   set-declared : (words : PlainMarketWords) (set : MarketSet) → IsSet words set → AreFree draft.taken (made_addresses set.address)
-      → has_account set.coin start.mints ≡ true → has_account set.pc start.mints ≡ true → length start.markets < 16
-      → AreDeclared (more_markets start set) × AreTaken (more_markets start set) (draft.taken ++ made_addresses set.address)
+      → has_account set.coin start.mints ≡ true → has_account set.pc start.mints ≡ true → length start.markets < draft.script.limits.markets
+      → AreDeclared draft.script.limits (more_markets start set) × AreTaken (more_markets start set) (draft.taken ++ made_addresses set.address)
   set-declared words set asked free coin pc few =
       let accounts = made_accounts set in
       let next = more_markets start set in
@@ -205,10 +209,11 @@ module _ (draft after : PlainDraft) (is : IsDeclared draft) where
           market_mints = All-push (HasMints next) start.markets accounts (markets-stay start next (grows-same start.mints) start.markets old.market_mints) mints_named;
           srm = old.srm;
           msrm = old.msrm;
+          within = old.within;
           few_mints = old.few_mints;
           few_wallets = old.few_wallets;
           few_markets = omega (arith, length-append start.markets (accounts ∷ []), few);
-          few_orders = All-push HasFew start.markets accounts old.few_orders (omega arith);
+          few_orders = All-push (HasFew draft.script.limits) start.markets accounts old.few_orders (omega arith);
         },
         taken-more start next draft.taken (made_addresses set.address) is.taken
             (market-adds start accounts refl (made_addresses set.address) (made-within set stands))
@@ -246,10 +251,11 @@ module _ (draft after : PlainDraft) (is : IsDeclared draft) where
             (markets-stay start next (grows-same start.mints) start.markets old.market_mints);
         srm = old.srm;
         msrm = old.msrm;
+        within = old.within;
         few_mints = old.few_mints;
         few_wallets = old.few_wallets;
         few_markets = omega (arith, old.few_markets, length-grown market account start.markets);
-        few_orders = few-grown market account row.count start.markets row.found row.few old.few_orders;
+        few_orders = few-grown draft.script.limits market account row.count start.markets row.found row.few old.few_orders;
       })
       (taken-more start next draft.taken (address ∷ []) is.taken (orders-add start market account) free.0 free.1)
       is.backed

@@ -23,7 +23,9 @@ use Rattle.dex_accounts.specs.Accepted.{IsAccepted, NamesMarket}
 use Rattle.dex_accounts.specs.Decoded.{AreSound}
 use Rattle.dex_accounts.specs.StandsFor.{StandsFor}
 use Rattle.dex_accounts.proofs.Decoded.{AreSound-of}
-use Rattle.dex_state.specs.Accepted.{AreAccepted, AreApart as NamesApart, HasMints, IsMintOf}
+use Rattle.dex_state.specs.Accepted.{AreAccepted, AreApart as NamesApart, HasFew, HasMints, IsMintOf}
+use Rattle.dex_types.specs.declared.limits.Limits.{Limits}
+use Rattle.dex_types.specs.Limits.{AreLimits}
 use Rattle.dex_state.specs.Conserved.{IsConserved}
 use Rattle.dex_script_types.specs.Facts.{IsStart}
 use Rattle.dex_script_types.specs.Known.{has_account}
@@ -46,21 +48,19 @@ pub record IsWalletOf (mints : List PlainAccount) (wallet : PlainAccount) : Type
   pub accepted : IsWallet wallet.bytes
   pub mint : has_account (wallet_words wallet.bytes).mint mints ≡ true
 
-abbrev pub HasFew : PlainMarketAccounts → Type 0
-HasFew market = length market.orders ≤ 64
-
 -- what setup rows declare: mints, wallets of them, markets as they are made, and names of mints, each within its limit
-pub record AreDeclared (start : PlainAccounts) : Type 0 where
+pub record AreDeclared (limits : Limits) (start : PlainAccounts) : Type 0 where
   pub mints : AreMints start.mints
   pub wallets : All (IsWalletOf start.mints) start.wallets
   pub markets : All IsMade start.markets
   pub market_mints : All (HasMints start) start.markets
   pub srm : IfSome start.srm (HasDecimals start.mints 6)
   pub msrm : IfSome start.msrm (HasDecimals start.mints 0)
-  pub few_mints : length start.mints ≤ 16
-  pub few_wallets : length start.wallets ≤ 256
-  pub few_markets : length start.markets ≤ 16
-  pub few_orders : All HasFew start.markets
+  pub within : AreLimits limits
+  pub few_mints : length start.mints ≤ limits.mints
+  pub few_wallets : length start.wallets ≤ limits.wallets
+  pub few_markets : length start.markets ≤ limits.markets
+  pub few_orders : All (HasFew limits) start.markets
 
 -- ---- a market as it is made
 
@@ -122,8 +122,9 @@ apart mints None msrm first second = tt
 apart mints (Some srm) None first second = tt
 apart mints (Some srm) (Some msrm) first second = names-apart mints srm msrm 6 0 first second (λ e. absurd (omega (arith, e)))
 
-pub declared-accepted : (start : PlainAccounts) (taken : List Address) → AreDeclared start → AreTaken start taken → AreAccepted start
-declared-accepted start taken are addresses = record {
+pub declared-accepted : (limits : Limits) (start : PlainAccounts) (taken : List Address) → AreDeclared limits start → AreTaken start taken
+    → AreAccepted limits start
+declared-accepted limits start taken are addresses = record {
   mints = are.mints;
   wallets = All-weaker (IsWalletOf start.mints) (λ (wallet : PlainAccount). IsWallet wallet.bytes) (λ wallet is. is.accepted) start.wallets are.wallets;
   markets = All-weaker IsMade IsAccepted made-accepted start.markets are.markets;
@@ -134,15 +135,17 @@ declared-accepted start taken are addresses = record {
   srm = named start 6 start.srm are.srm;
   msrm = named start 0 start.msrm are.msrm;
   apart = apart start.mints start.srm start.msrm are.srm are.msrm;
+  within = are.within;
   few_mints = are.few_mints;
   few_wallets = are.few_wallets;
   few_markets = are.few_markets;
   few_orders = are.few_orders;
 }
 
-pub declared-start : (start : PlainAccounts) (taken : List Address) → AreDeclared start → AreTaken start taken → All (IsConserved start) start.mints → IsStart start
-declared-start start taken are addresses supplies =
-    let accepted = declared-accepted start taken are addresses in
+pub declared-start : (limits : Limits) (start : PlainAccounts) (taken : List Address) → AreDeclared limits start → AreTaken start taken
+    → All (IsConserved start) start.mints → IsStart limits start
+declared-start limits start taken are addresses supplies =
+    let accepted = declared-accepted limits start taken are addresses in
     let distinct = orders-distinct start accepted.once in
     record {
       accepted = accepted;

@@ -2,6 +2,7 @@
 use Rattle.std.specs.Prelude.{ℕ, ℤ, pos, Bool, true, false, List, []}
 use Rattle.dex_types.specs.declared.addresses.Address.{Address}
 use Rattle.dex_types.specs.Accounts.{PlainAccounts}
+use Rattle.dex_types.specs.declared.limits.Limits.{Limits}
 use Rattle.dex_state.specs.Addresses.{addresses_of}
 use Rattle.dex_script_types.specs.PlainScript.{PlainScript, no_accounts, without_rows}
 
@@ -18,9 +19,9 @@ pub record PlainDraft : Type 0 where
   pub batch : Bool
 
 -- before the first row of a script without a dump
-abbrev pub no_rows : Bool → PlainDraft
-no_rows batch = record {
-  script = without_rows no_accounts;
+abbrev pub no_rows : Limits → Bool → PlainDraft
+no_rows limits batch = record {
+  script = without_rows limits no_accounts;
   taken = [];
   clock = pos 0;
   is_first = true;
@@ -30,9 +31,9 @@ no_rows batch = record {
 }
 
 -- after a dump: its accounts are there, and setup rows come too late
-abbrev pub behind_dump : Bool → PlainAccounts → PlainDraft
-behind_dump batch accounts = record {
-  script = without_rows accounts;
+abbrev pub behind_dump : Limits → Bool → PlainAccounts → PlainDraft
+behind_dump limits batch accounts = record {
+  script = without_rows limits accounts;
   taken = addresses_of accounts;
   clock = pos 0;
   is_first = true;

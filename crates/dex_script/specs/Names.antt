@@ -7,6 +7,8 @@ use Rattle.dex_types.specs.declared.rows.RowPlaces.{RowPlaces}
 use Rattle.dex_types.specs.Accounts.{PlainAccount, PlainAccounts, PlainMarketAccounts}
 use Rattle.dex_types.specs.Addresses.{is_same}
 use Rattle.dex_statement.specs.Stated.{PlainParties}
+use Rattle.dex_types.specs.declared.limits.Limits.{Limits}
+use Rattle.dex_types.specs.Limits.{AreLimits}
 use Rattle.dex_script_types.specs.Places.{AreBeside, ArePlaced, IsMarked, IsRolePlaced, market_place, wallet_place}
 use Rattle.dex_script.specs.declared.names.Names.{Names}
 use Rattle.dex_script.specs.declared.names.Stand.{Stand}
@@ -64,9 +66,10 @@ pub record StandAt (start : PlainAccounts) (parties : PlainParties) (places : St
   pub referrer : IsRoleAt start.wallets parties.referrer places.referrer
 
 -- so few that a place is a number of 16 bits
-pub record AreFew (start : PlainAccounts) : Type 0 where
-  pub markets : length start.markets ≤ 16
-  pub wallets : length start.wallets ≤ 256
+pub record AreFew (limits : Limits) (start : PlainAccounts) : Type 0 where
+  pub within : AreLimits limits
+  pub markets : length start.markets ≤ limits.markets
+  pub wallets : length start.wallets ≤ limits.wallets
 
 -- what a reader knows: each row has its places, its number and its lane beside it, and none was read where setup rows
 -- do not come too late
@@ -74,4 +77,4 @@ pub record IsReading (draft : PlainDraft) (places : List RowPlaces) : Type 0 whe
   pub placed : ArePlaced draft.script.start draft.script.rows places
   pub beside : AreBeside draft.script.rows places
   pub quiet : draft.is_late ≡ false → draft.script.rows ≡ []
-  pub few : AreFew draft.script.start
+  pub few : AreFew draft.script.limits draft.script.start

@@ -34,7 +34,8 @@ bare start = record {
 -- no row of a piece was read yet, which is of the same markets and wallets; its first rows have this clock
 abbrev pub beside : PlainDraft → ℤ → PlainDraft
 beside draft clock = record {
-  script = record { start = bare draft.script.start; rows = []; lanes = 0; program = draft.script.program };
+  script =
+      record { start = bare draft.script.start; rows = []; lanes = 0; program = draft.script.program; limits = draft.script.limits };
   taken = [];
   clock = clock;
   is_first = false;
@@ -58,6 +59,7 @@ pub record AreAlike (draft piece : PlainDraft) : Type 0 where
   pub draft_underway : IsUnderway draft
   pub piece_underway : IsUnderway piece
   pub batch : piece.batch ≡ draft.batch
+  pub limits : piece.script.limits ≡ draft.script.limits
   pub places : HaveSamePlaces piece.script.start draft.script.start
 
 -- the script with the rows of a piece after its own

@@ -30,7 +30,7 @@ use Rattle.dex_script_types.specs.Known.{has_account, has_market, is_known_role}
 use Rattle.dex_script.specs.Drafts.{PlainDraft}
 use Rattle.dex_script.specs.Known.{is_any_among, made_addresses, mint_at, orders_at, with_supply}
 
--- the same script with other accounts, after a setup row that declares these addresses
+-- the script with other accounts, after a setup row that declares these addresses
 abbrev pub with_start : PlainDraft → List Address → PlainAccounts → PlainDraft
 with_start draft new start = record draft { script = record draft.script { start = start }; taken = draft.taken ++ new; is_first = false }
 
@@ -53,7 +53,7 @@ checked_new draft is_taken is_full = unless is_taken Duplicate (unless is_full O
 unfoldable pub with_mint : PlainDraft → Address → ℕ → Result PlainDraft FaultKind
 with_mint draft address decimals =
     let start = draft.script.start in
-    checked_new draft (is_among address draft.taken) (nat_le 16 (length start.mints)) >>= λ _.
+    checked_new draft (is_among address draft.taken) (nat_le draft.script.limits.mints (length start.mints)) >>= λ _.
     Ok (with_start draft (address ∷ []) (record start { mints = start.mints ++ record { address = address; bytes = mint_bytes 0 decimals } ∷ [] }))
 
 -- what refuses a row that gives a name to a mint, which must have this many decimals: the name is given already, or
@@ -82,7 +82,7 @@ unfoldable pub with_wallet : PlainDraft → Address → Address → Address → 
 with_wallet draft address mint owner amount =
     let start = draft.script.start in
     found_or (mint_at mint start.mints) UnknownLabel >>= λ words.
-    checked_new draft (is_among address draft.taken) (nat_le 256 (length start.wallets)) >>= λ _.
+    checked_new draft (is_among address draft.taken) (nat_le draft.script.limits.wallets (length start.wallets)) >>= λ _.
     unless (nat_le (2 ^ 64) (words.supply + amount)) (SetupRefused code.Supply)
     (Ok (with_start draft (address ∷ []) (record start {
       mints = with_supply mint amount start.mints;
@@ -129,7 +129,8 @@ unfoldable pub with_market : PlainDraft → PlainMarketWords → Result PlainDra
 with_market draft words =
     let start = draft.script.start in
     unless (not (has_account words.coin start.mints) || not (has_account words.pc start.mints)) UnknownLabel
-    (checked_new draft (is_any_among (made_addresses words.address) draft.taken) (nat_le 16 (length start.markets) || exceeds_market words) >>= λ _.
+    (checked_new draft (is_any_among (made_addresses words.address) draft.taken)
+    (nat_le draft.script.limits.markets (length start.markets) || exceeds_market words) >>= λ _.
     set_of words >>= λ set.
     Ok (with_start draft (made_addresses words.address) (record start { markets = start.markets ++ made_accounts set ∷ [] })))
 
@@ -138,7 +139,7 @@ unfoldable pub with_orders_row : PlainDraft → Address → Address → Result P
 with_orders_row draft market address =
     let start = draft.script.start in
     found_or (orders_at market start.markets) UnknownLabel >>= λ count.
-    checked_new draft (is_among address draft.taken) (nat_le 64 count) >>= λ _.
+    checked_new draft (is_among address draft.taken) (nat_le draft.script.limits.orders count) >>= λ _.
     Ok (with_start draft (address ∷ []) (record start { markets = with_orders market (blank_account address) start.markets }))
 
 -- an instruction row names a market or a wallet that is not declared
@@ -168,10 +169,10 @@ instruction_row number now words = record {
   now = now;
 }
 
--- no instruction row of this number finds room: 100,000 of them, where a swap is one, and numbers of rows below the
--- largest u32
+-- no instruction row of this number finds room: a script has so many, where a swap is one, and numbers of rows stay
+-- below the largest u32
 abbrev pub is_full : PlainDraft → ℕ → Bool
-is_full draft number = nat_le 100000 draft.items || (number == 2 ^ 32 - 1)
+is_full draft number = nat_le draft.script.limits.items draft.items || (number == 2 ^ 32 - 1)
 
 -- the draft with the rows of one more instruction row, of this lane
 abbrev pub with_item : PlainDraft → List PlainRow → ℕ → PlainDraft

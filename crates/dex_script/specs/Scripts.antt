@@ -1,6 +1,8 @@
 -- What a text of rows says: a script, or why it is none.
 use Rattle.std.specs.Prelude.{◌≡◌, ℕ, Bool, true, false, List, [], ◌∷◌, Result, Ok, Err}
 use Rattle.dex_rows.specs.Records.{rows_of}
+use Rattle.dex_types.specs.declared.limits.Limits.{Limits}
+use Rattle.dex_types.specs.declared.limits.TheConstants.{STANDARD}
 use Rattle.dex_statement.specs.declared.faults.FaultKind.{FaultKind}
 use Rattle.dex_statement.specs.Faults.{◌>>=◌}
 use Rattle.dex_statement.specs.Words.{Fields}
@@ -46,25 +48,32 @@ unless_found [] next = next
 unless_found (finding ∷ found) next = Err (InAudit (finding ∷ found))
 
 -- the script that begins with what a dump answers
-abbrev pub behind : Bool → PlainAnswer → Result PlainScript Refusal
-behind batch (Err fault) = Err (InDump fault)
-behind batch (Ok dump) =
-    unless_found (findings dump.accounts) (script_from (behind_dump batch dump.accounts) (next_number dump.count) dump.behind)
+abbrev pub behind : Limits → Bool → PlainAnswer → Result PlainScript Refusal
+behind limits batch (Err fault) = Err (InDump fault)
+behind limits batch (Ok dump) =
+    unless_found (findings dump.accounts) (script_from (behind_dump limits batch dump.accounts) (next_number dump.count) dump.behind)
 
 -- what rows answer, by whether they begin with a dump
-abbrev pub AnswersBy : Bool → Bool → List Fields → Result PlainScript Refusal → Type 0
-AnswersBy batch true rows answer = (dump : PlainAnswer) × AnswersDump rows dump × (answer ≡ behind batch dump)
-AnswersBy batch false rows answer = answer ≡ script_from (no_rows batch) 1 rows
+abbrev pub AnswersBy : Limits → Bool → Bool → List Fields → Result PlainScript Refusal → Type 0
+AnswersBy limits batch true rows answer = (dump : PlainAnswer) × AnswersDump limits rows dump × (answer ≡ behind limits batch dump)
+AnswersBy limits batch false rows answer = answer ≡ script_from (no_rows limits batch) 1 rows
 
--- what a text answers: its script, or why it is none. Whether the script is to act in batches stands first: such a
--- script has no swap
-abbrev pub Answers : Bool → List ℕ → Result PlainScript Refusal → Type 0
-Answers batch text answer = AnswersBy batch (begins_with_dump (rows_of text)) (rows_of text) answer
+-- what a text answers within these limits: its script, or why it is none. Whether the script is to act in batches
+-- stands before the text: such a script has no swap
+abbrev pub Answers : Limits → Bool → List ℕ → Result PlainScript Refusal → Type 0
+Answers limits batch text answer = AnswersBy limits batch (begins_with_dump (rows_of text)) (rows_of text) answer
 
--- the text is in the grammar of scripts, and is this script
+-- the text is in the grammar of scripts, and is this script, within these limits
+abbrev pub ReadsWithin : Limits → Bool → List ℕ → PlainScript → Type 0
+ReadsWithin limits batch text script = Answers limits batch text (Ok script)
+
+-- the text is no script within these limits for this reason, and none comes before it
+abbrev pub IsRefusedWithin : Limits → Bool → List ℕ → Refusal → Type 0
+IsRefusedWithin limits batch text refusal = Answers limits batch text (Err refusal)
+
+-- within the program's limits
 abbrev pub Reads : Bool → List ℕ → PlainScript → Type 0
-Reads batch text script = Answers batch text (Ok script)
+Reads batch text script = ReadsWithin STANDARD batch text script
 
--- the text is no script for this reason, and none comes before it
 abbrev pub IsRefused : Bool → List ℕ → Refusal → Type 0
-IsRefused batch text refusal = Answers batch text (Err refusal)
+IsRefused batch text refusal = IsRefusedWithin STANDARD batch text refusal

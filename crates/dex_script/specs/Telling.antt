@@ -1,6 +1,7 @@
 -- What the answers of calls tell, without their buffers.
 use Rattle.std.specs.Prelude.{◌≡◌, ◌&&◌, ℕ, Bool, true, false, not, List, [], ◌++◌, map, Result, Ok, Err}
 use Rattle.dex_audit.specs.Findings.{findings}
+use Rattle.dex_types.specs.declared.limits.Limits.{Limits}
 use Rattle.dex_dump.specs.declared.reader.DumpRead.{DumpRead}
 use Rattle.dex_dump.specs.Answers.{AnswersDump, PlainDump}
 use Rattle.dex_dump.specs.Telling.{plain_dump}
@@ -17,7 +18,7 @@ use Rattle.dex_script.specs.declared.draft.Start.{Start}
 use Rattle.dex_script.specs.declared.fault.ScriptError.{ScriptError}
 use Rattle.dex_script.specs.declared.fault.ScriptError.TheVariants as script
 use Rattle.dex_script.specs.Drafts.{PlainDraft}
-use Rattle.dex_script.specs.Scripts.{IsRefused, Reads, Refusal, draft_after}
+use Rattle.dex_script.specs.Scripts.{IsRefusedWithin, ReadsWithin, Refusal, draft_after}
 use Rattle.dex_script.specs.Scripts.Refusal.{AtRow, InAudit, InDump}
 
 -- the accounts so far
@@ -38,8 +39,9 @@ draft_of draft = record {
     rows = map row_of (draft.before ++ draft.rows.items);
     lanes = draft.lanes;
     program = draft.program;
+    limits = draft.limits;
   };
-  taken = draft.taken.items;
+  taken = draft.taken;
   clock = draft.clock;
   is_first = draft.is_first;
   is_late = draft.is_late;
@@ -81,29 +83,29 @@ TellsLeft (Ok done) left meant = meant ≡ Ok left
 TellsLeft (Err error) left meant = TellsRefusal error meant
 
 -- the dump that rows begin with, with the rows after it, where its accounts have no findings; or what is wrong with it
-abbrev pub TellsStart : Result DumpRead ScriptError → List Fields → List Fields → Type 0
-TellsStart (Ok read) rows left =
-    AnswersDump rows (Ok (plain_dump read left)) × (findings (accounts_of read.accounts) ≡ [])
-TellsStart (Err (script.Dump fault)) rows left = AnswersDump rows (Err fault)
-TellsStart (Err (script.Audit found)) rows left =
-    (dump : PlainDump) × AnswersDump rows (Ok dump) × (findings dump.accounts ≡ found.items) × (found.items ≡ [] → ⊥)
-TellsStart (Err (script.Row row kind code)) rows left = ⊥
-TellsStart (Err script.NoMemory) rows left = Unit {0}
+abbrev pub TellsStart : Limits → Result DumpRead ScriptError → List Fields → List Fields → Type 0
+TellsStart limits (Ok read) rows left =
+    AnswersDump limits rows (Ok (plain_dump read left)) × (findings (accounts_of read.accounts) ≡ [])
+TellsStart limits (Err (script.Dump fault)) rows left = AnswersDump limits rows (Err fault)
+TellsStart limits (Err (script.Audit found)) rows left =
+    (dump : PlainDump) × AnswersDump limits rows (Ok dump) × (findings dump.accounts ≡ found.items) × (found.items ≡ [] → ⊥)
+TellsStart limits (Err (script.Row row kind code)) rows left = ⊥
+TellsStart limits (Err script.NoMemory) rows left = Unit {0}
 
 -- an error says why the text is no script. A lack of memory tells nothing
-abbrev pub TellsError : ScriptError → Bool → List ℕ → Type 0
-TellsError (script.Row row kind code) batch text =
-    (fault : FaultKind) × IsRefused batch text (AtRow row fault) × (kind ≡ kind_number fault) × (code ≡ code_of fault)
-TellsError (script.Dump fault) batch text = IsRefused batch text (InDump fault)
-TellsError (script.Audit found) batch text = IsRefused batch text (InAudit found.items)
-TellsError script.NoMemory batch text = Unit {0}
+abbrev pub TellsError : Limits → ScriptError → Bool → List ℕ → Type 0
+TellsError limits (script.Row row kind code) batch text =
+    (fault : FaultKind) × IsRefusedWithin limits batch text (AtRow row fault) × (kind ≡ kind_number fault) × (code ≡ code_of fault)
+TellsError limits (script.Dump fault) batch text = IsRefusedWithin limits batch text (InDump fault)
+TellsError limits (script.Audit found) batch text = IsRefusedWithin limits batch text (InAudit found.items)
+TellsError limits script.NoMemory batch text = Unit {0}
 
 -- the text is what the draft says
-abbrev pub TellsText : Result PlainDraft ScriptError → Bool → List ℕ → Type 0
-TellsText (Ok draft) batch text = Reads batch text draft.script
-TellsText (Err error) batch text = TellsError error batch text
+abbrev pub TellsText : Limits → Result PlainDraft ScriptError → Bool → List ℕ → Type 0
+TellsText limits (Ok draft) batch text = ReadsWithin limits batch text draft.script
+TellsText limits (Err error) batch text = TellsError limits error batch text
 
--- the text is this script, or it is none for this reason
-abbrev pub TellsScript : Result PlainScript ScriptError → Bool → List ℕ → Type 0
-TellsScript (Ok script) batch text = Reads batch text script
-TellsScript (Err error) batch text = TellsError error batch text
+-- the text is this script, or it is none for this reason, within these limits
+abbrev pub TellsScript : Limits → Result PlainScript ScriptError → Bool → List ℕ → Type 0
+TellsScript limits (Ok script) batch text = ReadsWithin limits batch text script
+TellsScript limits (Err error) batch text = TellsError limits error batch text

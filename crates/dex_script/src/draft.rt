@@ -13,8 +13,9 @@ use crate::market::DeclaredMarket;
 use crate::markets::{all_accounts, declared};
 use crate::mints::Mints;
 use crate::taken::taken_addresses;
+use dex_dump::TakenAddresses;
 use dex_script_types::{RowList, Script};
-use dex_types::{Accounts, Address, Named, NoMemory, Program, Row, RowPlaces};
+use dex_types::{Accounts, Address, Limits, Named, NoMemory, Program, Row, RowPlaces};
 use std::alloc::Global;
 
 /// The accounts with which a script starts, as far as they are declared.
@@ -38,7 +39,7 @@ pub(crate) struct Draft {
     pub(crate) lanes: u32,
     pub(crate) program: Program,
     /// Every address that is taken.
-    pub(crate) taken: Vec<Address>,
+    pub(crate) taken: TakenAddresses,
     /// The clock of the next instruction row.
     pub(crate) clock: i64,
     /// No row stands before the next one, but those of a dump.
@@ -49,12 +50,14 @@ pub(crate) struct Draft {
     pub(crate) items: u32,
     /// The script is to act in batches.
     pub(crate) batch: bool,
+    /// How much is read.
+    pub(crate) limits: Limits,
 }
 
 impl Draft {
     /// The draft without rows.
-    pub(crate) fn new(alloc: Global, batch: bool) -> Draft
-        ensures { draft_of result ≡ spec.no_rows batch }
+    pub(crate) fn new(alloc: Global, batch: bool, limits: Limits) -> Draft
+        ensures { draft_of result ≡ spec.no_rows limits batch }
     {
         Draft {
             start: Start {
@@ -68,12 +71,13 @@ impl Draft {
             rows: Vec::new(alloc),
             lanes: 1,
             program: Program::Serum,
-            taken: Vec::new(alloc),
+            taken: TakenAddresses::new(alloc),
             clock: 0,
             is_first: true,
             is_late: false,
             items: 0,
             batch,
+            limits,
         }
     }
 
@@ -82,9 +86,10 @@ impl Draft {
         alloc: Global,
         accounts: Accounts,
         batch: bool,
+        limits: Limits,
     ) -> Result<Draft, NoMemory>
-        requires { AreAccepted (accounts_of accounts) }
-        ensures { IfOk result (λ draft. draft_of draft ≡ spec.behind_dump batch (accounts_of accounts)) }
+        requires { AreAccepted limits (accounts_of accounts) }
+        ensures { IfOk result (λ draft. draft_of draft ≡ spec.behind_dump limits batch (accounts_of accounts)) }
     {
         let taken = taken_addresses(alloc, &accounts)?;
         let markets = declared(alloc, accounts.markets)?;
@@ -106,6 +111,7 @@ impl Draft {
             is_late: true,
             items: 0,
             batch,
+            limits,
         })
     }
 
@@ -142,6 +148,7 @@ impl Draft {
             places,
             lanes: self.lanes,
             program: self.program,
+            limits: self.limits,
         })
     }
 }

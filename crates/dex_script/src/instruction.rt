@@ -19,7 +19,7 @@ impl Draft {
     fn is_full(&self, number: u32) -> bool
         ensures { result ≡ spec.is_full (draft_of self.now) number }
     {
-        100_000 <= self.items || number == u32::MAX
+        self.limits.items <= self.items || number == u32::MAX
     }
 
     /// Adds an instruction row of this number, whose market and wallets stand at these places.
@@ -96,11 +96,14 @@ impl Draft {
         words: &mut InstructionWords,
         at: Stand,
     )
+        // There is room for one more row, whose places are known.
         requires reading { IsReading (draft_of self.old) places.old.items }
         requires late { self.old.is_late ≡ true }
         requires at { StandAt (start_of self.old.start) words.old.parties at }
         requires rows_room { vec_len self.old.rows < vec_capacity self.old.rows }
         requires places_room { vec_len places.old < vec_capacity places.old }
+
+        // The row is the last of the draft, and its places stand beside it.
         ensures row { draft_of self.new
             ≡ spec.with_one (draft_of self.old) (spec.instruction_row number self.old.clock words.old) }
         ensures reading { IsReading (draft_of self.new) places.new.items }

@@ -4,10 +4,10 @@ ghost use Rattle.std.specs.Prelude.{◌≡◌, map};
 ghost use Rattle.std.specs.List.{list_any};
 ghost use Rattle.dex_types.specs.Accounts.{named_of};
 ghost use Rattle.dex_types.specs.Addresses as addresses;
-ghost use Rattle.dex_dump.specs.Reading as dumps;
 ghost use Rattle.dex_script_types.specs.Known as facts;
 ghost use Rattle.dex_script.specs.Known as spec;
 
+use dex_dump::TakenAddresses;
 use dex_make::{MarketPart, derived};
 use dex_types::{Address, Named, is_same};
 
@@ -28,18 +28,11 @@ pub(crate) fn made_addresses(market: Address) -> [Address; 8]
     ]
 }
 
-/// Whether an address is one of these.
-pub(crate) fn is_among(address: Address, addresses: &[Address]) -> bool
-    ensures { result ≡ dumps.is_among address addresses.now }
-{
-    addresses.iter().any(|other| is_same(address, *other))
-}
-
 /// Whether one of these addresses is taken.
-pub(crate) fn is_any_among(new: &[Address], taken: &[Address]) -> bool
+pub(crate) fn is_any_among(new: &[Address], taken: &TakenAddresses) -> bool
     ensures { result ≡ spec.is_any_among new.now taken.now }
 {
-    new.iter().any(|address| is_among(*address, taken))
+    new.iter().any(|address| taken.has(*address))
 }
 
 /// Whether an account has this address.

@@ -14,7 +14,7 @@ pub trait MakeMarkets {
     /// What else is done meanwhile.
     ghost ran: { Self → Self → Type 0 };
 
-    /// The same markets, with their accounts made.
+    /// Makes the accounts of these markets.
     fn make_markets(
         &mut self,
         alloc: Global,

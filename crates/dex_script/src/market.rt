@@ -112,7 +112,7 @@ impl DeclaredMarket {
         }
     }
 
-    /// The same market, with its accounts made.
+    /// The market with its accounts made.
     pub fn made(self, alloc: Global) -> Result<DeclaredMarket, NoMemory>
         ensures { IfOk result (λ made. made ≡ self) }
     {

@@ -18,7 +18,7 @@ use dex_types::{Address, Ix, MarketAccounts, NoMemory, OrdersAccount, is_same};
 use std::alloc::Global;
 
 /// The place of the first market of an address.
-fn place_of(address: Address, markets: &[DeclaredMarket]) -> Option<usize>
+fn place_of_declared(address: Address, markets: &[DeclaredMarket]) -> Option<usize>
     ensures within { IfSome result (λ place. place < length markets.now) }
     ensures place { result ≡ position (λ market. is_same address market.address) markets.now }
 {
@@ -31,7 +31,7 @@ fn place_of(address: Address, markets: &[DeclaredMarket]) -> Option<usize>
 pub(crate) fn orders_at(address: Address, markets: &[DeclaredMarket]) -> Option<usize>
     ensures { result ≡ orders_at address markets.now }
 {
-    match place_of(address, markets) {
+    match place_of_declared(address, markets) {
         Some(place) => Some(markets[place].count_orders()),
         None => None,
     }
@@ -45,7 +45,7 @@ pub(crate) fn add_orders(
 ) -> Result<(), NoMemory>
     ensures { OnOk result (markets.new ≡ with_orders address (orders_account_of account) markets.old) }
 {
-    if let Some(place) = place_of(address, markets) {
+    if let Some(place) = place_of_declared(address, markets) {
         let market = &mut markets[place];
         return market.add_orders(account);
     }
@@ -66,7 +66,7 @@ pub(crate) fn declared(
     Ok(declared)
 }
 
-/// The same markets, made one after the other.
+/// These markets with their accounts, made one after the other.
 pub fn make_markets(
     alloc: Global,
     markets: Vec<DeclaredMarket>,

@@ -116,7 +116,7 @@ impl Mints {
 }
 
 /// The place of the first mint of an address.
-fn place_of(address: Address, mints: &[Named]) -> Option<usize>
+fn place_of_mint(address: Address, mints: &[Named]) -> Option<usize>
     ensures within { IfSome result (λ place. place < length mints.now) }
     ensures place { result ≡ position (λ mint. is_same address mint.address) mints.now }
 {
@@ -128,7 +128,7 @@ fn find(address: Address, mints: &[Named]) -> Option<Words>
     requires { AreMints (map named_of mints.now) }
     ensures { option_map words_of result ≡ spec.mint_at address (map named_of mints.now) }
 {
-    match place_of(address, mints) {
+    match place_of_mint(address, mints) {
         Some(place) => Some(words_in(&mints[place].bytes)),
         None => None,
     }
@@ -152,7 +152,7 @@ fn raise(mints: &mut [Named], address: Address, amount: u64)
     requires fits { IfSome (spec.mint_at address (map named_of mints.old)) (λ words. words.supply + amount < 2 ^ 64) }
     ensures { map named_of mints.new ≡ spec.with_supply address amount (map named_of mints.old) }
 {
-    if let Some(place) = place_of(address, mints) {
+    if let Some(place) = place_of_mint(address, mints) {
         let mint = &mut mints[place];
         raise_supply(&mut mint.bytes, amount);
     }

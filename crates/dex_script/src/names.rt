@@ -5,6 +5,7 @@ ghost use Rattle.std.specs.HashMap as hash;
 ghost use Rattle.std.specs.List.{position};
 ghost use Rattle.dex_types.specs.declared.addresses.Address.{Address};
 ghost use Rattle.dex_types.specs.Addresses.{is_same};
+ghost use Rattle.dex_types.specs.declared.limits.Limits.{Limits};
 ghost use Rattle.dex_script.specs.Names as spec;
 ghost use Rattle.dex_script.specs.Telling.{start_of};
 
@@ -37,8 +38,8 @@ pub struct Names {
 impl Names {
     /// The names of markets and wallets at these addresses. Of those that stand twice the first counts.
     pub fn of(alloc: Global, markets: &[Address], wallets: &[Address]) -> Result<Names, NoMemory>
-        requires markets { length markets.now ≤ 16 }
-        requires wallets { length wallets.now ≤ 256 }
+        requires markets { length markets.now ≤ 65535 }
+        requires wallets { length wallets.now ≤ 65535 }
         ensures { IfOk result (λ names. spec.AreAt names markets.now wallets.now) }
     {
         Ok(Names {
@@ -49,7 +50,7 @@ impl Names {
 
     /// The names of the accounts so far.
     pub(crate) fn of_start(alloc: Global, start: &Start) -> Result<Names, NoMemory>
-        requires { spec.AreFew (start_of start.now) }
+        requires { (limits : Limits) × spec.AreFew limits (start_of start.now) }
         ensures { IfOk result (λ names. spec.AreNames names (start_of start.now)) }
     {
         let markets = market_addresses(alloc, &start.markets)?;
@@ -102,7 +103,7 @@ fn put(places: &mut HashMap<Address, u16>, address: Address, place: u16) -> Resu
 
 /// The places of these addresses. It goes from the last to the first, so the first of an address counts.
 fn places_of(alloc: Global, addresses: &[Address]) -> Result<HashMap<Address, u16>, NoMemory>
-    requires { length addresses.now ≤ 256 }
+    requires { length addresses.now ≤ 65535 }
     ensures { IfOk result (λ places. (address : Address)
         → hash.get is_same places address ≡ position (is_same address) addresses.now) }
 {

@@ -8,12 +8,10 @@ use crate::draft::{Draft, Start};
 use crate::market::DeclaredMarket;
 use crate::mints::Mints;
 use crate::reader::Reader;
+use dex_dump::TakenAddresses;
 use dex_script_types::RowList;
 use dex_types::{Named, NoMemory};
 use std::alloc::{AllocError, Global};
-
-/// How many instruction rows a script may have, where a swap is one.
-const MOST: u32 = 100_000;
 
 impl Reader {
     /// Whether an instruction row was read, or any row after a dump: neither setup rows nor one that chooses the
@@ -49,12 +47,13 @@ impl Reader {
             rows: Vec::new(alloc),
             lanes: 0,
             program: self.draft.program,
-            taken: Vec::new(alloc),
+            taken: TakenAddresses::new(alloc),
             clock,
             is_first: false,
             is_late: true,
             items: 0,
             batch: self.draft.batch,
+            limits: self.draft.limits,
         };
         Ok(Reader {
             draft,
@@ -65,15 +64,16 @@ impl Reader {
 
     /// Whether there is room for as many instruction rows as a piece has.
     pub fn has_room(&self, piece: &Reader) -> bool
-        ensures { result ≡ true → self.now.items + piece.now.items ≤ 100000 }
+        ensures { result ≡ true → self.now.items + piece.now.items ≤ self.now.script.limits.items }
     {
-        piece.draft.items <= MOST && self.draft.items <= MOST - piece.draft.items
+        let most = self.draft.limits.items;
+        piece.draft.items <= most && self.draft.items <= most - piece.draft.items
     }
 
     /// What is read with the rows of a piece after, which name the same markets and wallets. No row is moved.
     pub fn join(self, piece: Reader) -> Result<Reader, NoMemory>
         requires alike { spec.AreAlike self piece }
-        requires room { self.items + piece.items ≤ 100000 }
+        requires room { self.items + piece.items ≤ self.script.limits.items }
         ensures { IfOk result (λ both. both ≡ spec.joined self piece) }
     {
         let mut draft = self.draft;

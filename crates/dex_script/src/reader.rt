@@ -1,6 +1,7 @@
 //! A script as far as it is read, one row after the other.
 
 ghost use Rattle.std.specs.Prelude.{◌≡◌, ℕ, [], IfOk};
+ghost use Rattle.dex_types.specs.Limits.{AreLimits};
 ghost use Rattle.dex_script_types.specs.Facts.{IsScript};
 ghost use Rattle.dex_script.specs.Drafts.{no_rows};
 ghost use Rattle.dex_script.specs.Names.{IsReading, places_of};
@@ -17,7 +18,7 @@ use dex_statement::{
     FaultKind, InstructionWords, Parties, RowError, Statement, SwapWords, read_instruction,
     statement_of,
 };
-use dex_types::{NoMemory, RowPlaces};
+use dex_types::{Limits, NoMemory, RowPlaces, STANDARD};
 use std::alloc::Global;
 use std::marker::Model;
 
@@ -27,7 +28,7 @@ const MANY: usize = 262_144;
 /// For so many rows: a little more than the 128 KB from which on the C library's lists are pages of their own.
 const ROWS: usize = 512;
 
-/// The same for the places of rows.
+/// For the places of so many rows at once.
 const PLACES: usize = 6_600;
 
 /// A script as far as its rows are read, the places of each row, and, from its first instruction row on, the names of
@@ -54,11 +55,12 @@ impl Model for Reader {
 }
 
 impl Reader {
-    /// Before the first row.
-    pub fn new(alloc: Global, batch: bool) -> Reader
-        ensures { result ≡ no_rows batch }
+    /// Before the first row of a script within these limits.
+    pub fn new(alloc: Global, batch: bool, limits: &Limits) -> Reader
+        requires { AreLimits limits.now }
+        ensures { result ≡ no_rows limits.now batch }
     {
-        Reader::of(alloc, Draft::new(alloc, batch))
+        Reader::of(alloc, Draft::new(alloc, batch, *limits))
     }
 
     /// What was read so far, of which nothing is an instruction row.
@@ -155,7 +157,7 @@ impl Reader {
         requires { IsSetup statement }
         ensures { (number : ℕ) → TellsAdded result self.old self.new (spec.with_statement self.old number statement) }
     {
-        let before = std::mem::replace(self, Reader::new(alloc, false));
+        let before = std::mem::replace(self, Reader::new(alloc, false, &STANDARD));
         let mut draft = before.draft;
         match draft.add_setup(alloc, statement) {
             Ok(()) => {

@@ -3,6 +3,8 @@
 ghost use Rattle.std.specs.Prelude.{◌≡◌, ℕ, IfOk, List, OnOk, true, ⊤};
 ghost use Rattle.dex_types.specs.Accounts.{accounts_of};
 ghost use Rattle.dex_state.specs.Accepted.{AreAccepted};
+ghost use Rattle.dex_types.specs.Limits.{AreLimits};
+ghost use Rattle.dex_types.specs.declared.limits.TheConstants.{STANDARD as standard};
 ghost use Rattle.dex_dump.specs.Answers.{next_number};
 ghost use Rattle.dex_statement.specs.Faults.{code_of, kind_number};
 ghost use Rattle.dex_rows.specs.Records.{rows_of};
@@ -26,7 +28,7 @@ use dex_dump::{DumpError, DumpRead, is_first_row};
 use dex_rows::records::{Fields, Rows};
 use dex_script_types::Script;
 use dex_statement::{FaultKind, InstructionWords, RowError};
-use dex_types::NoMemory;
+use dex_types::{Limits, NoMemory, STANDARD};
 use std::alloc::Global;
 
 /// How the rows of a script are read that stand after its first instruction row.
@@ -83,27 +85,44 @@ impl MakeMarkets for InTurn {
 }
 
 /// The script that a text is: the accounts that its first rows make, or that the dump at its start holds, and its
-/// instruction rows. Else the first faulty row with the lowest of its faults, or the fault or the findings of the dump.
-/// In a script that is to act in batches a swap is a fault, so each of its rows acts by itself.
+/// instruction rows, within the program's limits. Else the first faulty row with the lowest of its faults, or the fault
+/// or the findings of the dump. In a script that is to act in batches a swap is a fault, so each of its rows acts by
+/// itself.
 pub fn read_script(alloc: Global, bytes: &[u8], batch: bool) -> Result<Script, ScriptError>
-    ensures told { TellsScript result batch bytes.now }
+    ensures told { TellsScript standard result batch bytes.now }
     ensures apart { IfOk result (λ script. batch ≡ true → HasNoSwap script.rows) }
 {
-    read_script_by(alloc, bytes, batch, &InTurn)
+    read_script_within(alloc, bytes, batch, &STANDARD)
 }
 
-/// Like `read_script`, with the rows after the first instruction row read as the last argument does.
+/// Like `read_script`, within these limits.
+pub fn read_script_within(
+    alloc: Global,
+    bytes: &[u8],
+    batch: bool,
+    limits: &Limits,
+) -> Result<Script, ScriptError>
+    requires { AreLimits limits.now }
+    ensures told { TellsScript limits.now result batch bytes.now }
+    ensures apart { IfOk result (λ script. batch ≡ true → HasNoSwap script.rows) }
+{
+    read_script_by(alloc, bytes, batch, limits, &InTurn)
+}
+
+/// Like `read_script_within`, with the rows after the first instruction row read as the last argument does.
 pub fn read_script_by<H: ReadRows>(
     alloc: Global,
     bytes: &[u8],
     batch: bool,
+    limits: &Limits,
     how: &H,
 ) -> Result<Script, ScriptError>
-    requires { H.ready how.now }
-    ensures told { TellsScript result batch bytes.now }
+    requires limits { AreLimits limits.now }
+    requires ready { H.ready how.now }
+    ensures told { TellsScript limits.now result batch bytes.now }
     ensures apart { IfOk result (λ script. batch ≡ true → HasNoSwap script.rows) }
 {
-    match read_text(alloc, bytes, batch, how) {
+    match read_text(alloc, bytes, batch, limits, how) {
         Ok(reader) => {
             a_script_starts_sound();
             rows_of_a_script_are_in_order();
@@ -119,16 +138,18 @@ fn read_text<H: ReadRows>(
     alloc: Global,
     bytes: &[u8],
     batch: bool,
+    limits: &Limits,
     how: &H,
 ) -> Result<Reader, ScriptError>
-    requires { H.ready how.now }
-    ensures { TellsText result batch bytes.now }
+    requires limits { AreLimits limits.now }
+    requires ready { H.ready how.now }
+    ensures { TellsText limits.now result batch bytes.now }
 {
     let mut rows = Rows::new(alloc, bytes);
     if begins_with_dump(alloc, bytes, &rows)? {
-        read_behind_dump(alloc, &mut rows, batch, how)
+        read_behind_dump(alloc, &mut rows, batch, limits, how)
     } else {
-        read_all(alloc, Reader::new(alloc, batch), 1, &mut rows, how)
+        read_all(alloc, Reader::new(alloc, batch, limits), 1, &mut rows, how)
     }
 }
 
@@ -137,15 +158,17 @@ fn read_behind_dump<H: ReadRows>(
     alloc: Global,
     rows: &mut Rows<'_>,
     batch: bool,
+    limits: &Limits,
     how: &H,
 ) -> Result<Reader, ScriptError>
     requires begins { begins_with_dump rows.old ≡ true }
+    requires limits { AreLimits limits.now }
     requires ready { H.ready how.now }
-    ensures { (bytes : List ℕ) → rows.old ≡ rows_of bytes → TellsText result batch bytes }
+    ensures { (bytes : List ℕ) → rows.old ≡ rows_of bytes → TellsText limits.now result batch bytes }
 {
-    let dump = read_dump(alloc, rows)?;
+    let dump = read_dump(alloc, rows, limits)?;
     let number = next_number(dump.count);
-    let before = Draft::behind_dump(alloc, dump.accounts, batch)?;
+    let before = Draft::behind_dump(alloc, dump.accounts, batch, *limits)?;
     read_all(alloc, Reader::of(alloc, before), number, rows, how)
 }
 
@@ -180,11 +203,13 @@ fn bytes_left(rows: &Rows<'_>) -> usize {
 }
 
 /// The dump at the start, whose accounts have no findings.
-fn read_dump(alloc: Global, rows: &mut Rows<'_>) -> Result<DumpRead, ScriptError>
-    ensures dump { TellsStart result rows.old rows.new }
-    ensures accepted { IfOk result (λ read. AreAccepted (accounts_of read.accounts)) }
+#[tactic(auto, using(dex_state::proofs::TheLimits::widened))]
+fn read_dump(alloc: Global, rows: &mut Rows<'_>, limits: &Limits) -> Result<DumpRead, ScriptError>
+    requires { AreLimits limits.now }
+    ensures dump { TellsStart limits.now result rows.old rows.new }
+    ensures accepted { IfOk result (λ read. AreAccepted limits.now (accounts_of read.accounts)) }
 {
-    let dump = match dex_dump::read_rows(alloc, rows) {
+    let dump = match dex_dump::read_rows(alloc, rows, limits) {
         Ok(dump) => dump,
         Err(DumpError::Refused(fault)) => return Err(ScriptError::Dump(fault)),
         Err(DumpError::NoMemory) => return Err(ScriptError::NoMemory),

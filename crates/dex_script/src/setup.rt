@@ -7,9 +7,10 @@ ghost use Rattle.dex_script.specs.Rows.{IsSetup};
 ghost use Rattle.dex_script.specs.Telling.{TellsAdded, draft_of};
 
 use crate::draft::Draft;
-use crate::known::{is_among, is_any_among, made_addresses};
+use crate::known::{is_any_among, made_addresses};
 use crate::market::DeclaredMarket;
 use crate::markets::{add_orders, exceeds_market, orders_at, set_of};
+use crate::taken::take_all;
 use dex_make::{make_orders, make_wallet};
 use dex_statement::{FaultKind, MarketWords, RowError, SetupCode, Statement};
 use dex_types::{Address, Named, NoMemory, OrdersAccount, Program};
@@ -36,6 +37,7 @@ impl Draft {
             } => self.add_wallet(alloc, address, mint, owner, amount),
             Statement::Market(words) => self.add_market(alloc, &words),
             Statement::Orders { market, address } => self.add_orders(alloc, market, address),
+            // By the condition it is a setup row.
             Statement::Clock(_) | Statement::Instruction(_) | Statement::Swap(_) => unreachable!(),
         }
     }
@@ -76,7 +78,7 @@ impl Draft {
         ensures { OnOk result (draft_of self.new
             ≡ spec.with_start (draft_of self.old) new.now (draft_of self.old).script.start) }
     {
-        self.taken.extend_from_slice(new)?;
+        take_all(&mut self.taken, new)?;
         self.is_first = false;
         Ok(())
     }
@@ -87,7 +89,10 @@ impl Draft {
         ensures { TellsAdded result (draft_of self.old) (draft_of self.new)
             (spec.with_mint (draft_of self.old) address decimals) }
     {
-        self.check_new(is_among(address, &self.taken), 16 <= self.start.mints.len())?;
+        self.check_new(
+            self.taken.has(address),
+            self.limits.mints <= self.start.mints.len(),
+        )?;
         self.start.mints.add(alloc, address, decimals)?;
         self.take(&[address])?;
         Ok(())
@@ -159,8 +164,8 @@ impl Draft {
             return Err(RowError::Fault(FaultKind::UnknownLabel));
         };
         self.check_new(
-            is_among(address, &self.taken),
-            256 <= self.start.wallets.len(),
+            self.taken.has(address),
+            self.limits.wallets <= self.start.wallets.len(),
         )?;
         if words.supply.checked_add(amount).is_none() {
             return Err(RowError::Fault(FaultKind::SetupRefused(SetupCode::Supply)));
@@ -182,7 +187,7 @@ impl Draft {
             return Err(RowError::Fault(FaultKind::UnknownLabel));
         }
         let new = made_addresses(words.address);
-        let is_full = (16 <= self.start.markets.len()) | exceeds_market(words);
+        let is_full = (self.limits.markets <= self.start.markets.len()) | exceeds_market(words);
         self.check_new(is_any_among(&new, &self.taken), is_full)?;
         let set = set_of(words)?;
         self.start
@@ -206,7 +211,7 @@ impl Draft {
         let Some(count) = orders_at(market, &self.start.markets) else {
             return Err(RowError::Fault(FaultKind::UnknownLabel));
         };
-        self.check_new(is_among(address, &self.taken), 64 <= count)?;
+        self.check_new(self.taken.has(address), self.limits.orders <= count)?;
         let bytes = make_orders(alloc)?;
         add_orders(
             &mut self.start.markets,

@@ -70,6 +70,7 @@ alike-behind draft clock number rows piece under is =
       draft_underway = under;
       piece_underway = stays.under;
       batch = ap (λ (d : PlainDraft). d.batch) (stays.same clock);
+      limits = ap (λ (d : PlainDraft). d.script.limits) (stays.same clock);
       places = record {
         markets = λ address.
             sym ((bare-same piece.script.start).markets address) ∙ ap (λ (s : PlainAccounts). market_place address s.markets) start
@@ -130,7 +131,7 @@ pub next-read : (draft : PlainDraft) (number : ℕ) (piece : Piece) (read both :
 next-read draft number piece read both under has is (at, clock, room) joins =
     subst (λ (n : ℕ). draft_after draft n piece.rows ≡ Ok both) at
     (read-behind draft piece.clock piece.number piece.rows read under clock (read-of draft piece read has is).0
-    (subst (λ (r : Result PlainDraft ScriptError). IsOkAnd r (λ (x : PlainDraft). draft.items + x.items ≤ 100000)) is room)
+    (subst (λ (r : Result PlainDraft ScriptError). IsOkAnd r (λ (x : PlainDraft). draft.items + x.items ≤ draft.script.limits.items)) is room)
     ∙ ap (λ (d : PlainDraft). Ok d) (sym joins))
 
 -- ---- one piece more

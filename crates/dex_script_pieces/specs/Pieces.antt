@@ -33,4 +33,4 @@ HasRead draft piece =
 -- a piece was read without a fault, and stands after a draft and its rows, of which the next has this number
 abbrev pub IsNext : PlainDraft → ℕ → Piece → Type 0
 IsNext draft number piece =
-    (piece.number ≡ number) × (piece.clock ≡ draft.clock) × IsOkAnd piece.reader (λ read. draft.items + read.items ≤ 100000)
+    (piece.number ≡ number) × (piece.clock ≡ draft.clock) × IsOkAnd piece.reader (λ read. draft.items + read.items ≤ draft.script.limits.items)

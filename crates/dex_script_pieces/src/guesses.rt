@@ -7,7 +7,7 @@ use std::alloc::Global;
 
 /// The number of a row, and the clock before it.
 #[derive(Clone, Copy)]
-pub(crate) struct Place {
+pub(crate) struct PieceStart {
     pub(crate) number: u32,
     pub(crate) clock: i64,
 }
@@ -15,13 +15,13 @@ pub(crate) struct Place {
 /// Where the rows after these begin, of which the first stands here: right where a line feed stands before each row,
 /// and nothing but rows between. No clause says so: whoever puts pieces together looks, and reads a piece anew that
 /// begins elsewhere.
-pub(crate) fn place_behind(alloc: Global, rows: &PlainRows<'_>, first: Place) -> Place {
+pub(crate) fn place_behind(alloc: Global, rows: &PlainRows<'_>, first: PieceStart) -> PieceStart {
     let clock = match rows.from_last(b"\nclock,") {
         None => first.clock,
         Some(last) => clock_in(alloc, &last).unwrap_or(first.clock),
     };
     let count = rows.line_feeds().min(u32::MAX as usize) as u32;
-    Place {
+    PieceStart {
         number: first.number.saturating_add(count),
         clock,
     }

@@ -125,7 +125,7 @@ impl Job for Making {
     }
 }
 
-/// The same markets, with their accounts made. Where these are large, a thread makes each market's.
+/// These markets with their accounts made. Where these are large, a thread makes each market's.
 fn make_side_by_side<R: Threads + Sync>(
     rt: &R,
     alloc: Global,
@@ -141,7 +141,7 @@ fn make_side_by_side<R: Threads + Sync>(
     made_by(alloc, jobs)
 }
 
-// The same markets, with their accounts made.
+// These markets with their accounts made.
 fn all_made<R: Threads + Sync>(
     rt: &R,
     alloc: Global,
@@ -152,7 +152,7 @@ fn all_made<R: Threads + Sync>(
     make_side_by_side(rt, alloc, markets?)
 }
 
-// The same market, with its accounts made.
+// A market with its accounts made.
 fn made(alloc: Global, market: Result<DeclaredMarket, NoMemory>) -> Result<DeclaredMarket, NoMemory>
     ensures { IfOk result (λ made. market ≡ Ok made) }
 {

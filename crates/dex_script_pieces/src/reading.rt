@@ -2,18 +2,20 @@
 
 ghost use denote.Param.Send.{IsSync};
 ghost use Rattle.std.specs.Prelude.{◌≡◌, ◌≤◌, All, IfOk, OnOk, true};
+ghost use Rattle.dex_types.specs.declared.limits.TheConstants.{STANDARD as standard};
 ghost use Rattle.dex_script_types.specs.Facts.{HasNoSwap};
 ghost use Rattle.dex_script.specs.Pieces.{IsUnderway, number_after};
 ghost use Rattle.dex_script.specs.Scripts.{draft_after};
 ghost use Rattle.dex_script.specs.Telling.{TellsDraft, TellsScript};
 ghost use Rattle.dex_script_pieces.specs.Pieces.{HasRead, IsBeside, IsNext, rows_of};
 
-use crate::guesses::{Place, place_behind};
+use crate::guesses::{PieceStart, place_behind};
 use crate::making::{BesidePieces, SideBySide};
 use crate::piece::{Piece, read_behind};
 use dex_rows::plain::PlainRows;
 use dex_rows::records::Rows;
 use dex_script::{ReadRows, Reader, Script, ScriptError, read_rows, read_script_by};
+use dex_types::STANDARD;
 use std::alloc::{AllocError, Global};
 use std::marker::Sync;
 use std::thread::Threads;
@@ -34,10 +36,10 @@ pub fn read_script<R: Threads + Sync>(
     batch: bool,
     threads: usize,
 ) -> Result<Script, ScriptError>
-    ensures told { TellsScript result batch bytes.now }
+    ensures told { TellsScript standard result batch bytes.now }
     ensures apart { IfOk result (λ script. batch ≡ true → HasNoSwap script.rows) }
 {
-    read_script_by(alloc, bytes, batch, &InPieces { rt, threads })
+    read_script_by(alloc, bytes, batch, &STANDARD, &InPieces { rt, threads })
 }
 
 // Rows are read in pieces, at most twice as many as these threads, while markets are made, on threads of this runtime.
@@ -92,7 +94,7 @@ fn read_in_pieces<R: Threads + Sync>(
     requires several { 2 ≤ count }
     ensures { TellsDraft result (draft_after reader number rows.entry) }
 {
-    let first = Place {
+    let first = PieceStart {
         number,
         clock: reader.clock(),
     };
@@ -108,7 +110,7 @@ fn read_in_pieces<R: Threads + Sync>(
 fn pieces_beside<'a>(
     alloc: Global,
     reader: &Reader,
-    begin: Place,
+    begin: PieceStart,
     rows: PlainRows<'a>,
     count: usize,
 ) -> Result<Vec<Piece<'a>>, AllocError>
@@ -135,7 +137,7 @@ fn pieces_beside<'a>(
 fn piece_beside<'a>(
     alloc: Global,
     reader: &Reader,
-    at: Place,
+    at: PieceStart,
     rows: PlainRows<'a>,
 ) -> Result<Piece<'a>, AllocError>
     ensures rows { IfOk result (λ piece. piece.rows ≡ rows.entry) }

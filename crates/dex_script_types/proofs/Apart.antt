@@ -10,6 +10,7 @@ use Rattle.dex_types.specs.Addresses.{is_same}
 use Rattle.dex_laws.proofs.TraderLaws.{is_same-refl}
 use Rattle.dex_market.specs.MarketAccount.{market_words}
 use Rattle.dex_state.specs.Addresses.{address_of, addresses_of, all_of_market, parts_of, times}
+use Rattle.dex_types.specs.declared.limits.Limits.{Limits}
 use Rattle.dex_state.specs.Accepted.{AreAccepted}
 use Rattle.dex_state.proofs.Times.{one, times-append, times-cons}
 
@@ -75,8 +76,8 @@ distinct (first ∷ others) once =
     (none-of first others (omega (arith, once first, times-cons first first others, here)))
     (distinct others (λ address. omega (arith, once address, times-cons address first others)))
 
-pub markets-distinct : (accounts : PlainAccounts) → AreAccepted accounts → AreDistinct (map (λ (market : PlainMarketAccounts). market.address) accounts.markets)
+pub markets-distinct : {limits : Limits} (accounts : PlainAccounts) → AreAccepted limits accounts → AreDistinct (map (λ (market : PlainMarketAccounts). market.address) accounts.markets)
 markets-distinct accounts accepted = distinct (map (λ (market : PlainMarketAccounts). market.address) accounts.markets) (λ address. market-once accounts address (accepted.once address))
 
-pub wallets-distinct : (accounts : PlainAccounts) → AreAccepted accounts → AreDistinct (map (λ (account : PlainAccount). account.address) accounts.wallets)
+pub wallets-distinct : {limits : Limits} (accounts : PlainAccounts) → AreAccepted limits accounts → AreDistinct (map (λ (account : PlainAccount). account.address) accounts.wallets)
 wallets-distinct accounts accepted = distinct (map (λ (account : PlainAccount). account.address) accounts.wallets) (λ address. wallet-once accounts address (accepted.once address))

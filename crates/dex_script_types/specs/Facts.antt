@@ -5,6 +5,7 @@ use Rattle.dex_types.specs.declared.addresses.Address.{Address}
 use Rattle.dex_types.specs.Accounts.{PlainAccounts}
 use Rattle.dex_types.specs.Rows.{PlainRow}
 use Rattle.dex_accounts.specs.Decoded.{AreSound}
+use Rattle.dex_types.specs.declared.limits.Limits.{Limits}
 use Rattle.dex_state.specs.Conserved.{IsConserved}
 use Rattle.dex_state.specs.Accepted.{AreAccepted}
 use Rattle.dex_instruction.specs.Reading.{decoded}
@@ -14,10 +15,10 @@ use Rattle.dex_world.specs.Items.{ShareNothing, items_of}
 use Rattle.dex_script_types.specs.PlainScript.{PlainScript}
 use Rattle.dex_script_types.specs.Known.{has_market, is_known_role}
 
--- accounts that a script can start with: they are accepted, market by market those of a sound market, and of each mint
--- wallets and vaults hold its supply
-pub record IsStart (accounts : PlainAccounts) : Type 0 where
-  pub accepted : AreAccepted accounts
+-- accounts that a script within these limits can start with: they are accepted, market by market those of a sound
+-- market, and of each mint wallets and vaults hold its supply
+pub record IsStart (limits : Limits) (accounts : PlainAccounts) : Type 0 where
+  pub accepted : AreAccepted limits accounts
   pub sound : All AreSound accounts.markets
   pub conserved : All (IsConserved accounts) accounts.mints
 
@@ -68,7 +69,7 @@ HasNoThree rows =
 -- the rows of a script: not too many items, each row of the start, with numbers that never fall, and rows of one number
 -- are two legs
 pub record AreRows (script : PlainScript) : Type 0 where
-  pub few : length (items_of script.rows) ≤ 100000
+  pub few : length (items_of script.rows) ≤ script.limits.items
   pub each : All (IsRowOf script.start) script.rows
   pub rising : AllPairs (λ (one other : PlainRow). one.number ≤ other.number) script.rows
   pub legs : AllPairs (λ (one other : PlainRow). one.number ≡ other.number → AreLegs one other) script.rows
@@ -77,5 +78,5 @@ pub record AreRows (script : PlainScript) : Type 0 where
 
 -- what holds of every script
 pub record IsScript (script : PlainScript) : Type 0 where
-  pub start : IsStart script.start
+  pub start : IsStart script.limits script.start
   pub rows : AreRows script

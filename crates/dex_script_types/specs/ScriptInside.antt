@@ -14,6 +14,7 @@ script_inside inside = record {
   rows = map row_of inside.rows;
   lanes = inside.lanes;
   program = inside.program;
+  limits = inside.limits;
 }
 
 -- what holds of every script (`IsScript`) holds of the fields, and each row has its places, its number and its lane

@@ -58,6 +58,7 @@ impl RowList {
             }
             left -= piece.len();
         }
+        // By the condition a piece has the place.
         unreachable!()
     }
 

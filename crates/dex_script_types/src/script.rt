@@ -1,17 +1,17 @@
 //! A script.
 
-ghost use Rattle.std.specs.Prelude.{◌≡◌, ◌≤◌, length};
+ghost use Rattle.std.specs.Prelude.{◌≡◌, ◌<◌, ◌^◌, length};
 ghost use Rattle.dex_world.specs.Items.{items_of};
 ghost use Rattle.dex_script_types.specs.Places.{items_at};
 
 use crate::row_list::RowList;
-use dex_types::{Accounts, Program, RowPlaces};
+use dex_types::{Accounts, Limits, Program, RowPlaces};
 use std::marker::Model;
 
 /// A script: the accounts with which it starts, its instruction rows in their order, how many lanes it has (the highest
 /// lane and 1, or 1 where there is no row), and the program that runs. Of each script its accounts are accepted, market
 /// by market those of a sound market, and each mint conserved; its rows are in order, and of these accounts, at their
-/// places.
+/// places. All are within the limits.
 #[derive(Debug, Drop)]
 pub struct Script {
     pub start: Accounts,
@@ -20,6 +20,8 @@ pub struct Script {
     pub places: Vec<RowPlaces>,
     pub lanes: u32,
     pub program: Program,
+    /// The limits within which it was read.
+    pub limits: Limits,
 }
 
 impl Model for Script {
@@ -44,7 +46,7 @@ impl Script {
 
 /// How many items the rows of these places are.
 fn items_among(places: &[RowPlaces]) -> u32
-    requires few { items_at places.now ≤ 100000 }
+    requires few { items_at places.now < 2 ^ 32 }
     ensures { result ≡ items_at places.now }
 {
     let mut count = 0;

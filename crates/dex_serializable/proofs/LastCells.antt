@@ -47,7 +47,7 @@ apart-across (x ∷ xs) (y ∷ ys) same apart =
       apart-across xs ys rest apart.1,
     )
 
-pub wallets-kept : (script : PlainScript) (lanes : List Lane) (wallets : List BankWalletState) → AreAccepted script.start
+pub wallets-kept : (script : PlainScript) (lanes : List Lane) (wallets : List BankWalletState) → AreAccepted script.limits script.start
     → AllZip (IsWalletMerged script lanes) script.start.wallets wallets → AreApart (map (λ (wallet : BankWalletState). wallet.cell) wallets)
 wallets-kept script lanes wallets accepted merged =
     apart-across (map (wallet_opened script.rows) script.start.wallets) (map (λ (wallet : BankWalletState). wallet.cell) wallets)
@@ -95,7 +95,7 @@ module _ (script : PlainScript) (all : Histories) (markets : AllZip (IsMarketMer
 
   -- ---- they are cells
 
-  pub are-cells : AreAccepted script.start → AreCells (last_cells script all)
+  pub are-cells : AreAccepted script.limits script.start → AreCells (last_cells script all)
   are-cells accepted = record {
     markets = All-map IsMarketCell (λ (market : BankMarketState). market.cell) all.markets
         (zip-each (IsMarketMerged script all.lanes) (λ (market : BankMarketState). IsMarketCell market.cell) (λ first market is. is.kept.cell) script.start.markets all.markets markets);

@@ -66,7 +66,7 @@ module _ {A : Type 0} (key : A → ℕ) where
       cond-true (ltb (key y) (key x)) (y ∷ placed key x (front ++ xs)) (x ∷ y ∷ front ++ xs) (lt-ltb (key y) (key x) (All-head (λ z. key z < key x) y front all))
       ∙ ap (λ zs. y ∷ zs) (placed-behind x front xs (All-tail (λ z. key z < key x) y front all))
 
-  -- the same of several elements of one number
+  -- several elements of one number are placed before all that have no lower one
   all_placed-first : (n : ℕ) (zs xs : List A) → All (λ z. key z ≡ n) zs → All (λ x. n ≤ key x) xs → all_placed key zs xs ≡ zs ++ xs
   all_placed-first n [] xs same all = refl
   all_placed-first n (z ∷ zs) xs same all =

@@ -124,7 +124,7 @@ pub nodes-second : (bytes : List ℕ) (t : Tree) (branch : Branch) → IsBranch 
 nodes-second bytes t branch b =
     omega (arith, ap (λ u. length (nodes_of u)) b.is, length-append (nodes_of (tree_at bytes branch.first)) (nodes_of (tree_at bytes branch.second)))
 
--- the same of the near child
+-- the near child is a part
 pub part-near : (bytes : List ℕ) (side : Side) (t : Tree) (branch : Branch) → IsBranch bytes t branch → IsPart bytes (tree_at bytes (by_side side branch.second branch.first))
 part-near bytes Bid t branch b = b.second_part
 part-near bytes Ask t branch b = b.first_part

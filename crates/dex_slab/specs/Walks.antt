@@ -34,7 +34,7 @@ pub record IsOnWay (tree : Tree) (id node : ℕ) : Type 0 where
   pub leads : Leads id path
 
 -- a new id enters the tree at this node, with whose key it has this many leading bits in common
-pub record IsPlace (tree : Tree) (id node shared : ℕ) : Type 0 where
+pub record IsInsertionPoint (tree : Tree) (id node shared : ℕ) : Type 0 where
   pub way : IsOnWay tree id node
   pub stops : Stops id way.part
   pub shares : shared ≡ shared_bits (top_key way.part) id

@@ -33,10 +33,13 @@ impl SideBook for SlabView<'_> {
     /// Puts an order in its place. At most three nodes change, beside the slab's header. A new node is the first of the
     /// free list, else the first that was never used.
     fn insert(&mut self, order: Order)
+        // The side has room for one more, and the order is a new one.
         requires holds { IsSlab self.old.bytes.now }
         requires new { IsNewId order.id (resting self.old.side self.old.bytes.now) }
         requires can_rest { CanRest order }
         requires room { length (resting self.old.side self.old.bytes.now) < room_in self.old.bytes.now }
+
+        // It stands among the others, in book order. Side, room and place stay.
         ensures orders { resting self.new.side self.new.bytes.now
             ≡ posted self.old.side order (resting self.old.side self.old.bytes.now) }
         ensures holds { IsSlab self.new.bytes.now }
@@ -44,6 +47,8 @@ impl SideBook for SlabView<'_> {
         ensures room { room_in self.new.bytes.now ≡ room_in self.old.bytes.now }
         ensures place { (self.new.bytes.ghost_name ≡ self.old.bytes.ghost_name)
             × KeepsFrame self.old.bytes.now self.new.bytes.now }
+
+        // Nodes are taken from the free list first, and no more than three change.
         ensures bump { bump_of self.new.bytes.now ≡ bump_of self.old.bytes.now
             + (nodes_taken (count_of self.old.bytes.now) - free_len_of self.old.bytes.now) }
         ensures freed { free_len_of self.new.bytes.now
@@ -75,6 +80,8 @@ impl SideBook for SlabView<'_> {
     fn remove(&mut self, id: u128) -> Order
         requires holds { IsSlab self.old.bytes.now }
         requires rests { IsSome (order_with id (resting self.old.side self.old.bytes.now)) }
+
+        // The order is off the side. Side, room and place stay.
         ensures order { order_with id (resting self.old.side self.old.bytes.now) ≡ Some result }
         ensures orders { resting self.new.side self.new.bytes.now
             ≡ without_order id (resting self.old.side self.old.bytes.now) }
@@ -83,6 +90,8 @@ impl SideBook for SlabView<'_> {
         ensures room { room_in self.new.bytes.now ≡ room_in self.old.bytes.now }
         ensures place { (self.new.bytes.ghost_name ≡ self.old.bytes.ghost_name)
             × KeepsFrame self.old.bytes.now self.new.bytes.now }
+
+        // Its nodes are given back to the free list, and no more than three change.
         ensures bump { bump_of self.new.bytes.now ≡ bump_of self.old.bytes.now }
         ensures freed { free_len_of self.new.bytes.now
             ≡ free_len_of self.old.bytes.now + nodes_given (count_of self.old.bytes.now) }

@@ -5,7 +5,7 @@ ghost use Rattle.dex_fields.specs.Bytes.{end_of};
 ghost use Rattle.dex_slab.specs.Nodes.{branch_of, count_of, key_of, node_field, root_of};
 ghost use Rattle.dex_slab.specs.Path.{bit_behind, shared_bits};
 ghost use Rattle.dex_slab.specs.Slab.{IsSlab};
-ghost use Rattle.dex_slab.specs.Walks.{IsFound, IsPlace, RestsIn, child_towards, next_towards, tree_at};
+ghost use Rattle.dex_slab.specs.Walks.{IsFound, IsInsertionPoint, RestsIn, child_towards, next_towards, tree_at};
 
 use crate::node_reads::key_of;
 use crate::nodes::{Branch, branch_of};
@@ -14,7 +14,7 @@ use dex_fields::slab::ROOT_NODE;
 
 /// Where a new key enters the tree.
 #[derive(Clone, Copy)]
-pub struct Place {
+pub struct InsertionPoint {
     /// The node that is to stand beside the new leaf.
     pub node: u32,
     /// How many leading bits the new key shares with all keys from that node on.
@@ -75,17 +75,17 @@ fn next_towards(bytes: &[u8], node: u32, id: u128) -> Option<u32>
 }
 
 /// Where a new key enters a tree that is not empty.
-pub fn place_for(bytes: &[u8], id: u128) -> Place
+pub fn insertion_point(bytes: &[u8], id: u128) -> InsertionPoint
     requires slab { IsSlab bytes.now }
     requires some { 1 ≤ count_of bytes.now }
-    ensures place { IsPlace (tree_at bytes.now (root_of bytes.now)) id result.node result.shared }
+    ensures point { IsInsertionPoint (tree_at bytes.now (root_of bytes.now)) id result.node result.shared }
     ensures key { key_of bytes.now result.node < 2 ^ 128 }
 {
     let mut node = get_u32(bytes, ROOT_NODE);
     while let Some(child) = next_towards(bytes, node, id) {
         node = child;
     }
-    Place {
+    InsertionPoint {
         node,
         shared: shared_bits(key_of(bytes, node), id),
     }

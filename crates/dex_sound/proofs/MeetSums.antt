@@ -204,7 +204,7 @@ last-referred side sizes order booted =
 pub of-all : IsTestOfOrder (λ order. true) (λ event. true)
 of-all = record { smaller = λ order lots. refl; event = λ kind order released paid rebate. refl }
 
--- the same of all orders
+-- what all orders lock before a meeting is what they lock after it, with what its events keep
 pub met-locked_all : (side : Side) (t : TakerTerms) (w : Demand) (orders : List Order)
     → total (order_lock (opposite side) t.sizes) orders
     ≡ total (order_lock (opposite side) t.sizes) (meet side t w orders).left + total (kept (gained_token side)) (meet side t w orders).events

@@ -129,7 +129,7 @@ take_reasons : (sells (2 ^ 60) ann None None carl_srm (record full { is_disabled
 unfolding taken demand_after price_of sequence_of id_of taker_rate maker_rate
 take_reasons = (refl, refl, refl, refl, refl, refl, refl, refl, refl, refl, refl)
 
--- the same without a least amount of quote
+-- a take of an ask with no least amount of quote
 abbrev sells_any : ℕ → ℕ → Market → Reply
 sells_any base_balance quote_balance m =
     answer (row (SendTake Ask 50 2 1 1 498 10) ann []) (sees (ann_coin base_balance) (bob_usd quote_balance)) m

@@ -30,7 +30,7 @@ impl<T> Kept<T> {
         Kept { of: PhantomData }
     }
 
-    /// The same value again.
+    /// One more of this value.
     pub fn same(&self) -> Kept<T>
         ensures { result.value ≡ self.now.value }
     {

@@ -7,6 +7,8 @@ use Rattle.dex_market.specs.MarketAccount.{market_words}
 use Rattle.dex_token.specs.MintAccount.{IsMint}
 use Rattle.dex_token.specs.TokenAccount.{IsWallet, wallet_words}
 use Rattle.dex_accounts.specs.Accepted.{IsAccepted}
+use Rattle.dex_types.specs.declared.limits.Limits.{Limits}
+use Rattle.dex_types.specs.Limits.{AreLimits}
 use Rattle.dex_state.specs.Addresses.{addresses_of, is_mint, times}
 
 -- an address is a mint's
@@ -23,9 +25,13 @@ pub record HasMints (accounts : PlainAccounts) (market : PlainMarketAccounts) : 
   pub coin : IsMintOf accounts (market_words market.market).terms.coin_mint
   pub pc : IsMintOf accounts (market_words market.market).terms.pc_mint
 
+-- a market has no more open-orders accounts than the limits allow
+abbrev pub HasFew : Limits → PlainMarketAccounts → Type 0
+HasFew limits market = length market.orders ≤ limits.orders
+
 -- the accounts are accepted: each as an account of its kind; wallets and markets are of mints that there are; no
 -- address is that of two accounts; SRM and MSRM are two of the mints; and no limit is passed
-pub record AreAccepted (accounts : PlainAccounts) : Type 0 where
+pub record AreAccepted (limits : Limits) (accounts : PlainAccounts) : Type 0 where
   pub mints : All (λ (mint : PlainAccount). IsMint mint.bytes) accounts.mints
   pub wallets : All (λ (wallet : PlainAccount). IsWallet wallet.bytes) accounts.wallets
   pub markets : All IsAccepted accounts.markets
@@ -35,7 +41,8 @@ pub record AreAccepted (accounts : PlainAccounts) : Type 0 where
   pub srm : IfSome accounts.srm (IsMintOf accounts)
   pub msrm : IfSome accounts.msrm (IsMintOf accounts)
   pub apart : AreApart accounts.srm accounts.msrm
-  pub few_mints : length accounts.mints ≤ 16
-  pub few_wallets : length accounts.wallets ≤ 256
-  pub few_markets : length accounts.markets ≤ 16
-  pub few_orders : All (λ (market : PlainMarketAccounts). length market.orders ≤ 64) accounts.markets
+  pub within : AreLimits limits
+  pub few_mints : length accounts.mints ≤ limits.mints
+  pub few_wallets : length accounts.wallets ≤ limits.wallets
+  pub few_markets : length accounts.markets ≤ limits.markets
+  pub few_orders : All (HasFew limits) accounts.markets

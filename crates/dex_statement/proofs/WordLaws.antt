@@ -45,7 +45,7 @@ uncut_at p field false within e = whole p field (grind (arith, nat_tests))
 pub uncut : (p : ℕ → Bool) (field : List ℕ) → position p field ≡ None → slice_split p field ≡ field ∷ []
 uncut p field e = uncut_at p field (nat_lt (position_or_len p field) (length field)) refl e
 
--- the same, with what stands after as a slice takes it
+-- a field is cut at its first space, with what stands after as a slice takes it
 pub cut_behind : (p : ℕ → Bool) (field : List ℕ) (place : ℕ) → position p field ≡ Some place
     → slice_split p field ≡ take place field ∷ slice_split p (take (length field - (place + 1)) (drop (place + 1) field))
 cut_behind p field place e =

@@ -52,15 +52,15 @@ side_at words place = found_or (side_of (field_at words place)) UnknownRow
 unfoldable pub limit_of : Fields → Result ℕ FaultKind
 limit_of words = unless (not (length words == 2)) FieldCount (limit_at words 1)
 
--- a word stands there that is to be one of a list, and is none
+-- a word stands there that is to be a side, and is none
 abbrev pub is_strange_side : Fields → ℕ → Bool
 is_strange_side words place = nat_lt place (length words) && is_none (side_of (field_at words place))
 
--- the same of a self-trade rule
+-- a word stands there that is to be a self-trade rule, and is none
 abbrev pub is_strange_self_trade : Fields → ℕ → Bool
 is_strange_self_trade words place = nat_lt place (length words) && is_none (self_trade_of (field_at words place))
 
--- the same of an order type
+-- a word stands there that is to be an order type, and is none
 abbrev pub is_strange_order_type : Fields → ℕ → Bool
 is_strange_order_type words place = nat_lt place (length words) && is_none (order_type_of (field_at words place))
 

@@ -19,7 +19,7 @@ take_of taker min_lots min_pc = record {
   min_pc = min_pc;
 }
 
--- the same without a least fill, which decides only whether it is refused
+-- the take without a least fill, which decides only whether it is refused
 abbrev pub bare_take : Taker → Take
 bare_take taker = take_of taker 0 0
 

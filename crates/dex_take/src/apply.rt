@@ -11,7 +11,7 @@ ghost use Rattle.dex_take.specs.Taken.{met_in, reply_in, taken};
 ghost use Rattle.dex_take.specs.Taking.{IsDecided};
 
 use crate::plan::{Exchange, TakePlan, exchange_of};
-use crate::terms::{terms_of, want_of};
+use crate::terms::{take_terms, want_of};
 use dex_fills::meet_side;
 use dex_market::{MarketFunds, MarketView};
 use dex_match::{Taker, amounts_fit};
@@ -61,7 +61,7 @@ pub fn apply_take<B: SideBook>(
     amounts_fit(taker);
     let sizes = market.sizes();
     let side = taker.id_side;
-    let terms = terms_of(sizes, taker);
+    let terms = take_terms(sizes, taker);
     let want = want_of(sizes, taker);
     let met = meet_side(side, terms, want, opposite, ring);
     pay(market, exchange_of(side, plan), plan.fee - met.sums.rebates);

@@ -17,3 +17,4 @@ pub use laws::{a_take_leaves_the_market_after_it, what_is_decided_is_the_markets
 pub use plan::{DecidedTake, TakePlan};
 pub use reasons::LeastFill;
 pub use take_input::{TakeInput, gathered};
+pub use terms::take_terms;

@@ -9,7 +9,7 @@ ghost use Rattle.dex_types.specs.Reasons.{ask_too_large};
 ghost use Rattle.dex_types.specs.Side.{opposite};
 
 use crate::plan::{TakePlan, plan_of};
-use crate::terms::{terms_of, want_of};
+use crate::terms::{take_terms, want_of};
 use dex_fees::taker_fee;
 use dex_fills::{Sums, foresee};
 use dex_match::Taker;
@@ -36,7 +36,7 @@ pub(crate) fn outlook<B: SideRead>(sizes: Lots, taker: Taker, opposing: &B) -> T
     ensures rebates { result.sums.rebates ≡ (meeting_with sizes taker (B.orders opposing.now)).rebates }
     ensures fits { FitsSums taker.id_side sizes (meeting_with sizes taker (B.orders opposing.now)) }
 {
-    let terms = terms_of(sizes, taker);
+    let terms = take_terms(sizes, taker);
     let want = want_of(sizes, taker);
     let prospect = foresee(taker.id_side, terms, want, opposing);
     let sums = prospect.met.sums;

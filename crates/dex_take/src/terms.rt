@@ -6,18 +6,18 @@ ghost use Rattle.dex_fills.specs.Taker.{demand, taking};
 ghost use Rattle.dex_take.specs.TakeTerms.{bare_take};
 ghost use Rattle.dex_types.specs.Take.{take_demand, take_terms};
 
-use dex_fills::{Terms, Want};
+use dex_fills::{MeetingTerms, Want};
 use dex_match::Taker;
 use dex_types::{Lots, OrderType, SelfTrade};
 
 /// What a take keeps to while it meets the opposite side. It has no owner, so no order is its own and the self-trade
 /// rule decides nothing.
-pub(crate) fn terms_of(sizes: Lots, taker: Taker) -> Terms
+pub fn take_terms(sizes: Lots, taker: Taker) -> MeetingTerms
     ensures keeps { taking result ≡ take_terms sizes (bare_take taker) }
     ensures sizes { result.sizes ≡ sizes }
     ensures limit { result.limit_price ≡ taker.price }
 {
-    Terms {
+    MeetingTerms {
         program: taker.program,
         sizes,
         limit_price: taker.price,

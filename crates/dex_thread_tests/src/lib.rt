@@ -1,5 +1,4 @@
-//! Tests of threads: turns at a gate, jobs side by side, the order in which a row takes its turns, and scripts read in
-//! pieces.
+//! Tests of threads: turns at a gate, jobs side by side, and the order in which a row takes its turns.
 #![tactic(auto)]
 
 #[cfg(test)]
@@ -10,7 +9,5 @@ mod gate;
 mod jobs;
 #[cfg(test)]
 mod locks;
-#[cfg(test)]
-mod pieces;
 #[cfg(test)]
 mod turns;

@@ -9,6 +9,7 @@ ghost use Rattle.dex_orders.specs.StandsFor.{trader_of};
 ghost use Rattle.dex_totals.specs.Reading.{AreOrders, traders};
 ghost use Rattle.dex_totals.specs.Sums.{amount_of, capped};
 
+use crate::tokens::Token;
 use crate::traders::opened;
 use dex_orders::OrdersRef;
 use dex_types::OrdersAccount;
@@ -16,8 +17,7 @@ use dex_types::OrdersAccount;
 /// An amount of an open account, in native units.
 #[derive(Clone, Copy, Debug, PartialEq, Eq)]
 pub enum Amount {
-    FreeCoin,
-    FreePc,
+    Free(Token),
     Referrer,
 }
 
@@ -39,8 +39,8 @@ fn amount_of(amount: Amount, view: OrdersRef<'_>) -> u64
 {
     let funds = view.funds();
     match amount {
-        Amount::FreeCoin => funds.coin_free,
-        Amount::FreePc => funds.pc_free,
+        Amount::Free(Token::Coin) => funds.coin_free,
+        Amount::Free(Token::Pc) => funds.pc_free,
         Amount::Referrer => funds.referrer,
     }
 }

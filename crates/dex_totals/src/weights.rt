@@ -3,106 +3,77 @@
 ghost use Rattle.std.specs.Prelude.{◌≡◌, ◌<◌, ◌^◌, map};
 ghost use Rattle.dex_types.specs.Owed.{kept, leaving, owed, referred};
 ghost use Rattle.dex_types.specs.QueuedEvent.{decoded_event};
-ghost use Rattle.dex_types.specs.Side.{Coin, Pc};
 ghost use Rattle.dex_types.specs.Soundness.{event_holding, held_at};
 ghost use Rattle.dex_types.specs.Totals.{total, weighed_where};
 ghost use Rattle.dex_totals.specs.Held.{is_held, is_own_held};
 ghost use Rattle.dex_totals.specs.Reading.{AreOrders, traders};
-ghost use Rattle.dex_totals.specs.Sums.{capped, weight_of};
+ghost use Rattle.dex_totals.specs.Sums.{capped, token_of, weight_of};
 
 use crate::counts::side_of;
 use crate::held::is_held;
+use crate::tokens::Token;
 use crate::traders::held_at;
 use dex_crank::{Kind, kind_of};
 use dex_fees::referrer_part;
 use dex_types::{Address, Event, OrdersAccount, Side, is_same};
 
-/// An amount of a pending event, in native units of base (coin) or quote (pc).
+/// An amount of a pending event, in native units of a token; what is referred is quote.
 #[derive(Clone, Copy, Debug, PartialEq, Eq)]
 pub enum Weight {
-    OwedCoin,
-    OwedPc,
-    LeavingCoin,
-    LeavingPc,
-    KeptCoin,
-    KeptPc,
+    Owed(Token),
+    Leaving(Token),
+    Kept(Token),
     Referred,
 }
 
-fn owed_coin(event: &Event) -> u64
-    ensures { result ≡ owed Coin (decoded_event event.now) }
+fn owed(token: Token, event: &Event) -> u64
+    ensures { result ≡ owed (token_of token) (decoded_event event.now) }
 {
-    match kind_of(event.flags) {
-        Kind::MakerFill(Side::Bid) => event.released,
-        Kind::MakerFill(Side::Ask) => 0,
-        Kind::ReleasingOut(Side::Bid) => 0,
-        Kind::ReleasingOut(Side::Ask) => event.released,
-        Kind::TakerFill(_) => 0,
-        Kind::PlainOut(_) => 0,
+    match (kind_of(event.flags), token) {
+        (Kind::MakerFill(Side::Bid), Token::Coin) => event.released,
+        (Kind::MakerFill(Side::Bid), Token::Pc) => event.fee_or_rebate,
+        (Kind::MakerFill(Side::Ask), Token::Coin) => 0,
+        (Kind::MakerFill(Side::Ask), Token::Pc) => event.released,
+        (Kind::ReleasingOut(Side::Bid), Token::Coin) => 0,
+        (Kind::ReleasingOut(Side::Bid), Token::Pc) => event.released,
+        (Kind::ReleasingOut(Side::Ask), Token::Coin) => event.released,
+        (Kind::ReleasingOut(Side::Ask), Token::Pc) => 0,
+        (Kind::TakerFill(_), _) => 0,
+        (Kind::PlainOut(_), _) => 0,
     }
 }
 
-fn owed_pc(event: &Event) -> u64
-    ensures { result ≡ owed Pc (decoded_event event.now) }
+fn leaving(token: Token, event: &Event) -> u64
+    ensures { result ≡ leaving (token_of token) (decoded_event event.now) }
 {
-    match kind_of(event.flags) {
-        Kind::MakerFill(Side::Bid) => event.fee_or_rebate,
-        Kind::MakerFill(Side::Ask) => event.released,
-        Kind::ReleasingOut(Side::Bid) => event.released,
-        Kind::ReleasingOut(Side::Ask) => 0,
-        Kind::TakerFill(_) => 0,
-        Kind::PlainOut(_) => 0,
+    match (kind_of(event.flags), token) {
+        (Kind::MakerFill(Side::Bid), Token::Coin) => 0,
+        (Kind::MakerFill(Side::Bid), Token::Pc) => event.paid,
+        (Kind::MakerFill(Side::Ask), Token::Coin) => event.paid,
+        (Kind::MakerFill(Side::Ask), Token::Pc) => 0,
+        (Kind::ReleasingOut(_), _) => 0,
+        (Kind::TakerFill(_), _) => 0,
+        (Kind::PlainOut(_), _) => 0,
     }
 }
 
-fn leaving_coin(event: &Event) -> u64
-    ensures { result ≡ leaving Coin (decoded_event event.now) }
-{
-    match kind_of(event.flags) {
-        Kind::MakerFill(Side::Ask) => event.paid,
-        Kind::MakerFill(Side::Bid) => 0,
-        Kind::ReleasingOut(_) => 0,
-        Kind::TakerFill(_) => 0,
-        Kind::PlainOut(_) => 0,
-    }
-}
-
-fn leaving_pc(event: &Event) -> u64
-    ensures { result ≡ leaving Pc (decoded_event event.now) }
-{
-    match kind_of(event.flags) {
-        Kind::MakerFill(Side::Bid) => event.paid,
-        Kind::MakerFill(Side::Ask) => 0,
-        Kind::ReleasingOut(_) => 0,
-        Kind::TakerFill(_) => 0,
-        Kind::PlainOut(_) => 0,
-    }
-}
-
-fn kept_coin(event: &Event) -> u64
-    ensures { result ≡ kept Coin (decoded_event event.now) }
-{
-    match kind_of(event.flags) {
-        Kind::MakerFill(Side::Ask) => event.paid,
-        Kind::MakerFill(Side::Bid) => 0,
-        Kind::ReleasingOut(Side::Ask) => event.released,
-        Kind::ReleasingOut(Side::Bid) => 0,
-        Kind::TakerFill(_) => 0,
-        Kind::PlainOut(_) => 0,
-    }
-}
-
-fn kept_pc(event: &Event) -> u128
-    ensures value { result ≡ kept Pc (decoded_event event.now) }
+fn kept(token: Token, event: &Event) -> u128
+    ensures value { result ≡ kept (token_of token) (decoded_event event.now) }
     ensures small { result < 2 ^ 65 }
 {
-    match kind_of(event.flags) {
-        Kind::MakerFill(Side::Bid) => u128::from(event.paid) + u128::from(event.fee_or_rebate),
-        Kind::MakerFill(Side::Ask) => 0,
-        Kind::ReleasingOut(Side::Bid) => u128::from(event.released),
-        Kind::ReleasingOut(Side::Ask) => 0,
-        Kind::TakerFill(_) => 0,
-        Kind::PlainOut(_) => 0,
+    let paid = u128::from(event.paid);
+    let released = u128::from(event.released);
+    match (kind_of(event.flags), token) {
+        (Kind::MakerFill(Side::Bid), Token::Coin) => 0,
+        (Kind::MakerFill(Side::Bid), Token::Pc) => paid + u128::from(event.fee_or_rebate),
+        (Kind::MakerFill(Side::Ask), Token::Coin) => paid,
+        (Kind::MakerFill(Side::Ask), Token::Pc) => 0,
+        (Kind::ReleasingOut(Side::Bid), Token::Coin) => 0,
+        (Kind::ReleasingOut(Side::Bid), Token::Pc) => released,
+        (Kind::ReleasingOut(Side::Ask), Token::Coin) => released,
+        (Kind::ReleasingOut(Side::Ask), Token::Pc) => 0,
+        (Kind::TakerFill(_), _) => 0,
+        (Kind::PlainOut(_), _) => 0,
     }
 }
 
@@ -123,12 +94,9 @@ fn weigh(weight: Weight, event: &Event) -> u128
     ensures small { result < 2 ^ 65 }
 {
     match weight {
-        Weight::OwedCoin => u128::from(owed_coin(event)),
-        Weight::OwedPc => u128::from(owed_pc(event)),
-        Weight::LeavingCoin => u128::from(leaving_coin(event)),
-        Weight::LeavingPc => u128::from(leaving_pc(event)),
-        Weight::KeptCoin => u128::from(kept_coin(event)),
-        Weight::KeptPc => kept_pc(event),
+        Weight::Owed(token) => u128::from(owed(token, event)),
+        Weight::Leaving(token) => u128::from(leaving(token, event)),
+        Weight::Kept(token) => kept(token, event),
         Weight::Referred => u128::from(referred(event)),
     }
 }

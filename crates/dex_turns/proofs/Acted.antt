@@ -1,46 +1,60 @@
 -- A row that acts on its market and on the cells in hand, or is held back there, and what is recorded of it.
-use Rattle.std.proofs.Common.{◌≡◌, ℕ, ◌&&◌, ◌||◌, not, Bool, true, false, List, [], ◌∷◌, is_some, Option, Some, None, Result, Ok, Err, refl, sym, ap, ◌∙◌, subst}
-use Rattle.dex_world.proofs.Common.{AllZip, Refusal, Row, decoded, false≢true, row_of, All-cons, All-nil, Call, Market, PlainMarketAccounts, PlainRow, Seen, Sees, Step, asked_of, idle-step, is_done, is_held, is_refusal, is_refused, is_take, request_of, row_step, row_wallets, seen_by, step-refused, why}
-use Rattle.dex_turns.proofs.Common.{AreAllOrNone, AreInHand, CellState, Fits, HasEntry, IsAsOthers, IsSight, MarketCellState, PlainScript, SeesCells, Stamped, roles_of, world_with}
-use Rattle.std.specs.List.{All}
+use Rattle.std.proofs.Common.{◌≡◌, ℕ, ◌&&◌, ◌||◌, not, Bool, true, false, List, [], ◌∷◌, is_some, Result, Ok, Err, refl, sym, ap, ◌∙◌, subst, ⊎_elim}
+use Rattle.dex_world.proofs.Common.{AllZip, cases_Bool, decoded, false≢true, row_of, All-cons, All-nil, Call, Market, PlainRow, Seen, Sees, Step, asked_of, idle-step, is_done, is_held, is_refusal, is_refused, is_take, request_of, row_step, row_wallets, seen_by, step-refused, why}
+use Rattle.dex_turns.proofs.Common.{AreAllOrNone, AreInHand, BankMarketState, CellState, HasCall, HasEntry, IsAsOthers, IsSight, MarketCellState, PlainScript, Stamped, call_made, terms_of, world_with}
 use Rattle.dex_types.specs.declared.instructions.BadData.{BadData}
 use Rattle.dex_types.specs.declared.instructions.Ix.{Ix}
+use Rattle.dex_types.specs.declared.movements.Entry.{Entry}
+use Rattle.dex_types.specs.declared.rows.Row.{Row}
 use Rattle.dex_types.specs.Requests.{Request}
 use Rattle.dex_types.specs.Why.{why_decoded}
 use Rattle.dex_history.specs.Journal.{is_take_or_bad}
 use Rattle.dex_history.proofs.HeldLaws.{own-not_held}
-use Rattle.dex_cell.specs.CellState.{CanHold, market_at}
-use Rattle.dex_accounts.specs.Decoded.{market_in}
+use Rattle.dex_cell.specs.CellState.{market_at}
 use Rattle.dex_act.specs.Acted.{HaveActed}
 use Rattle.dex_world.specs.Items.{doing}
 use Rattle.dex_world.proofs.ItemLaws.{not-refused}
 use Rattle.dex_script_types.specs.Facts.{IsLeg}
 use Rattle.dex_turns.specs.Submitted.{written_by}
-use Rattle.dex_turns.specs.Turns.{IsTold, made_by}
-use Rattle.dex_turns.proofs.InHand.{HasHands, cells-named, have-entries, moves-each, sees-asked, sees-hand, sight}
+use Rattle.dex_act.specs.declared.sight.Terms.{Terms}
+use Rattle.dex_act.specs.declared.steps.RowDone.{RowDone}
+use Rattle.dex_act.specs.Steps.{IsRecorded, IsStepOn, IsTakeOrRefused, made_by}
+use Rattle.dex_journals.specs.Journals.{IsBankMarket, market_more}
+use Rattle.dex_turns.specs.declared.stamped_record.StampedRecord.{StampedRecord}
+use Rattle.dex_turns.specs.Turns.{IsTold}
+use Rattle.dex_turns.proofs.InHand.{HasHands, cells-named, have-entries, moves-each, sight}
 
--- ---- what it sees of the cells in hand
+-- ---- what is recorded of its call
 
-module _ (script : PlainScript) (row : PlainRow) (cells lent : List CellState) (seen : Seen) (hand : HasHands script row cells) (value : lent ≡ cells)
-    (seen_so : seen ≡ seen_by row (world_with script lent)) where
-  pub seen-is : seen ≡ seen_by row (world_with script cells)
-  seen-is = seen_so ∙ ap (λ (l : List CellState). seen_by row (world_with script l)) value
+pub call-is : (row : Row) (made : StampedRecord) (done : RowDone) (waits : Bool) (m : Market) → made.seen.value ≡ done.seen.value → made.entry.value ≡ done.entry.value
+    → IsRecorded (row_of row) waits m done
+    → call_made (row, made) ≡ record { item = made_by waits (row_of row) done.seen.value m; stamp = made.stamp.number }
+call-is row made done waits m seen_is entry_is recorded =
+    let stamped : Call → Stamped Call = λ call. record { item = call; stamp = made.stamp.number } in
+    ap (λ (seen : Seen). stamped (record { asked = asked_of (row_of row); seen = seen; entry = made.entry.value })) seen_is
+    ∙ ap (λ (entry : Entry). stamped (record { asked = asked_of (row_of row); seen = done.seen.value; entry = entry })) entry_is
+    ∙ ap stamped recorded.call
 
-  pub sees-row : Sees (asked_of row) seen
-  sees-row = subst (Sees (asked_of row)) (sym seen-is) (sees-asked script row cells hand)
+-- its market has it
+pub has-call : (terms : Terms) (row : PlainRow) (waits : Bool) (done : RowDone) (stamp : ℕ) (before after : BankMarketState) (cells left : List CellState)
+    → IsStepOn terms row waits done before.cell after.cell cells left → after ≡ market_more before after.cell stamp → IsBankMarket after
+    → HasCall (record { item = made_by waits row done.seen.value (market_at before.cell); stamp = stamp }) before after
+has-call terms row waits done stamp before after cells left step more kept = record {
+  calls = step.did.calls;
+  stamps = ap (λ (market : BankMarketState). market.stamps) more;
+  start = step.did.start;
+  script = ap (λ (market : BankMarketState). market.script) more;
+  kept = kept;
+}
 
-  pub sees-own : All Fits (roles_of seen) → SeesCells seen cells
-  sees-own fits =
-      subst (λ (s : Seen). SeesCells s cells) (sym seen-is) (sees-hand script row cells hand (subst (λ (s : Seen). All Fits (roles_of s)) seen-is fits))
-
-  -- what is recorded of its call
-  pub is-told : (waits : Bool) (m : Market) (stamp : ℕ) → IsTold script (record { item = made_by waits row seen m; stamp = stamp })
-  is-told waits m stamp =
-      let s : Step = row_step (doing waits row) seen m in
-      record {
-        sees = subst (IsSight script) (sym seen-is) (sight script row cells hand);
-        moves = moves-each row seen s.reply s.transfers stamp sees-row;
-      }
+pub is-told : (script : PlainScript) (row : PlainRow) (cells : List CellState) (seen : Seen) → HasHands script row cells → seen ≡ seen_by row (world_with script cells)
+    → Sees (asked_of row) seen → (waits : Bool) (m : Market) (stamp : ℕ) → IsTold script (record { item = made_by waits row seen m; stamp = stamp })
+is-told script row cells seen hand seen_is sees waits m stamp =
+    let s : Step = row_step (doing waits row) seen m in
+    record {
+      sees = subst (IsSight script) (sym seen_is) (sight script row cells hand);
+      moves = moves-each row seen s.reply s.transfers stamp sees;
+    }
 
 -- ---- what it writes
 
@@ -85,12 +99,15 @@ leg-waits row leg seen m waits other refused is told = record {
     spared : waits ≡ true → is_some (why (request_of row) seen m) ≡ false
     spared on = sym told ∙ not-refused other refused (sym is ∙ on)
 
-pub can-hold : (row : Row) (seen : Seen) (market : MarketCellState) (waits : Bool) → MayWait waits (row_of row) seen (market_at market) → waits ≡ true → CanHold row seen market
-can-hold row seen market waits may on = record { take = may.take on; spared = nothing (why (request_of (row_of row)) seen (market_at market)) (may.spared on) }
-  where
-    nothing : (found : Option Refusal) → is_some found ≡ false → found ≡ None
-    nothing None is = refl
-    nothing (Some why) is = absurd (false≢true (sym is))
+-- a leg is a take, or is refused
+pub take-or-refused : (script : PlainScript) (row : PlainRow) → IsLeg row → (market : MarketCellState) (cells : List CellState)
+    → IsTakeOrRefused (terms_of script) row market cells
+take-or-refused script row leg market cells isnt =
+    let seen : Seen = seen_by row (world_with script cells) in
+    let refused : Bool = is_some (why (request_of row) seen (market_at market)) in
+    ⊎_elim (λ (some : refused ≡ true). some)
+    (λ (none : refused ≡ false). absurd (false≢true (sym isnt ∙ take-of (decoded row.bytes) (request_of row) seen (market_at market) leg.take none)))
+    (cases_Bool refused)
 
 -- two calls of which each waits where the other is refused and it is not
 pub all-or-none : (one two : Stamped Call) (waits next refused other : Bool) → is_held one.item ≡ waits → is_held two.item ≡ next → is_refused one.item ≡ refused
@@ -113,10 +130,3 @@ all-or-none one two waits next refused other one_held two_held one_refused two_r
     two-is true false = refl
     two-is false true = refl
     two-is false false = refl
-
--- ---- its market
-
--- the address of a market is that of its accounts
-pub listed : (accounts : PlainMarketAccounts) → (market_in accounts).listing.address ≡ accounts.address
-unfolding market_in
-listed accounts = refl

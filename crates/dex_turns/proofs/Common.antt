@@ -23,7 +23,7 @@ pub use Rattle.dex_script_types.specs.Facts.{IsRowOf, IsScript}
 pub use Rattle.dex_script_types.specs.Known.{has_account}
 pub use Rattle.dex_script_types.specs.Places.{IsPlace, market_addresses, wallet_addresses}
 pub use Rattle.dex_script_types.specs.Sight.{IsSight, IsWalletSeen}
-pub use Rattle.dex_stage.specs.Parts.{world_with}
+pub use Rattle.dex_turns.specs.Outline.{terms_of, world_with}
 pub use Rattle.dex_stamps.specs.Stamped.{Stamped, stamped}
 pub use Rattle.dex_token.proofs.AmountWrites.{wallet_words-with_amount}
 pub use Rattle.dex_token.specs.TokenAccount.{WalletWords, wallet_words}

@@ -1,6 +1,7 @@
 -- No two wallets of a script, and no two of its markets, have one address.
 use Rattle.std.proofs.Common.{◌≡◌, ℕ, ◌+◌, ◌≤◌, Bool, true, false, ◌||◌, cond, List, [], ◌∷◌, map, refl, ap, ◌∙◌, arith, ⊎_elim}
 use Rattle.dex_world.proofs.Common.{Address, PlainAccount, PlainAccounts, PlainMarketAccounts, cases_Bool, is_same, is_same-refl, list_any, sum_by-cons}
+use Rattle.dex_types.specs.declared.limits.Limits.{Limits}
 use Rattle.dex_turns.proofs.Common.{AreAccepted, market-once, wallet-once}
 use Rattle.dex_state.specs.Addresses.{times}
 use Rattle.dex_turns.proofs.Growing.{Differ}
@@ -27,8 +28,8 @@ differ-once key (x ∷ xs) once = (
   differ-once key xs (λ address. omega (arith, once address, times-cons address (key x) (map key xs))),
 )
 
-pub wallets-differ : (accounts : PlainAccounts) → AreAccepted accounts → Differ (λ (account : PlainAccount). account.address) accounts.wallets
+pub wallets-differ : {limits : Limits} (accounts : PlainAccounts) → AreAccepted limits accounts → Differ (λ (account : PlainAccount). account.address) accounts.wallets
 wallets-differ accounts accepted = differ-once (λ (account : PlainAccount). account.address) accounts.wallets (λ address. wallet-once accounts address (accepted.once address))
 
-pub markets-differ : (accounts : PlainAccounts) → AreAccepted accounts → Differ (λ (market : PlainMarketAccounts). market.address) accounts.markets
+pub markets-differ : {limits : Limits} (accounts : PlainAccounts) → AreAccepted limits accounts → Differ (λ (market : PlainMarketAccounts). market.address) accounts.markets
 markets-differ accounts accepted = differ-once (λ (market : PlainMarketAccounts). market.address) accounts.markets (λ address. market-once accounts address (accepted.once address))

@@ -1,13 +1,14 @@
 -- The cells in hand, when they are those of all wallets that a row names: what it sees, and what it leaves.
 use Rattle.std.proofs.Common.{◌≡◌, ℕ, true, List, [], ◌∷◌, ◌++◌, length, map, Option, Some, None, refl, sym, ap, ◌∙◌, subst, arith}
 use Rattle.dex_world.proofs.Common.{Address, All-cons, All-head, All-nil, All-tail, All-weaker, AllZip, Call, Movement, PlainAccount, PlainRow, Reply, Seen, Sees, Transfers, WalletSeen, WalletState, asked_of, cond-true, cond_both, entry_by, filter, is_same, is_same-refl, list_any, movement_of, names, or_left, or_right, places-movements, role_at, row_wallets, seen_by, wallet_acted, wallet_at, wallet_entry_by, wallet_moved}
-use Rattle.dex_turns.proofs.Common.{All-unmap, AreInHand, CellState, Fits, HasEntry, IsReady, IsSight, IsWalletCell, IsWalletSeen, MovesEach, PlainScript, SeesCells, Stamped, WalletWords, any-here, any-there, balance_of, entries_in, entry_made, is_among, made_of, roles_of, wallet_state_of, wallet_words, wallet_words-with_amount, world_with}
+use Rattle.dex_turns.proofs.Common.{All-unmap, AreInHand, CellState, HasEntry, IsReady, IsSight, IsWalletCell, IsWalletSeen, MovesEach, PlainScript, Stamped, WalletWords, any-here, any-there, balance_of, entries_in, entry_made, is_among, made_of, wallet_state_of, wallet_words, wallet_words-with_amount, world_with}
 use Rattle.std.specs.List.{All, Any}
 use Rattle.std.proofs.lemmas.List.{append-nil}
 use Rattle.dex_history.proofs.WalletLaws.{movements-named}
 use Rattle.dex_wallet.specs.CellState.{HasSpare, seen_of}
-use Rattle.dex_act.specs.Wallets.{AreApart}
-use Rattle.dex_act.proofs.Sights.{row-sees, sees-cells}
+use Rattle.dex_act.specs.declared.places.WalletPlaces.{WalletPlaces}
+use Rattle.dex_act.specs.Steps.{HasWallets}
+use Rattle.dex_act.specs.Wallets.{AreApart, ArePlacesAmong}
 use Rattle.dex_act.proofs.CellLists.{is_among-any}
 use Rattle.dex_world.proofs.KeptMoves.{moves-kept}
 use Rattle.dex_turns.specs.Submitted.{written_by}
@@ -104,16 +105,15 @@ cells-named script row cells hand =
     (sym (append-nil (map address_in cells)) ∙ hand.are) (each-any (map address_in cells)))
 
 module _ (script : PlainScript) (row : PlainRow) (cells : List CellState) (hand : HasHands script row cells) where
-  -- ---- what the row sees
+  -- ---- the row can act on them
 
-  pub sees-asked : Sees (asked_of row) (seen_by row (world_with script cells))
-  sees-asked = row-sees row (world_with script cells) cells refl hand.here
-
-  pub sees-hand : All Fits (roles_of (seen_by row (world_with script cells))) → SeesCells (seen_by row (world_with script cells)) cells
-  sees-hand fits =
-      sees-cells row (world_with script cells) cells refl (apart-cells cells hand.once)
-      (All-weaker (IsUsable script row) IsWalletCell (λ cell ready. ready.kept) cells hand.usable) hand.here
-      (All-weaker (IsUsable script row) (λ (cell : CellState). names row cell.address ≡ true → HasSpare cell) (λ cell ready. ready.spare) cells hand.usable) fits
+  pub has-wallets : (places : WalletPlaces) → ArePlacesAmong cells row places → HasWallets row places cells
+  has-wallets places at = record {
+    apart = apart-cells cells hand.once;
+    kept = All-weaker (IsUsable script row) IsWalletCell (λ cell ready. ready.kept) cells hand.usable;
+    spare = All-weaker (IsUsable script row) (λ (cell : CellState). names row cell.address ≡ true → HasSpare cell) (λ cell ready. ready.spare) cells hand.usable;
+    at = at;
+  }
 
   -- ---- it is a sight of the script
 

@@ -1,129 +1,15 @@
--- The cells in hand of two legs that share no wallet: what the second sees after the first, and what both write.
-use Rattle.std.proofs.Common.{◌≡◌, ℕ, ◌<◌, ◌||◌, Bool, true, false, cond, List, [], ◌∷◌, ◌++◌, length, map, Option, Some, None, refl, sym, ap, ◌∙◌, subst, arith, ⊎_elim}
-use Rattle.dex_world.proofs.Common.{Address, All-cons, All-head, All-nil, All-tail, AllZip, Call, Market, PlainRow, Seen, Sees, ShareNothing, Step, Transfers, WalletEntry, WalletState, act, acted, asked_of, cases_Bool, false≢true, is_same, list_any, movement_of, names, row_step, row_wallets, seen_by, wallet_acted, wallet_moved}
-use Rattle.dex_turns.proofs.Common.{CellState, HasEntry, IsWalletCell, PlainScript, Stamped, entries_in, made_of, wallet_state_of, world_with}
+-- The cells in hand of two legs that share no wallet: what both write.
+use Rattle.std.proofs.Common.{◌≡◌, ℕ, ◌||◌, Bool, true, false, cond, List, [], ◌∷◌, ◌++◌, length, map, refl, sym, ap, ◌∙◌, arith, ⊎_elim}
+use Rattle.dex_world.proofs.Common.{Address, All-head, All-tail, AllZip, Call, Market, PlainRow, Seen, Sees, ShareNothing, Step, WalletEntry, asked_of, cases_Bool, false≢true, movement_of, names, row_step, wallet_acted, wallet_moved}
+use Rattle.dex_turns.proofs.Common.{CellState, HasEntry, IsWalletCell, Stamped, entries_in, made_of, wallet_state_of}
 use Rattle.std.specs.List.{All}
 use Rattle.std.proofs.lemmas.List.{append-nil}
-use Rattle.dex_world.specs.World.{World, market_at}
-use Rattle.dex_world.proofs.FarLaws.{seen-far}
-use Rattle.dex_act.specs.Wallets.{is_among}
 use Rattle.dex_act.specs.Acted.{HaveActed}
 use Rattle.dex_world.specs.Items.{doing}
 use Rattle.dex_turns.specs.Submitted.{written_by, written_by_two}
-use Rattle.dex_turns.specs.Turns.{made_by}
-use Rattle.dex_turns.proofs.Rising.{AreOnce}
+use Rattle.dex_act.specs.Steps.{made_by}
 use Rattle.dex_turns.proofs.Counts.{entries-one}
-use Rattle.dex_turns.proofs.InHand.{HasHands, IsUsable, has-entry, moves-each}
-
--- ---- what a leg sees behind one that shares nothing with it
-
-module _ (first second : PlainRow) (share : ShareNothing first second) (waits : Bool) (seen : Seen) (m : Market) where
-  abbrev done : PlainRow
-  done = doing waits first
-
-  abbrev moved : Transfers
-  moved = (row_step done seen m).transfers
-
-  done-share : ShareNothing done second
-  done-share = record { markets = share.markets; wallets = share.wallets }
-
-  -- the cells of a script with the market of the first leg, as a world
-  abbrev world_after : PlainScript → List CellState → World
-  world_after script cells = record (world_with script cells) { markets = record { market = m; entries = [] } ∷ [] }
-
-  abbrev with_wallets : PlainScript → List CellState → List WalletState → World
-  with_wallets script cells wallets = record (world_after script cells) { wallets = wallets }
-
-  -- acting leaves all else of a world as it is
-  acted-else : (world : World) → seen_by second (record world { wallets = (acted done (Some m) world).wallets }) ≡ seen_by second (acted done (Some m) world)
-  acted-else world = refl
-
-  pub seen-behind : (script : PlainScript) (cells after : List CellState) → seen ≡ seen_by first (world_with script cells) → is_same first.market m.listing.address ≡ true
-      → map wallet_state_of after ≡ map (wallet_acted done seen moved) (map wallet_state_of cells)
-      → seen_by second (world_with script after) ≡ seen_by second (world_with script cells)
-  seen-behind script cells after seen_so on states =
-      ap (λ (wallets : List WalletState). seen_by second (with_wallets script cells wallets))
-      (states
-      ∙ ap (λ (s : Seen). map (wallet_acted done s (row_step done s m).transfers) (map wallet_state_of cells)) seen_so)
-      ∙ acted-else (world_after script cells)
-      ∙ sym (ap (seen_by second) acts)
-      ∙ seen-far done second done-share (world_after script cells)
-    where
-      found : market_at first.market (world_after script cells).markets ≡ Some m
-      found = ap (λ (b : Bool). cond b (Some m) None) on
-
-      acts : act done (world_after script cells) ≡ acted done (Some m) (world_after script cells)
-      acts = ap (λ (at : Option Market). acted done at (world_after script cells)) found
-
--- ---- the cells behind the first leg
-
--- a cell that the first does not name is in its state, and each is of its wallet
-module _ (first second : PlainRow) (share : ShareNothing first second) (seen : Seen) (t : Transfers) where
-  stays : (state : WalletState) → names first state.seen.address ≡ false → wallet_acted first seen t state ≡ state
-  stays state away = ap (λ (b : Bool). cond b (wallet_moved first (movement_of seen t state.seen.address) state) state) away
-
-  still-usable : (script : PlainScript) (old new : CellState) → wallet_state_of new ≡ wallet_acted first seen t (wallet_state_of old) → made_of new ≡ made_of old
-      → IsWalletCell new → IsUsable script second old → IsUsable script second new
-  still-usable script old new is alike kept usable =
-      let address : new.address ≡ old.address = ap (λ (cell : CellState). cell.address) alike in
-      let start : new.start ≡ old.start = ap (λ (cell : CellState). cell.start) alike in
-      let room : new.room ≡ old.room = ap (λ (cell : CellState). cell.room) alike in
-      record {
-        kept = kept;
-        start = record {
-          earlier = usable.start.earlier;
-          later = usable.start.later;
-          is = usable.start.is
-              ∙ ap (λ (a : Address). usable.start.earlier ++ record { address = a; bytes = old.start } ∷ usable.start.later) (sym address)
-              ∙ ap (λ (b : List ℕ). usable.start.earlier ++ record { address = new.address; bytes = b } ∷ usable.start.later) (sym start);
-        };
-        spare = λ named.
-            let before : names second old.address ≡ true = ap (names second) (sym address) ∙ named in
-            let same : wallet_state_of new ≡ wallet_state_of old = is ∙ stays (wallet_state_of old) (share.wallets old.address before) in
-            let entries : new.entries ≡ old.entries = ap (λ (state : WalletState). state.entries) same in
-            subst (λ (n : ℕ). length new.entries < n) (sym room) (subst (λ (all : List WalletEntry). length all < old.room) (sym entries) (usable.spare before));
-      }
-
-  all-usable : (script : PlainScript) (before after : List CellState) → map wallet_state_of after ≡ map (wallet_acted first seen t) (map wallet_state_of before)
-      → map made_of after ≡ map made_of before → All IsWalletCell after → All (IsUsable script second) before → All (IsUsable script second) after
-  all-usable script [] [] states alike kept usable = All-nil (IsUsable script second)
-  all-usable script [] (new ∷ after) states alike kept usable = absurd (omega (arith, ap length alike))
-  all-usable script (old ∷ before) [] states alike kept usable = absurd (omega (arith, ap length alike))
-  all-usable script (old ∷ before) (new ∷ after) states alike kept usable =
-      All-cons (IsUsable script second) new after
-      (still-usable script old new (let one = states in cc) (let one = alike in cc) (All-head IsWalletCell new after kept) (All-head (IsUsable script second) old before usable))
-      (all-usable script before after (let rest = states in cc) (let rest = alike in cc) (All-tail IsWalletCell new after kept)
-      (All-tail (IsUsable script second) old before usable))
-
-same-addresses : (before after : List CellState) → map made_of after ≡ map made_of before → map (λ (cell : CellState). cell.address) after ≡ map (λ (cell : CellState). cell.address) before
-same-addresses [] [] alike = refl
-same-addresses [] (new ∷ after) alike = absurd (omega (arith, ap length alike))
-same-addresses (old ∷ before) [] alike = absurd (omega (arith, ap length alike))
-same-addresses (old ∷ before) (new ∷ after) alike =
-    let here : made_of new ≡ made_of old = (let one = alike in cc) in
-    let rest : map made_of after ≡ map made_of before = (let one = alike in cc) in
-    ap (λ (a : Address). a ∷ map (λ (cell : CellState). cell.address) after) (ap (λ (cell : CellState). cell.address) here)
-    ∙ ap (λ (l : List Address). old.address ∷ l) (same-addresses before after rest)
-
-among-addresses : (address : Address) (cells : List CellState) → is_among address cells ≡ list_any (is_same address) (map (λ (cell : CellState). cell.address) cells)
-among-addresses address [] = refl
-among-addresses address (cell ∷ cells) = ap (λ (b : Bool). is_same address cell.address || b) (among-addresses address cells)
-
--- so the second can be seen to and act after the first
-pub hands-behind : (first second : PlainRow) → ShareNothing first second → (waits : Bool) (seen : Seen) (t : Transfers) (script : PlainScript) (before after : List CellState)
-    → HaveActed (doing waits first) seen t before after → HasHands script second before → HasHands script second after
-hands-behind first second share waits seen t script before after moved hands =
-    let same = same-addresses before after moved.made in
-    let among : (address : Address) → is_among address before ≡ is_among address after = λ address.
-    among-addresses address before ∙ ap (λ (l : List Address). list_any (is_same address) l) (sym same) ∙ sym (among-addresses address after) in
-    record {
-      usable = all-usable (doing waits first) second (record { markets = share.markets; wallets = share.wallets }) seen t script before after moved.states moved.made moved.kept hands.usable;
-      once = subst AreOnce (sym same) hands.once;
-      here = subst (λ (Is : Address → Bool). All (λ (address : Address). Is address ≡ true) (row_wallets second))
-          (λ i address. among address i) hands.here;
-    }
-
--- ---- what both write
+use Rattle.dex_turns.proofs.InHand.{has-entry, moves-each}
 
 module _ (first second : PlainRow) (share : ShareNothing first second) (one_waits two_waits : Bool) (one_seen two_seen : Seen) (m n : Market) (stamp : ℕ)
     (one_sees : Sees (asked_of first) one_seen) (two_sees : Sees (asked_of second) two_seen) (lanes : first.lane ≡ second.lane) where

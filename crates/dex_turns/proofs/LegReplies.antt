@@ -10,7 +10,7 @@ use Rattle.dex_history.specs.Journal.{is_took}
 use Rattle.dex_history.proofs.HeldLaws.{take-tells}
 use Rattle.dex_script_types.specs.Facts.{IsLeg}
 use Rattle.dex_turns.specs.Submitted.{AreLegReplies}
-use Rattle.dex_turns.specs.Turns.{made_by}
+use Rattle.dex_act.specs.Steps.{made_by}
 use Rattle.dex_turns.proofs.Acted.{MayWait, take-of}
 
 -- ---- one leg

@@ -18,7 +18,7 @@ MarketGate = GateView (Stamped Call) MarketOrigin
 
 -- ---- one of them
 
--- the same place, by another name
+-- a row may enter at a place by another name
 pub at-place : {bank : BankState} {row : PlainRow} {passes : List MarketPass} {place other : ℕ} → other ≡ place → MayEnterAt bank row passes place → MayEnterAt bank row passes other
 at-place {bank} {row} {passes} same may = subst (MayEnterAt bank row passes) (sym same) may
 

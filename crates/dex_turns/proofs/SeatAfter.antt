@@ -164,7 +164,7 @@ module _ (bank : BankState) (row : PlainRow) (before : SeatState) (ahead : IsAhe
           ap (λ (o : MarketOrigin). o.start)
           (subst (IsMarketGate bank.script (get_or market_starts place d)) (sym gate_is) (zip-at (IsMarketGate bank.script) market_starts bank.markets place d gate bank_kept.markets within)).origin
 
-      -- the same, said of the place
+      -- the row may enter at its place
       pub enters-at : MayEnterAt bank row before.markets place
       enters-at = record {
         within = (within, within-gates bank bank_kept row.market place at, within-passes);

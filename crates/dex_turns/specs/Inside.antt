@@ -10,6 +10,7 @@ use Rattle.dex_turns.specs.declared.bank.BankParts.{BankParts}
 use Rattle.dex_turns.specs.declared.seat.LaneSeat.TheInside as seat
 use Rattle.dex_turns.specs.declared.stamped_record.StampedRecord.{StampedRecord}
 use Rattle.dex_turns.specs.Bank.{BankState, IsBank}
+use Rattle.dex_turns.specs.Outline.{terms_of}
 use Rattle.dex_turns.specs.Seats.{IsSeat, SeatState}
 use Rattle.dex_turns.specs.Submitted.{Written, written_by}
 
@@ -29,9 +30,7 @@ pub record IsBankKept (inside : bank.Inside) : Type 0 where
 -- these are a bank's gates, with what of its start no row changes
 pub record ArePartsOf (bank : BankState) (parts : BankParts) : Type 0 where
   pub mints : map named_of parts.mints.items ≡ bank.script.start.mints
-  pub srm : parts.srm ≡ bank.script.start.srm
-  pub msrm : parts.msrm ≡ bank.script.start.msrm
-  pub program : parts.program ≡ bank.script.program
+  pub terms : parts.terms ≡ terms_of bank.script
   pub markets : parts.markets.items ≡ bank.markets
   pub wallets : parts.wallets.items ≡ bank.wallets
 

@@ -68,7 +68,7 @@ HasWritten written start before after =
     HasMade (written.at start.address)
     (λ (seen : List (Stamped WalletEntry)). IsWalletLegal (balance_of start.bytes) (items_of seen)) before after
 
--- the same of a row and its call
+-- a pass has written what a row's call writes
 abbrev pub HasMoved : Stamped Call → PlainAccount → PassView (Stamped WalletEntry) WalletOrigin
     → PassView (Stamped WalletEntry) WalletOrigin → Type 0
 HasMoved call start before after = HasWritten (written_by call) start before after

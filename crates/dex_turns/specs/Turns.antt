@@ -1,14 +1,12 @@
 -- An item while it has turns: those of its markets, and those of the first of its wallets, whose cells are in hand.
-use Rattle.std.specs.Prelude.{ℕ, ◌≡◌, ◌<◌, Bool, true, false, List, [], ◌∷◌, ◌++◌, Option, Some, None, All, length, map}
+use Rattle.std.specs.Prelude.{ℕ, ◌≡◌, ◌<◌, true, false, List, [], ◌∷◌, ◌++◌, Option, Some, None, All, length, map}
 use Rattle.std.specs.Prelude.{slice_index_or, slice_set}
 use Rattle.std.specs.List.{AllZip, list_any}
 use Rattle.dex_types.specs.declared.addresses.Address.{Address}
 use Rattle.dex_types.specs.declared.movements.WalletEntry.{WalletEntry}
 use Rattle.dex_types.specs.declared.rows.RowPlaces.{RowPlaces}
-use Rattle.dex_types.specs.declared.rows.Seen.{Seen}
 use Rattle.dex_types.specs.Accounts.{PlainAccount, PlainMarketAccounts}
 use Rattle.dex_types.specs.Addresses.{is_same}
-use Rattle.dex_types.specs.Market.{Market}
 use Rattle.dex_types.specs.Rows.{PlainRow}
 use Rattle.dex_types.specs.Wallets.{is_lower, with_address, with_role}
 use Rattle.dex_types.specs.WalletJournal.{IsWalletLegal}
@@ -17,15 +15,13 @@ use Rattle.dex_gate.specs.GateView.{GateView}
 use Rattle.dex_gate.specs.History.{AddsOne, Extends, added, of_lane}
 use Rattle.dex_gate.specs.PassView.{PassView}
 use Rattle.dex_gate.specs.declared.stage.Stage.TheVariants.{Idle, Out}
-use Rattle.dex_history.specs.Journal.{Call, asked_of, is_held}
-use Rattle.dex_cell.specs.CellState.{call_made}
+use Rattle.dex_history.specs.Journal.{Call, is_held}
 use Rattle.dex_wallet.specs.CellState.{CellState, HasSpare, IsWalletCell, balance_of}
 use Rattle.dex_act.specs.Wallets.{made_of}
 use Rattle.dex_script_types.specs.PlainScript.{PlainScript}
 use Rattle.dex_script_types.specs.Facts.{AreLegs}
 use Rattle.dex_script_types.specs.Known.{has_account}
 use Rattle.dex_script_types.specs.Places.{IsPlaced, wallet_place}
-use Rattle.dex_world.specs.Items.{doing}
 use Rattle.dex_world.specs.Lists.{AllThree}
 use Rattle.dex_world.specs.RowsOf.{rows_of_market, rows_of_wallet}
 use Rattle.dex_script_types.specs.Sight.{IsSight}
@@ -345,7 +341,3 @@ pub record MayCallBoth (first second : PlainRow) (markets : TwoMarkets) : Type 0
   pub first_may : MayCall first markets.first
   pub second_may : MayCall second markets.second
   pub legs : AreLegs first second
-
--- the call of a row that acts on a market or is held back there
-abbrev pub made_by : Bool → PlainRow → Seen → Market → Call
-made_by waits row seen m = record (call_made (doing waits row) seen m) { asked = asked_of row }

@@ -9,7 +9,7 @@ ghost use Rattle.dex_turns.specs.Turns.{HasRowActed, MayCall};
 use crate::acts::Acts;
 use crate::bank::Bank;
 use crate::stamped_record::StampedRecord;
-use crate::waiting::act_or_wait;
+use dex_act::{RowAt, places_in};
 use dex_io::Pace;
 use dex_journals::BankMarket;
 use dex_script_types::place_in;
@@ -48,6 +48,7 @@ impl<'a, P: Pace> Acts for RowAlone<'a, P> {
     fn place(&self, address: Address) -> usize {
         match place_in(self.row, self.places, address) {
             Some(place) => place,
+            // Only wallets that the row names are asked for.
             None => unreachable!(),
         }
     }
@@ -60,8 +61,13 @@ impl<'a, P: Pace> Acts for RowAlone<'a, P> {
         stamp: &Stamp,
     ) -> StampedRecord {
         self.pace.inside(self.row.lane, self.row.number);
-        let seen = bank.seen_by(hands, self.row);
-        act_or_wait(market, hands, self.row, &seen, false, stamp.next())
+        let asking = RowAt {
+            row: self.row,
+            places: places_in(hands, self.row),
+        };
+        let stamp = stamp.next();
+        let done = market.step(hands, bank.terms(), &asking, &stamp);
+        StampedRecord::of(done, stamp)
     }
 
     fn stamp<'m>(&self, made: &'m StampedRecord) -> &'m Stamp {

@@ -50,6 +50,7 @@ impl<'a, R: Wait> At<'a, R> {
         wallets: &mut WalletPasses,
         last: &Stamp,
     ) -> StampedRecord
+        // The row, its places and its passes are of this bank, and nothing is in hand.
         requires bank { IsBank self.now.bank.now }
         requires places { IsPlaced self.now.bank.now.script.start (row_of item.now.row.now) item.now.places.now }
         requires market { MayEnter self.now.bank.now.script (row_of item.now.row.now) gate.now pass.old }
@@ -58,9 +59,13 @@ impl<'a, R: Wait> At<'a, R> {
             wallets.old.passes.items }
         requires hands { wallets.old.hands.items ≡ [] }
         requires room { 4 ≤ vec_capacity wallets.old.hands }
+
+        // The row is told, later than the last of its lane.
         ensures own { is_held (call_made (item.now.row.now, result)).item ≡ false }
         ensures told { IsTold self.now.bank.now.script (call_made (item.now.row.now, result)) }
         ensures later { last.now.number < result.stamp.number }
+
+        // Its market and its wallets have one entry more, and nothing is in hand again.
         ensures market { HasCalled (call_made (item.now.row.now, result)) gate.now.origin.start pass.old pass.new }
         ensures passes { HaveGrown self.now.bank.now (row_wallets (row_of item.now.row.now))
             (written_of (item.now.row.now, result)) wallets.old.passes.items wallets.new.passes.items }
@@ -82,6 +87,7 @@ impl<'a, R: Wait> At<'a, R> {
         wallets: &mut WalletPasses,
         last: &Stamp,
     ) -> TwoRecords
+        // The legs, their places and their passes are of this bank, and nothing is in hand.
         requires placed { AreLegsPlaced self.now.bank.now.script (row_of legs.now.first.now)
             (row_of legs.now.second.now) legs.now.first_places.now legs.now.second_places.now }
         requires bank { IsBank self.now.bank.now }
@@ -98,8 +104,12 @@ impl<'a, R: Wait> At<'a, R> {
             (leg_wallets (row_of legs.now.first.now) (row_of legs.now.second.now)) wallets.old.passes.items }
         requires hands { wallets.old.hands.items ≡ [] }
         requires room { 4 ≤ vec_capacity wallets.old.hands }
+
+        // The legs are told, later than the last of their lane.
         ensures told { HaveLegsTold self.now.bank.now.script last.now.number (one_made legs.now.first.now result)
             (two_made legs.now.second.now result) }
+
+        // Their markets and wallets have one entry more for each, and nothing is in hand again.
         ensures markets { AllThree (LegMarketGrows (row_of legs.now.first.now) (row_of legs.now.second.now)
             (one_made legs.now.first.now result) (two_made legs.now.second.now result))
             self.now.bank.now.script.start.markets markets.old.items markets.new.items }
@@ -141,6 +151,7 @@ impl<'a, R: Wait> At<'a, R> {
         wallets: &mut WalletPasses,
         stamp: &Stamp,
     ) -> A::Made
+        // The item and its passes are of this bank, and the wallets before are in hand.
         requires bank { IsBank self.now.bank.now }
         requires placed { A.placed item.now self.now.bank.now.script }
         requires named { MayName self.now.bank.now.script (A.named item.now) }
@@ -150,8 +161,12 @@ impl<'a, R: Wait> At<'a, R> {
             wallets.old.hands.items }
         requires passes { AreReady self.now.bank.now (A.lane item.now) (front others.now) wallets.old.passes.items }
         requires room { length wallets.old.hands.items + length others.now ≤ vec_capacity wallets.old.hands }
+
+        // The item acts, later than all before it.
         ensures did { A.did item.now self.now.bank.now.script result markets.old markets.new }
         ensures written { IsWritten (A.lane item.now) stamp.now.number (A.written item.now result) }
+
+        // Each wallet has one entry more, those in hand too.
         ensures passes { HaveGrown self.now.bank.now (front others.now) (A.written item.now result)
             wallets.old.passes.items wallets.new.passes.items }
         ensures hands { AllZip (HasEntry (A.written item.now result)) wallets.old.hands.items wallets.new.hands.items }

@@ -6,11 +6,13 @@ ghost use Rattle.dex_types.specs.Accounts.{named_of};
 ghost use Rattle.dex_gate.specs.GateView.{GateView};
 ghost use Rattle.dex_turns.specs.Bank.{IsBank, IsMarketGate, IsWalletGate};
 ghost use Rattle.dex_turns.specs.Inside.{ArePartsOf};
+ghost use Rattle.dex_turns.specs.Outline.{terms_of};
 
 use crate::outline::Outline;
+use dex_act::Terms;
 use dex_gate::Gate;
 use dex_journals::{BankMarket, BankWallet};
-use dex_types::{Address, Named, Program};
+use dex_types::Named;
 use std::marker::Model;
 
 /// The markets and wallets of a script, each behind a gate of its own, so that lanes act on them side by side. Every
@@ -38,9 +40,7 @@ impl Model for Bank {
 #[derive(Drop)]
 pub struct BankParts {
     pub mints: Vec<Named>,
-    pub srm: Option<Address>,
-    pub msrm: Option<Address>,
-    pub program: Program,
+    pub terms: Terms,
     pub markets: Vec<Gate<BankMarket>>,
     pub wallets: Vec<Gate<BankWallet>>,
 }
@@ -89,12 +89,18 @@ impl Bank {
         } = self;
         BankParts {
             mints,
-            srm: outline.terms.srm,
-            msrm: outline.terms.msrm,
-            program: outline.terms.program,
+            terms: outline.terms,
             markets,
             wallets,
         }
+    }
+
+    /// What rows see beside their wallets.
+    pub(crate) fn terms(&self) -> &Terms
+        ensures terms { result.now ≡ terms_of self.now.script }
+        ensures kept { IsBank self.now }
+    {
+        &self.outline.terms
     }
 
     /// The gate of the market at a place.

@@ -8,7 +8,7 @@ ghost use Rattle.dex_turns.specs.Turns.{AreLegsPlaced, HaveLegsActed, MayCallBot
 use crate::acts::Acts;
 use crate::bank::Bank;
 use crate::stamped_record::StampedRecord;
-use crate::waiting::{act_or_wait, is_refused, waits};
+use dex_act::{Legs, RowAt, places_in};
 use dex_io::Pace;
 use dex_journals::BankMarket;
 use dex_script_types::place_in;
@@ -88,12 +88,12 @@ impl<'a, P: Pace> Acts for SwapLegs<'a, P> {
             Some(place) => place,
             None => match place_in(self.second, self.second_places, address) {
                 Some(place) => place,
+                // Only wallets that a leg names are asked for.
                 None => unreachable!(),
             },
         }
     }
 
-    // Both legs are looked at, and decided, before either acts.
     fn act(
         &self,
         bank: &Bank,
@@ -102,31 +102,30 @@ impl<'a, P: Pace> Acts for SwapLegs<'a, P> {
         stamp: &Stamp,
     ) -> TwoRecords {
         self.pace.inside(self.first.lane, self.first.number);
-        let first_seen = bank.seen_by(hands, self.first);
-        let second_seen = bank.seen_by(hands, self.second);
-        let first_refused = is_refused(&markets.first, self.first, &first_seen);
-        let second_refused = is_refused(&markets.second, self.second, &second_seen);
+        let legs = Legs {
+            first: RowAt {
+                row: self.first,
+                places: places_in(hands, self.first),
+            },
+            second: RowAt {
+                row: self.second,
+                places: places_in(hands, self.second),
+            },
+        };
         let one_stamp = stamp.next();
         let two_stamp = stamp.next();
-        let one = act_or_wait(
-            &mut markets.first,
+        let TwoMarkets { first, second } = markets;
+        let (one, two) = BankMarket::step_two(
+            first,
+            second,
             hands,
-            self.first,
-            &first_seen,
-            waits(second_refused, first_refused),
-            one_stamp,
-        );
-        let two = act_or_wait(
-            &mut markets.second,
-            hands,
-            self.second,
-            &second_seen,
-            waits(first_refused, second_refused),
-            two_stamp,
+            bank.terms(),
+            &legs,
+            &one_stamp,
         );
         TwoRecords {
-            first: one,
-            second: two,
+            first: StampedRecord::of(one, one_stamp),
+            second: StampedRecord::of(two, two_stamp),
         }
     }
 

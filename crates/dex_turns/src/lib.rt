@@ -14,7 +14,6 @@ mod stamped_record;
 mod submitting;
 mod turns;
 mod two_turns;
-mod waiting;
 
 pub use bank::{Bank, BankParts};
 pub use outline::Outline;

@@ -8,9 +8,8 @@ ghost use Rattle.dex_script_types.specs.Facts.{IsRowOf};
 ghost use Rattle.dex_script_types.specs.Known.{has_market, is_known_role};
 ghost use Rattle.dex_script_types.specs.Places.{IsPlaced, IsRolePlaced, market_place};
 
-use dex_act::AsRow;
+use dex_act::{AsRow, Terms};
 use dex_script_types::{Script, addresses_of_markets, addresses_of_wallets};
-use dex_stage::Terms;
 use dex_stamps::Kept;
 use dex_types::{Address, NoMemory, Row, RowPlaces, is_same};
 use std::alloc::Global;
@@ -47,7 +46,11 @@ impl Outline {
         let wallets = addresses_of_wallets(alloc, &script.start.wallets)?;
         Ok(Outline {
             lanes: script.lanes,
-            terms: Terms::of(script),
+            terms: Terms {
+                srm: script.start.srm,
+                msrm: script.start.msrm,
+                program: script.program,
+            },
             markets,
             wallets,
             script: Kept::of(script),
@@ -122,11 +125,12 @@ impl Outline {
 /// The place of an address that is among these.
 fn place_among(addresses: &[Address], address: Address) -> u16
     requires known { list_any (is_same address) addresses.now ≡ true }
-    requires few { length addresses.now ≤ 256 }
+    requires few { length addresses.now ≤ 65535 }
     ensures { position (is_same address) addresses.now ≡ Some result }
 {
     match find(addresses, address) {
         Some(place) => place as u16,
+        // By the condition it is among them.
         None => unreachable!(),
     }
 }

@@ -2,6 +2,7 @@
 
 ghost use Rattle.std.specs.Prelude.{◌≡◌};
 
+use dex_act::RowDone;
 use dex_stamps::{Kept, Stamp};
 use dex_types::{Entry, Reply, Seen};
 
@@ -17,16 +18,18 @@ pub struct StampedRecord {
 }
 
 impl StampedRecord {
-    /// What is recorded of an entry.
-    pub(crate) fn of(seen: &Seen, entry: &Entry, stamp: Stamp) -> StampedRecord
-        ensures seen { result.seen.value ≡ seen.now }
-        ensures entry { result.entry.value ≡ entry.now }
+    /// What is recorded of what a row did.
+    pub(crate) fn of(done: RowDone, stamp: Stamp) -> StampedRecord
+        requires { done.reply ≡ done.entry.value.reply }
+        ensures seen { result.seen.value ≡ done.seen.value }
+        ensures entry { result.entry.value ≡ done.entry.value }
         ensures stamp { result.stamp ≡ stamp }
     {
+        let RowDone { seen, entry, reply } = done;
         StampedRecord {
-            seen: Kept::of(seen),
-            entry: Kept::of(entry),
-            reply: entry.reply,
+            seen,
+            entry,
+            reply,
             stamp,
         }
     }

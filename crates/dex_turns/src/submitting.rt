@@ -2,11 +2,7 @@
 
 ghost use Rattle.dex_types.specs.Rows.{row_of};
 ghost use Rattle.dex_script_types.specs.Places.{IsPlaced};
-ghost use Rattle.std.specs.Prelude.{◌≡◌, IfSome};
-ghost use Rattle.std.specs.List.{All};
-ghost use Rattle.dex_world.specs.World as world;
-ghost use Rattle.dex_act.specs.Wallets.{Fits, roles_of};
-ghost use Rattle.dex_stage.specs.Parts.{world_with};
+ghost use Rattle.std.specs.Prelude.{IfSome};
 ghost use Rattle.dex_turns.specs.Seats.{IsSeat, IsSeatOf};
 ghost use Rattle.dex_turns.specs.Submitted.{AreNext, HasSubmitted, HaveSubmitted, IsNext};
 
@@ -18,9 +14,7 @@ use crate::seat::LaneSeat;
 use crate::stamped_record::StampedRecord;
 use dex_act::AsRow;
 use dex_io::Pace;
-use dex_stage::seen_by;
-use dex_types::{Reply, Row, RowPlaces, Seen};
-use dex_wallet::WalletCell;
+use dex_types::{Reply, Row, RowPlaces};
 use std::sync::Wait;
 
 impl Bank {
@@ -134,13 +128,5 @@ impl Bank {
         let StampedRecord { reply, stamp, .. } = one;
         seat.last = stamp;
         (reply, two.reply)
-    }
-
-    // What a row sees of the wallets in hand.
-    pub(crate) fn seen_by(&self, hands: &[WalletCell], row: &Row) -> Seen
-        ensures seen { result ≡ world.seen_by (row_of row.entry.now) (world_with self.now.script hands.now) }
-        ensures fits { All Fits (roles_of result) }
-    {
-        seen_by(hands, self.outline.terms, row)
     }
 }

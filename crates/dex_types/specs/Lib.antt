@@ -2,6 +2,7 @@ pub mod AccountFaults
 pub mod Accounts
 pub mod Addresses
 pub mod EventFlags
+pub mod Limits
 pub mod Side
 pub mod Fees
 pub mod Trader

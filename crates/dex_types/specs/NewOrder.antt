@@ -146,7 +146,7 @@ ordering_by side sizes account n met order posting = record {
   events = met.events ++ taker_events side sizes n met order ++ last_events side sizes order posting.booted;
 }
 
--- the same, from its meeting alone
+-- what a new order does, from its meeting
 abbrev pub ordering_of : Side → Standing → Account → NewOrder → Meeting → Ordering
 ordering_of side s account n met =
     let order = resting side s.next_sequence (free_slot account.slots) n (rested side s.sizes n met) in

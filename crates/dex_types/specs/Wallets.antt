@@ -27,7 +27,7 @@ with_address address (first ∷ others) =
     if is_same address first then first ∷ others
     else (if is_lower address first then address ∷ first ∷ others else first ∷ with_address address others)
 
--- the same, where a role names a wallet
+-- addresses with the one that a role names, if it names one
 abbrev pub with_role : Option Address → List Address → List Address
 with_role None addresses = addresses
 with_role (Some address) addresses = with_address address addresses

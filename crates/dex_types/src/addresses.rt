@@ -168,6 +168,7 @@ fn ascii(bytes: &[u8]) -> &str
 {
     match std::str::from_utf8(bytes) {
         Ok(text) => text,
+        // ASCII is UTF-8.
         Err(_) => unreachable!(),
     }
 }
@@ -180,6 +181,7 @@ fn digits_of(bytes: &[u8; 32]) -> [u8; 64]
     let mut digits = [0; 64];
     match hex::encode_to_slice(bytes, &mut digits) {
         Ok(()) => digits,
+        // Two digits for each of 32 bytes are 64.
         Err(_) => unreachable!(),
     }
 }

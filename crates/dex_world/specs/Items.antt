@@ -58,7 +58,7 @@ why_in world row = why_on row (seen_by row world) (market_at row.market world.ma
 abbrev pub nothing_to_do : List ℕ
 nothing_to_do = 0 ∷ 2 ∷ 0 ∷ 0 ∷ 0 ∷ 0 ∷ 0 ∷ []
 
--- the same row with nothing to do
+-- a row with data that does nothing in the place of its own
 abbrev pub idle_row : PlainRow → PlainRow
 idle_row row = record row { bytes = nothing_to_do }
 

@@ -10,7 +10,7 @@ use Rattle.dex_history.specs.Journal.{Call}
 use Rattle.dex_script_types.specs.PlainScript.{PlainScript}
 use Rattle.dex_replay.specs.EntryCalls.{call_told, calls_told, with_call}
 use Rattle.dex_totals.proofs.SumLaws.{total-more}
-use Rattle.dex_worth.specs.declared.amounts.Amounts.{Amounts}
+use Rattle.dex_worth.specs.declared.amounts.TokenAmounts.{TokenAmounts}
 use Rattle.dex_worth.specs.declared.entries.Moved.{Moved}
 use Rattle.dex_worth.specs.Amounts.{AreSums, both}
 use Rattle.dex_worth.specs.Entries.{AreMoved, all_in, all_out, deposited_in, settled_in}
@@ -54,7 +54,7 @@ some-call (call ∷ calls) lt = call
 
 -- ---- one call more
 
-pub in-more : (calls : List Call) (place : ℕ) (d : Call) (moved : Option Moved) (owners : List Address) (sums : List Amounts) → place < length calls → AreMoved (get_or calls place d) moved
+pub in-more : (calls : List Call) (place : ℕ) (d : Call) (moved : Option Moved) (owners : List Address) (sums : List TokenAmounts) → place < length calls → AreMoved (get_or calls place d) moved
     → AreSums (λ of. both (all_in (take place calls) of) (deposited_in of moved)) owners sums → AreSums (all_in (take (place + 1) calls)) owners sums
 in-more calls place d moved owners sums lt are =
     sums-agree (λ of. both (all_in (take place calls) of) (deposited_in of moved)) (all_in (take (place + 1) calls)) owners sums
@@ -63,7 +63,7 @@ in-more calls place d moved owners sums lt are =
     (total (told_in Coin of) (take (place + 1) calls)) (total (told_in Pc of) (take (place + 1) calls))
     (sym (total-more (told_in Coin of) calls place d lt)) (sym (total-more (told_in Pc of) calls place d lt)))
 
-pub out-more : (calls : List Call) (place : ℕ) (d : Call) (moved : Option Moved) (owners : List Address) (sums : List Amounts) → place < length calls → AreMoved (get_or calls place d) moved
+pub out-more : (calls : List Call) (place : ℕ) (d : Call) (moved : Option Moved) (owners : List Address) (sums : List TokenAmounts) → place < length calls → AreMoved (get_or calls place d) moved
     → AreSums (λ of. both (all_out (take place calls) of) (settled_in of moved)) owners sums → AreSums (all_out (take (place + 1) calls)) owners sums
 out-more calls place d moved owners sums lt are =
     sums-agree (λ of. both (all_out (take place calls) of) (settled_in of moved)) (all_out (take (place + 1) calls)) owners sums

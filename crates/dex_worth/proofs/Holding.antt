@@ -20,7 +20,7 @@ use Rattle.dex_audit_rules.specs.Books.{PlainGathered}
 use Rattle.dex_eager.specs.Worth.{free_in, held_for, own_owed}
 use Rattle.dex_totals.specs.Sums.{capped}
 use Rattle.dex_totals.proofs.SumLaws.{total-more}
-use Rattle.dex_worth.specs.declared.amounts.Amounts.{Amounts}
+use Rattle.dex_worth.specs.declared.amounts.TokenAmounts.{TokenAmounts}
 use Rattle.dex_worth.specs.Amounts.{AreSums, added, both, capped_amounts, none, on_side, own}
 use Rattle.dex_worth.specs.Holdings.{free_at, held_amounts, locks_of, owed_amounts, owed_of, with_gathered}
 use Rattle.dex_worth.proofs.Sums.{pair, same-pair, sums-added, sums-agree}
@@ -30,14 +30,14 @@ capped-side Bid amount = same-pair (capped 0) (capped (capped amount)) (capped 0
 capped-side Ask amount = same-pair (capped (capped amount)) (capped 0) (capped amount) (capped 0) (omega arith) refl
 
 -- an amount more of each token, where the test holds
-both-more : (before : Amounts) (coin pc more most : ℕ) (b : Bool) → both (both before (pair coin pc)) (if b then pair more most else none)
+both-more : (before : TokenAmounts) (coin pc more most : ℕ) (b : Bool) → both (both before (pair coin pc)) (if b then pair more most else none)
     ≡ both before (pair (coin + (if b then more else 0)) (pc + (if b then most else 0)))
 both-more before coin pc more most true =
     same-pair (before.coin + coin + more) (before.pc + pc + most) (before.coin + (coin + more)) (before.pc + (pc + most)) (omega arith) (omega arith)
 both-more before coin pc more most false =
     same-pair (before.coin + coin + 0) (before.pc + pc + 0) (before.coin + (coin + 0)) (before.pc + (pc + 0)) (omega arith) (omega arith)
 
-side-more : (side : Side) (before : Amounts) (amount more : ℕ) (b : Bool) → both (both before (on_side side amount)) (if b then on_side side more else none)
+side-more : (side : Side) (before : TokenAmounts) (amount more : ℕ) (b : Bool) → both (both before (on_side side amount)) (if b then on_side side more else none)
     ≡ both before (on_side side (amount + (if b then more else 0)))
 side-more Bid before amount more b = both-more before 0 amount 0 more b ∙ same-pair (before.coin + (0 + (if b then 0 else 0))) (before.pc + (amount + (if b then more else 0))) (before.coin + 0) (before.pc + (amount + (if b then more else 0))) (ap (λ (n : ℕ). before.coin + (0 + n)) (nothing b)) refl
   where
@@ -51,7 +51,7 @@ side-more Ask before amount more b = both-more before amount 0 more 0 b ∙ same
     nothing false = refl
 
 -- an order more
-pub locks-more : (side : Side) (sizes : Lots) (orders : List Order) (place : ℕ) (order : Order) (before : Address → Amounts) (owners : List Address) (more : Amounts) (sums after : List Amounts)
+pub locks-more : (side : Side) (sizes : Lots) (orders : List Order) (place : ℕ) (order : Order) (before : Address → TokenAmounts) (owners : List Address) (more : TokenAmounts) (sums after : List TokenAmounts)
     → place < length orders → get_or orders place order ≡ order → more ≡ on_side side (capped (order_lock side sizes order))
     → AreSums (λ of. both (before of) (locks_of side sizes (take place orders) of)) owners sums → after ≡ added order.owner more owners sums
     → AreSums (λ of. both (before of) (locks_of side sizes (take (place + 1) orders) of)) owners after
@@ -66,7 +66,7 @@ locks-more side sizes orders place order before owners more sums after lt here t
     (ap capped_amounts told ∙ capped-side side (order_lock side sizes order)) are is)
 
 -- an event more
-pub owed-more : (events : List QueuedEvent) (place : ℕ) (event : QueuedEvent) (before : Address → Amounts) (owners : List Address) (more : Amounts) (sums after : List Amounts)
+pub owed-more : (events : List QueuedEvent) (place : ℕ) (event : QueuedEvent) (before : Address → TokenAmounts) (owners : List Address) (more : TokenAmounts) (sums after : List TokenAmounts)
     → place < length events → get_or events place event ≡ event → more ≡ owed_amounts event
     → AreSums (λ of. both (before of) (owed_of (take place events) of)) owners sums → after ≡ added event.owner more owners sums
     → AreSums (λ of. both (before of) (owed_of (take (place + 1) events) of)) owners after

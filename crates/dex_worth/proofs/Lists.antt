@@ -4,20 +4,20 @@ use Rattle.std.proofs.lemmas.Bool.{cond-true, cond-false}
 use Rattle.std.proofs.lemmas.List.{drop_more, map-append, take_more}
 use Rattle.dex_types.specs.declared.addresses.Address.{Address}
 use Rattle.dex_script_types.specs.Firsts.{first_of}
-use Rattle.dex_worth.specs.declared.amounts.Amounts.{Amounts}
+use Rattle.dex_worth.specs.declared.amounts.TokenAmounts.{TokenAmounts}
 use Rattle.dex_worth.specs.Amounts.{added, with_own}
 
 pub map-more : {X Y : Type 0} (f : X → Y) (xs : List X) (i : ℕ) (d : X) → i < length xs → map f (take (i + 1) xs) ≡ map f (take i xs) ++ f (get_or xs i d) ∷ []
 map-more f xs i d lt = ap (map f) (take_more xs i d lt) ∙ map-append f (take i xs) (get_or xs i d ∷ [])
 
 -- one owner more
-pub added-more : (owner : Address) (more : Amounts) (owners : List Address) (sums : List Amounts) (i : ℕ) (a : Address) (d : Amounts) → i < length owners → length sums ≡ length owners
+pub added-more : (owner : Address) (more : TokenAmounts) (owners : List Address) (sums : List TokenAmounts) (i : ℕ) (a : Address) (d : TokenAmounts) → i < length owners → length sums ≡ length owners
     → added owner more (take (suc i) owners) sums ≡ set (added owner more (take i owners) sums) i (with_own owner more (get_or owners i a) (get_or (added owner more (take i owners) sums) i d))
 added-more owner more [] sums i a d lt long = absurd (omega arith)
 added-more owner more (of ∷ owners) [] i a d lt long = absurd (omega arith)
 added-more owner more (of ∷ owners) (sum ∷ sums) zero a d lt long = refl
 added-more owner more (of ∷ owners) (sum ∷ sums) (suc i) a d lt long =
-    ap (λ (rest : List Amounts). with_own owner more of sum ∷ rest) (added-more owner more owners sums i a d (omega arith) (omega arith))
+    ap (λ (rest : List TokenAmounts). with_own owner more of sum ∷ rest) (added-more owner more owners sums i a d (omega arith) (omega arith))
 
 -- at a place
 pub first-here : {X Y : Type 0} (test : X → Bool) (told : X → Y) (xs : List X) (i : ℕ) (d : X) → i < length xs → test (get_or xs i d) ≡ true

@@ -18,7 +18,7 @@ use Rattle.dex_history.proofs.PriceLaws.{calls-sound}
 use Rattle.dex_orders.specs.StandsFor.{traders_of}
 use Rattle.dex_state.specs.Outcomes.{PlainMarketJournal}
 use Rattle.dex_script_types.specs.PlainScript.{PlainScript}
-use Rattle.dex_worth.specs.declared.amounts.Amounts.{Amounts}
+use Rattle.dex_worth.specs.declared.amounts.TokenAmounts.{TokenAmounts}
 use Rattle.dex_worth.specs.Amounts.{AreWithin, IsWithin}
 use Rattle.dex_worth.specs.Entries.{all_in, all_out}
 use Rattle.dex_worth.specs.Holdings.{held_amounts}
@@ -60,7 +60,7 @@ module _ (script : PlainScript) (first last : PlainMarketAccounts) (journal : Pl
       each (entry ∷ others) = ap (λ (some : List PlainWorthRow). shown entry.0 ∷ some) (each others)
 
 -- sums within what entries can move are within 2^100
-pub few-within : (entries : ℕ) (sums : List Amounts) → entries ≤ 4294967295 → AreWithin (entries * 2 ^ 66) sums → AreWithin (2 ^ 100) sums
+pub few-within : (entries : ℕ) (sums : List TokenAmounts) → entries ≤ 4294967295 → AreWithin (entries * 2 ^ 66) sums → AreWithin (2 ^ 100) sums
 few-within entries sums few are =
     All-weaker (IsWithin (entries * 2 ^ 66)) (IsWithin (2 ^ 100)) (λ one within. record { coin = omega (arith, few, within.coin); pc = omega (arith, few, within.pc) }) sums are
 

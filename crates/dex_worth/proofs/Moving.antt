@@ -13,7 +13,7 @@ use Rattle.dex_eager.specs.Worth.{is_first}
 use Rattle.dex_script_types.specs.PlainScript.{PlainScript}
 use Rattle.dex_script_types.specs.Firsts.{first_of}
 use Rattle.dex_replay.specs.EntryCalls.{call_by, call_told, is_row_on}
-use Rattle.dex_worth.specs.declared.amounts.Amounts.{Amounts}
+use Rattle.dex_worth.specs.declared.amounts.TokenAmounts.{TokenAmounts}
 use Rattle.dex_worth.specs.declared.entries.Moved.{Moved}
 use Rattle.dex_worth.specs.Amounts.{none}
 use Rattle.dex_replay.specs.Debits.{debits_in}
@@ -94,6 +94,6 @@ nothing-moved script market entry call told no_debits no_funds =
     by (Some row) found =
         moved-are script entry row call None (call-is script market entry call script.rows row refl told found)
         (λ owner. first-none (is_first owner row.named)
-        ∙ ap (λ (amounts : Amounts). if is_first owner row.named then amounts else none)
+        ∙ ap (λ (amounts : TokenAmounts). if is_first owner row.named then amounts else none)
         (sym (ap (entered (side_of (decoded row.bytes))) no_debits ∙ entered-none (side_of (decoded row.bytes)))))
-        (λ owner. first-none (is_first owner row.named) ∙ ap (λ (amounts : Amounts). if is_first owner row.named then amounts else none) (sym no_funds))
+        (λ owner. first-none (is_first owner row.named) ∙ ap (λ (amounts : TokenAmounts). if is_first owner row.named then amounts else none) (sym no_funds))

@@ -3,33 +3,33 @@ use Rattle.std.proofs.Common.{ℕ, ◌^◌, ◌≡◌, ◌<◌, List, length, ge
 use Rattle.std.proofs.lemmas.List.{get_or-map}
 use Rattle.dex_types.specs.declared.addresses.Address.{Address}
 use Rattle.dex_eager.specs.Worth.{Worth}
-use Rattle.dex_worth.specs.declared.amounts.Amounts.{Amounts}
+use Rattle.dex_worth.specs.declared.amounts.TokenAmounts.{TokenAmounts}
 use Rattle.dex_worth.specs.declared.table.Columns.{Columns}
 use Rattle.dex_worth.specs.Amounts.{AreSums, IsWithin, capped_amounts, none}
 use Rattle.dex_replay.specs.WorthTold.{PlainWorthRow}
 use Rattle.dex_worth.specs.Rows.{AreExact, AreLong, AreSmall, row_by, worth_by}
 
-sum-at : (amounts : Address → Amounts) (owners : List Address) (sums : List Amounts) (k : ℕ) (a : Address) → AreSums amounts owners sums → k < length owners
+sum-at : (amounts : Address → TokenAmounts) (owners : List Address) (sums : List TokenAmounts) (k : ℕ) (a : Address) → AreSums amounts owners sums → k < length owners
     → get_or sums k none ≡ capped_amounts (amounts (get_or owners k a))
 sum-at amounts owners sums k a are lt =
-    ap (λ (some : List Amounts). get_or some k none) are ∙ get_or-map (λ (owner : Address). capped_amounts (amounts owner)) owners k a none lt
+    ap (λ (some : List TokenAmounts). get_or some k none) are ∙ get_or-map (λ (owner : Address). capped_amounts (amounts owner)) owners k a none lt
 
-same-worth : (h d s held deposited settled : Amounts) → h.coin ≡ held.coin → h.pc ≡ held.pc → d.coin ≡ deposited.coin → d.pc ≡ deposited.pc → s.coin ≡ settled.coin → s.pc ≡ settled.pc
+same-worth : (h d s held deposited settled : TokenAmounts) → h.coin ≡ held.coin → h.pc ≡ held.pc → d.coin ≡ deposited.coin → d.pc ≡ deposited.pc → s.coin ≡ settled.coin → s.pc ≡ settled.pc
     → worth_by h d s ≡ worth_by held deposited settled
 same-worth h d s held deposited settled hc hp dc dp sc sp = rw hc rw hp rw dc rw dp rw sc rw sp refl
 
-module _ (market : Address) (columns : Columns) (held deposited settled : Address → Amounts) (long : AreLong columns) (exact : AreExact columns held deposited settled) (k : ℕ) (a : Address)
+module _ (market : Address) (columns : Columns) (held deposited settled : Address → TokenAmounts) (long : AreLong columns) (exact : AreExact columns held deposited settled) (k : ℕ) (a : Address)
     (lt : k < length columns.owners.now) where
   abbrev owner : Address
   owner = get_or columns.owners.now k a
 
-  abbrev h : Amounts
+  abbrev h : TokenAmounts
   h = get_or columns.held.now k none
 
-  abbrev d : Amounts
+  abbrev d : TokenAmounts
   d = get_or columns.deposited.now k none
 
-  abbrev s : Amounts
+  abbrev s : TokenAmounts
   s = get_or columns.settled.now k none
 
   h-is : h ≡ capped_amounts (held owner)
@@ -48,22 +48,22 @@ module _ (market : Address) (columns : Columns) (held deposited settled : Addres
   s-small = exact.settled_small k none (omega (arith, lt, long.settled))
 
   h-coin : h.coin ≡ (held owner).coin
-  h-coin = omega (arith, ap (λ (x : Amounts). x.coin) h-is, (exact.held_small owner).coin)
+  h-coin = omega (arith, ap (λ (x : TokenAmounts). x.coin) h-is, (exact.held_small owner).coin)
 
   h-pc : h.pc ≡ (held owner).pc
-  h-pc = omega (arith, ap (λ (x : Amounts). x.pc) h-is, (exact.held_small owner).pc)
+  h-pc = omega (arith, ap (λ (x : TokenAmounts). x.pc) h-is, (exact.held_small owner).pc)
 
   d-coin : d.coin ≡ (deposited owner).coin
-  d-coin = omega (arith, ap (λ (x : Amounts). x.coin) d-is, d-small.coin)
+  d-coin = omega (arith, ap (λ (x : TokenAmounts). x.coin) d-is, d-small.coin)
 
   d-pc : d.pc ≡ (deposited owner).pc
-  d-pc = omega (arith, ap (λ (x : Amounts). x.pc) d-is, d-small.pc)
+  d-pc = omega (arith, ap (λ (x : TokenAmounts). x.pc) d-is, d-small.pc)
 
   s-coin : s.coin ≡ (settled owner).coin
-  s-coin = omega (arith, ap (λ (x : Amounts). x.coin) s-is, s-small.coin)
+  s-coin = omega (arith, ap (λ (x : TokenAmounts). x.coin) s-is, s-small.coin)
 
   s-pc : s.pc ≡ (settled owner).pc
-  s-pc = omega (arith, ap (λ (x : Amounts). x.pc) s-is, s-small.pc)
+  s-pc = omega (arith, ap (λ (x : TokenAmounts). x.pc) s-is, s-small.pc)
 
   pub small-here : AreSmall h d s
   small-here = record {

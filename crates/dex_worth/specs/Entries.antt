@@ -8,47 +8,47 @@ use Rattle.dex_types.specs.Totals.{total}
 use Rattle.dex_history.specs.Journal.{Call}
 use Rattle.dex_eager.specs.Worth.{is_first}
 use Rattle.dex_eager.specs.Worth as worth
-use Rattle.dex_worth.specs.declared.amounts.Amounts.{Amounts}
+use Rattle.dex_worth.specs.declared.amounts.TokenAmounts.{TokenAmounts}
 use Rattle.dex_worth.specs.declared.entries.Moved.{Moved}
 use Rattle.dex_worth.specs.Amounts.{IsWithin, none, own}
 use Rattle.dex_replay.specs.Told.{entering, told_in, told_out}
 
 -- what enters the vaults where a new order of this side took so much from its wallet
-abbrev pub entered : Option Side → ℕ → Amounts
+abbrev pub entered : Option Side → ℕ → TokenAmounts
 entered side debits = record { coin = (entering side debits).coin_in; pc = (entering side debits).pc_in }
 
 -- what a reply tells of funds that were settled out
-abbrev pub settled_by : Reply → Amounts
+abbrev pub settled_by : Reply → TokenAmounts
 settled_by reply = record { coin = worth.settled_in Coin reply; pc = worth.settled_in Pc reply }
 
 -- what these calls tell of deposits for an account
-abbrev pub all_in : List Call → Address → Amounts
+abbrev pub all_in : List Call → Address → TokenAmounts
 all_in calls owner = record { coin = total (told_in Coin owner) calls; pc = total (told_in Pc owner) calls }
 
 -- what they tell of funds that were settled out to it
-abbrev pub all_out : List Call → Address → Amounts
+abbrev pub all_out : List Call → Address → TokenAmounts
 all_out calls owner = record { coin = total (told_out Coin owner) calls; pc = total (told_out Pc owner) calls }
 
 -- amounts of the account that a row names first, where it is this one
-abbrev pub for_first : Address → List Address → Amounts → Amounts
+abbrev pub for_first : Address → List Address → TokenAmounts → TokenAmounts
 for_first owner named amounts = if is_first owner named then amounts else none
 
 -- what was moved for an account by deposits
-abbrev pub deposited_in : Address → Option Moved → Amounts
+abbrev pub deposited_in : Address → Option Moved → TokenAmounts
 deposited_in owner None = none
 deposited_in owner (Some moved) = own owner moved.owner moved.deposited
 
 -- what was moved for it by settling
-abbrev pub settled_in : Address → Option Moved → Amounts
+abbrev pub settled_in : Address → Option Moved → TokenAmounts
 settled_in owner None = none
 settled_in owner (Some moved) = own owner moved.owner moved.settled
 
 -- what a call tells of deposits for an account
-abbrev pub one_in : Call → Address → Amounts
+abbrev pub one_in : Call → Address → TokenAmounts
 one_in call owner = record { coin = told_in Coin owner call; pc = told_in Pc owner call }
 
 -- what it tells of funds that were settled out to it
-abbrev pub one_out : Call → Address → Amounts
+abbrev pub one_out : Call → Address → TokenAmounts
 one_out call owner = record { coin = told_out Coin owner call; pc = told_out Pc owner call }
 
 -- just what a call tells was moved

@@ -9,34 +9,34 @@ use std::alloc::Global;
 
 /// An amount of base (coin) and one of quote (pc), in native units. Sums stop at 2^128 - 1.
 #[derive(Clone, Copy, Debug, PartialEq, Eq)]
-pub struct Amounts {
+pub struct TokenAmounts {
     pub coin: u128,
     pub pc: u128,
 }
 
 /// No amount of either token.
-pub const NONE: Amounts = Amounts { coin: 0, pc: 0 };
+pub const NONE: TokenAmounts = TokenAmounts { coin: 0, pc: 0 };
 
 /// Both together.
-pub fn both(one: Amounts, other: Amounts) -> Amounts
+pub fn both(one: TokenAmounts, other: TokenAmounts) -> TokenAmounts
     ensures { result ≡ tally.capped_amounts (tally.both one other) }
 {
-    Amounts {
+    TokenAmounts {
         coin: one.coin.saturating_add(other.coin),
         pc: one.pc.saturating_add(other.pc),
     }
 }
 
 /// An amount of what orders of a side lock: bids quote, asks base.
-pub fn on_side(side: Side, amount: u128) -> Amounts
+pub fn on_side(side: Side, amount: u128) -> TokenAmounts
     ensures { result ≡ tally.on_side side amount }
 {
     match side {
-        Side::Bid => Amounts {
+        Side::Bid => TokenAmounts {
             coin: 0,
             pc: amount,
         },
-        Side::Ask => Amounts {
+        Side::Ask => TokenAmounts {
             coin: amount,
             pc: 0,
         },
@@ -44,7 +44,7 @@ pub fn on_side(side: Side, amount: u128) -> Amounts
 }
 
 /// A sum with more of an owner, where it is the sum of that owner.
-fn with_own(sum: Amounts, of: Address, owner: Address, more: Amounts) -> Amounts
+fn with_own(sum: TokenAmounts, of: Address, owner: Address, more: TokenAmounts) -> TokenAmounts
     ensures { result ≡ tally.with_own owner more of sum }
 {
     if is_same(of, owner) {
@@ -55,7 +55,7 @@ fn with_own(sum: Amounts, of: Address, owner: Address, more: Amounts) -> Amounts
 }
 
 /// Adds to the sum of an owner, wherever it stands among these.
-fn add_each(sums: &mut [Amounts], owners: &[Address], owner: Address, more: Amounts)
+fn add_each(sums: &mut [TokenAmounts], owners: &[Address], owner: Address, more: TokenAmounts)
     requires { length sums.old ≡ length owners.now }
     ensures long { length sums.new ≡ length owners.now }
     ensures added { sums.new ≡ tally.added owner more owners.now sums.old }
@@ -66,7 +66,7 @@ fn add_each(sums: &mut [Amounts], owners: &[Address], owner: Address, more: Amou
 }
 
 /// Adds to the sum of an owner, wherever it stands among these.
-pub fn add(sums: &mut Vec<Amounts>, owners: &[Address], owner: Address, more: Amounts)
+pub fn add(sums: &mut Vec<TokenAmounts>, owners: &[Address], owner: Address, more: TokenAmounts)
     requires { length sums.old.items ≡ length owners.now }
     ensures long { length sums.new.items ≡ length owners.now }
     ensures added { sums.new.items ≡ tally.added owner more owners.now sums.old.items }
@@ -75,7 +75,7 @@ pub fn add(sums: &mut Vec<Amounts>, owners: &[Address], owner: Address, more: Am
 }
 
 /// A sum of nothing for each of these owners.
-pub fn zeros(alloc: Global, owners: &[Address]) -> Result<Vec<Amounts>, NoMemory>
+pub fn zeros(alloc: Global, owners: &[Address]) -> Result<Vec<TokenAmounts>, NoMemory>
     ensures { IfOk result (λ all. all.items ≡ map (λ (owner : AddressOf). tally.none) owners.now) }
 {
     let mut all = Vec::new(alloc);

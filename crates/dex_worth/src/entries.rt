@@ -16,8 +16,8 @@ ghost use Rattle.dex_replay.specs.Debits.{debits_in};
 ghost use Rattle.dex_worth.specs.Entries as told;
 ghost use Rattle.dex_replay.specs.Told as book;
 
-use crate::amounts::{Amounts, NONE, add, on_side, zeros};
-use crate::rows::place_of;
+use crate::amounts::{NONE, TokenAmounts, add, on_side, zeros};
+use crate::rows::find_row;
 use dex_instruction::decode;
 use dex_state::MarketJournal;
 use dex_types::{Address, Entry, Ix, MoveKind, Movement, NoMemory, Reply, Row, Side};
@@ -69,7 +69,7 @@ fn side_of(bytes: &[u8]) -> Option<Side>
 }
 
 /// What a row deposited, by all that its entry took from wallets.
-fn deposited_by(row: &Row, debits: u128) -> Amounts
+fn deposited_by(row: &Row, debits: u128) -> TokenAmounts
     requires { debits ≤ 2 ^ 66 }
     ensures value { result ≡ told.entered (book.side_of (decoded (row_of row.entry.now).bytes)) debits }
     ensures small { tally.IsWithin (2 ^ 66) result }
@@ -81,12 +81,12 @@ fn deposited_by(row: &Row, debits: u128) -> Amounts
 }
 
 /// What a reply tells of funds that were settled out.
-fn settled_by(reply: Reply) -> Amounts
+fn settled_by(reply: Reply) -> TokenAmounts
     ensures value { result ≡ told.settled_by reply }
     ensures small { tally.IsWithin (2 ^ 66) result }
 {
     match reply {
-        Reply::Settled { coin, pc, .. } => Amounts {
+        Reply::Settled { coin, pc, .. } => TokenAmounts {
             coin: u128::from(coin),
             pc: u128::from(pc),
         },
@@ -98,12 +98,12 @@ fn settled_by(reply: Reply) -> Amounts
 #[derive(Clone, Copy, Debug)]
 struct Moved {
     owner: Address,
-    deposited: Amounts,
-    settled: Amounts,
+    deposited: TokenAmounts,
+    settled: TokenAmounts,
 }
 
 /// What a row and its entry moved for the account that the row names first.
-fn moved_for(row: &Row, debits: u128, settled: Amounts) -> Option<Moved>
+fn moved_for(row: &Row, debits: u128, settled: TokenAmounts) -> Option<Moved>
     requires debits { debits ≤ 2 ^ 66 }
     requires settled { tally.IsWithin (2 ^ 66) settled }
     ensures deposited { (owner : AddressOf) → told.deposited_in owner result ≡ told.for_first owner
@@ -122,7 +122,7 @@ fn moved_for(row: &Row, debits: u128, settled: Amounts) -> Option<Moved>
 }
 
 /// Whether nothing was taken from wallets, and nothing settled.
-fn is_nothing(debits: u128, settled: Amounts) -> bool
+fn is_nothing(debits: u128, settled: TokenAmounts) -> bool
     ensures { result ≡ true → (debits ≡ 0) × (settled ≡ tally.none) }
 {
     debits == 0 && settled.coin == 0 && settled.pc == 0
@@ -140,7 +140,7 @@ fn moved_by(rows: &[Row], market: Address, entry: &Entry) -> Option<Moved>
     if is_nothing(debits, settled) {
         return None;
     }
-    match place_of(rows, market, entry.row) {
+    match find_row(rows, market, entry.row) {
         Some(place) => moved_for(&rows[place], debits, settled),
         None => None,
     }
@@ -148,8 +148,8 @@ fn moved_by(rows: &[Row], market: Address, entry: &Entry) -> Option<Moved>
 
 /// Adds what was moved for an account, by deposits and by settling.
 fn add_moved(
-    deposited: &mut Vec<Amounts>,
-    settled: &mut Vec<Amounts>,
+    deposited: &mut Vec<TokenAmounts>,
+    settled: &mut Vec<TokenAmounts>,
     owners: &[Address],
     moved: Option<Moved>,
 )
@@ -157,9 +157,9 @@ fn add_moved(
     requires settled { length settled.old.items ≡ length owners.now }
     ensures deposits { length deposited.new.items ≡ length owners.now }
     ensures settled { length settled.new.items ≡ length owners.now }
-    ensures deposited { (before : AddressOf → Amounts) → tally.AreSums before owners.now deposited.old.items
+    ensures deposited { (before : AddressOf → TokenAmounts) → tally.AreSums before owners.now deposited.old.items
         → tally.AreSums (λ of. tally.both (before of) (told.deposited_in of moved)) owners.now deposited.new.items }
-    ensures paid { (before : AddressOf → Amounts) → tally.AreSums before owners.now settled.old.items
+    ensures paid { (before : AddressOf → TokenAmounts) → tally.AreSums before owners.now settled.old.items
         → tally.AreSums (λ of. tally.both (before of) (told.settled_in of moved)) owners.now settled.new.items }
     ensures small { (bound few : ℕ) → told.IsSmall few moved → tally.AreWithin bound deposited.old.items
         → tally.AreWithin bound settled.old.items → tally.AreWithin (bound + few) deposited.new.items
@@ -175,8 +175,8 @@ fn add_moved(
 /// to it.
 #[derive(Drop)]
 pub struct Ledger {
-    pub deposited: Vec<Amounts>,
-    pub settled: Vec<Amounts>,
+    pub deposited: Vec<TokenAmounts>,
+    pub settled: Vec<TokenAmounts>,
 }
 
 /// The deposits and settlements of a journal, in one pass. The rows stand by numbers that never fall.

@@ -15,11 +15,11 @@ ghost use Rattle.dex_market.specs.MarketAccount.{market_words, sizes_of};
 ghost use Rattle.dex_orders.specs.OrdersAccount.{IsOpen, IsOrders, account_of};
 ghost use Rattle.dex_orders.specs.StandsFor.{trader_of};
 ghost use Rattle.dex_totals.specs.Reading.{AreOrders, traders};
-ghost use Rattle.dex_worth.specs.declared.amounts.Amounts.{Amounts as AmountsOf};
+ghost use Rattle.dex_worth.specs.declared.amounts.TokenAmounts.{TokenAmounts as AmountsOf};
 ghost use Rattle.dex_worth.specs.Amounts as tally;
 ghost use Rattle.dex_worth.specs.Holdings as holds;
 
-use crate::amounts::{Amounts, NONE, add, on_side};
+use crate::amounts::{NONE, TokenAmounts, add, on_side};
 use dex_audit_rules::{Gathered, gather};
 use dex_crank::{Kind, kind_of};
 use dex_market::MarketRef;
@@ -31,19 +31,19 @@ use dex_types::{
 use std::alloc::Global;
 
 /// What an open account has free.
-fn funds_of(view: OrdersRef<'_>) -> Amounts
+fn funds_of(view: OrdersRef<'_>) -> TokenAmounts
     requires { IsOpen view.bytes.now }
     ensures { result ≡ tally.capped_amounts (holds.free_amounts (Open (account_of view.entry.bytes.now))) }
 {
     let funds = view.funds();
-    Amounts {
+    TokenAmounts {
         coin: u128::from(funds.coin_free),
         pc: u128::from(funds.pc_free),
     }
 }
 
 /// What an account has free; one that is not open has nothing.
-fn free_funds(bytes: &[u8]) -> Amounts
+fn free_funds(bytes: &[u8]) -> TokenAmounts
     requires { IsOrders bytes.now }
     ensures { result ≡ tally.capped_amounts (holds.free_amounts (trader_of bytes.now)) }
 {
@@ -54,7 +54,7 @@ fn free_funds(bytes: &[u8]) -> Amounts
 }
 
 /// What the account of an address has free, where it is among these.
-fn free_of(accounts: &[OrdersAccount], owner: Address) -> Amounts
+fn free_of(accounts: &[OrdersAccount], owner: Address) -> TokenAmounts
     requires { AreOrders accounts.now }
     ensures { result ≡ tally.capped_amounts (holds.free_at (traders accounts.now) owner) }
 {
@@ -71,7 +71,7 @@ fn all_free(
     alloc: Global,
     accounts: &[OrdersAccount],
     owners: &[Address],
-) -> Result<Vec<Amounts>, NoMemory>
+) -> Result<Vec<TokenAmounts>, NoMemory>
     requires { AreOrders accounts.now }
     ensures { IfOk result (λ all. tally.AreSums (holds.free_at (traders accounts.now)) owners.now all.items) }
 {
@@ -83,7 +83,13 @@ fn all_free(
 }
 
 /// Adds what the orders of a side lock, each for its owner.
-fn add_locks(held: &mut Vec<Amounts>, owners: &[Address], orders: &[Order], side: Side, sizes: Lots)
+fn add_locks(
+    held: &mut Vec<TokenAmounts>,
+    owners: &[Address],
+    orders: &[Order],
+    side: Side,
+    sizes: Lots,
+)
     requires { length held.old.items ≡ length owners.now }
     ensures long { length held.new.items ≡ length owners.now }
     ensures locks { (before : AddressOf → AmountsOf) → tally.AreSums before owners.now held.old.items
@@ -97,11 +103,11 @@ fn add_locks(held: &mut Vec<Amounts>, owners: &[Address], orders: &[Order], side
 }
 
 /// What a pending event owes its owner.
-fn owed_by(event: &Event) -> Amounts
+fn owed_by(event: &Event) -> TokenAmounts
     ensures { result ≡ holds.owed_amounts (decoded_event event.now) }
 {
     match kind_of(event.flags) {
-        Kind::MakerFill(Side::Bid) => Amounts {
+        Kind::MakerFill(Side::Bid) => TokenAmounts {
             coin: u128::from(event.released),
             pc: u128::from(event.fee_or_rebate),
         },
@@ -113,7 +119,7 @@ fn owed_by(event: &Event) -> Amounts
 }
 
 /// Adds what pending events owe, each to its owner.
-fn add_owed(held: &mut Vec<Amounts>, owners: &[Address], events: &[Event])
+fn add_owed(held: &mut Vec<TokenAmounts>, owners: &[Address], events: &[Event])
     requires { length held.old.items ≡ length owners.now }
     ensures long { length held.new.items ≡ length owners.now }
     ensures owed { (before : AddressOf → AmountsOf) → tally.AreSums before owners.now held.old.items
@@ -127,7 +133,7 @@ fn add_owed(held: &mut Vec<Amounts>, owners: &[Address], events: &[Event])
 }
 
 /// Adds what resting orders lock and what pending events owe.
-fn add_gathered(held: &mut Vec<Amounts>, owners: &[Address], gathered: &Gathered, sizes: Lots)
+fn add_gathered(held: &mut Vec<TokenAmounts>, owners: &[Address], gathered: &Gathered, sizes: Lots)
     requires { length held.old.items ≡ length owners.now }
     ensures { (before : AddressOf → AmountsOf) → tally.AreSums before owners.now held.old.items → tally.AreSums
         (holds.with_gathered before sizes (plain_gathered gathered.now)) owners.now held.new.items }
@@ -157,7 +163,7 @@ pub fn held_of(
     alloc: Global,
     market: &MarketAccounts,
     owners: &[Address],
-) -> Result<Vec<Amounts>, NoMemory>
+) -> Result<Vec<TokenAmounts>, NoMemory>
     requires { IsAccepted (market_accounts_of market.now) }
     ensures { IfOk result (λ held. tally.AreSums (holds.held_amounts (market_in (market_accounts_of market.now)))
         owners.now held.items) }

@@ -17,7 +17,7 @@ fn is_on(row: &Row, market: Address, number: u32) -> bool
 }
 
 /// The place of the row of a number on a market. The rows stand by numbers that never fall.
-pub fn place_of(rows: &[Row], market: Address, number: u32) -> Option<usize>
+pub fn find_row(rows: &[Row], market: Address, number: u32) -> Option<usize>
     requires { AllPairs (λ (one other : PlainRow). one.number ≤ other.number) (map row_of rows.now) }
     ensures { MatchOption result
         (first_of (is_row_on market number) (λ (row : PlainRow). row) (map row_of rows.now) ≡ None)

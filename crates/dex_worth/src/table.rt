@@ -14,12 +14,12 @@ ghost use Rattle.dex_replay.specs.WorthTold.{rows_told, table_told, tables_told}
 ghost use Rattle.dex_state.specs.Outcomes.{market_journal_of, outcome_of};
 ghost use Rattle.dex_script_types.specs.PlainScript.{PlainScript};
 ghost use Rattle.dex_script_types.specs.Facts.{IsScript};
-ghost use Rattle.dex_worth.specs.declared.amounts.Amounts.{Amounts as AmountsOf};
+ghost use Rattle.dex_worth.specs.declared.amounts.TokenAmounts.{TokenAmounts as AmountsOf};
 ghost use Rattle.dex_worth.specs.Amounts as tally;
 ghost use Rattle.dex_worth.specs.Rows as shown;
 ghost use Rattle.dex_worth.specs.Tables as book;
 
-use crate::amounts::Amounts;
+use crate::amounts::TokenAmounts;
 use crate::entries::ledger_of;
 use crate::holdings::held_of;
 use dex_replay::calls::an_entry_tells_its_call;
@@ -60,7 +60,7 @@ fn difference(held: u128, deposited: u128, settled: u128) -> i128
 }
 
 /// The worth of an account, by what is held for it, what it deposited, and what was settled out to it.
-fn worth_of(held: Amounts, deposited: Amounts, settled: Amounts) -> Worth
+fn worth_of(held: TokenAmounts, deposited: TokenAmounts, settled: TokenAmounts) -> Worth
     ensures { shown.AreSmall held deposited settled
         → shown.plain_worth result ≡ shown.worth_by held deposited settled }
 {
@@ -83,9 +83,9 @@ fn push_row(table: &mut Vec<WorthRow>, row: WorthRow) -> Result<(), NoMemory>
 #[derive(Clone, Copy)]
 struct Columns<'a> {
     owners: &'a [Address],
-    held: &'a [Amounts],
-    deposited: &'a [Amounts],
-    settled: &'a [Amounts],
+    held: &'a [TokenAmounts],
+    deposited: &'a [TokenAmounts],
+    settled: &'a [TokenAmounts],
 }
 
 /// Adds the worth of each account.

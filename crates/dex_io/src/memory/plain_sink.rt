@@ -5,8 +5,8 @@ ghost use Rattle.dex_io.specs.Faults.{Rose, next_count};
 ghost use Rattle.dex_io.specs.Writing.{Writes};
 
 use crate::failure::fault;
-use crate::{Failed, NoMemory, Sink};
-use std::alloc::Global;
+use crate::{Failed, Sink};
+use std::alloc::{AllocError, Global};
 use std::marker::Model;
 
 /// Takes bytes until its room is used up, without taking memory for them.
@@ -30,7 +30,7 @@ impl Model for SureSink {
 
 impl SureSink {
     /// An empty sink that takes `room` bytes in all.
-    pub fn with_room(alloc: Global, room: usize) -> Result<SureSink, NoMemory>
+    pub fn with_room(alloc: Global, room: usize) -> Result<SureSink, AllocError>
         ensures { IfOk result (λ sink. sink ≡ record { taken = []; room = room; faults = 0 }) }
     {
         let bytes = Vec::with_capacity(alloc, room)?;

@@ -7,8 +7,8 @@ use Rattle.dex_refusal_lines.specs.Lines as lines
 use Rattle.std.proofs.Common.{refl}
 
 pub returns-in-Audit : goal.returns-in-Audit
-returns-in-Audit c batch bytes told =
+returns-in-Audit c limits batch bytes told =
     let found = c.in-Audit.found.items in
     let refused = rw c.in-Audit.is at told in
     let text = rw c.deref.ensures.value at c.audit_failed.ensures in
-    says _ (IsNoScript batch bytes) status.AuditFailed (lines.audit_failed found) text (found, refused, found-some batch bytes found refused, refl)
+    says _ (IsNoScript limits batch bytes) status.AuditFailed (lines.audit_failed found) text (found, refused, found-some limits batch bytes found refused, refl)

@@ -7,7 +7,7 @@ use Rattle.dex_answers.proofs.PairLaws.{played}
 use Rattle.dex_answers.proofs.played.play_read.Goals as goal
 
 pub returns-in_ok-outcome-in-Ok : goal.returns-in_ok-outcome-in-Ok
-returns-in_ok-outcome-in-Ok c bytes told =
+returns-in_ok-outcome-in-Ok c limits bytes told =
     let script : PlainScript = c.in-Ok.script in
     let outcome : PlainOutcome = outcome_of c.in_ok-outcome-in-Ok.outcome in
     let left = c.in_ok-outcome-in-Ok.ensures in

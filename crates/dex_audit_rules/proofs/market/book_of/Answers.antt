@@ -13,21 +13,21 @@ pub returns-clause-book : goal.returns-clause-book
 returns-clause-book c =
     let market = c.args.market.now in
     record {
-      accounts = subst AreOrders (sym c.deref-5.ensures.value) (orders-accepted market.orders.items c.requires.accepted.orders);
+      accounts = subst AreOrders (sym c.deref-4.ensures.value) (orders-accepted market.orders.items c.requires.accepted.orders);
       events =
           omega (
             arith,
-            ap length c.deref-4.ensures.value,
+            ap length c.deref-3.ensures.value,
             length-map c.args.gathered.now.events.items decoded_event,
             ap (λ (g : PlainGathered). length g.events) c.requires.gathered,
             events-few market.events.items c.requires.accepted.events,
           );
       bids =
           omega
-          (arith, ap length c.deref-2.ensures.value, ap (λ (g : PlainGathered). length g.bids) c.requires.gathered, side-few Bid market.bids.items c.requires.accepted.bids.slab);
+          (arith, ap length c.deref.ensures.value, ap (λ (g : PlainGathered). length g.bids) c.requires.gathered, side-few Bid market.bids.items c.requires.accepted.bids.slab);
       asks =
           omega
-          (arith, ap length c.deref-3.ensures.value, ap (λ (g : PlainGathered). length g.asks) c.requires.gathered, side-few Ask market.asks.items c.requires.accepted.asks.slab);
+          (arith, ap length c.deref-2.ensures.value, ap (λ (g : PlainGathered). length g.asks) c.requires.gathered, side-few Ask market.asks.items c.requires.accepted.asks.slab);
     }
 
 pub returns-clause-of : goal.returns-clause-of
@@ -35,12 +35,12 @@ unfolding market_in
 returns-clause-of c =
     let words = market_words c.args.market.now.market.items in
     record {
-      bids = c.deref-2.ensures.value ∙ ap (λ (g : PlainGathered). g.bids) c.requires.gathered;
-      asks = c.deref-3.ensures.value ∙ ap (λ (g : PlainGathered). g.asks) c.requires.gathered;
-      events = ap (map decoded_event) c.deref-4.ensures.value ∙ ap (λ (g : PlainGathered). g.events) c.requires.gathered;
-      traders = ap traders c.deref-5.ensures.value;
+      bids = c.deref.ensures.value ∙ ap (λ (g : PlainGathered). g.bids) c.requires.gathered;
+      asks = c.deref-2.ensures.value ∙ ap (λ (g : PlainGathered). g.asks) c.requires.gathered;
+      events = ap (map decoded_event) c.deref-3.ensures.value ∙ ap (λ (g : PlainGathered). g.events) c.requires.gathered;
+      traders = ap traders c.deref-4.ensures.value;
       sizes =
           sizes-by (sizes_of words) c.coin_lot_size.result c.pc_lot_size.result
-          (c.coin_lot_size.ensures ∙ ap (λ b. (market_words b).terms.coin_lot_size) c.deref.ensures.value)
-          (c.pc_lot_size.ensures ∙ ap (λ b. (market_words b).terms.pc_lot_size) c.deref.ensures.value);
+          (c.coin_lot_size.ensures ∙ ap (λ b. (market_words b).terms.coin_lot_size) c.words_of-words.ensures)
+          (c.pc_lot_size.ensures ∙ ap (λ b. (market_words b).terms.pc_lot_size) c.words_of-words.ensures);
     }

@@ -16,11 +16,11 @@ returns c =
     let words = market_words c.args.market.now.market.items in
     let first =
     differs-one 8 149 (deposited Coin m) c.args.market.now.address c.args.market.now.address c.coin_deposits_total.result words.coin_deposits_total
-    c.args.found.now.items c.tell_differs.new.found.items refl (c.coin_deposits_total.ensures ∙ ap (λ b. (market_words b).coin_deposits_total) c.deref.ensures.value)
-    (c.in_ok-tell_differs.ensures (deposited Coin m) (c.coin_deposits-coin.ensures m c.requires.of)) in
+    c.args.found.now.items c.tell_differs.new.found.items refl (c.coin_deposits_total.ensures ∙ ap (λ b. (market_words b).coin_deposits_total) c.words_of-words.ensures)
+    (c.in_ok-tell_differs.ensures (deposited Coin m) (c.deposits_of-coin.ensures m c.requires.of)) in
     on_ok_weaker c.tell_differs-2.result
     (λ told.
     both c.args.found.now.items (deposits_off Coin words m) (deposits_off Pc words m) c.tell_differs.new.found.items c.tell_differs-2.new.found.items first
     (differs-one 8 197 (deposited Pc m) c.args.market.now.address c.args.market.now.address c.pc_deposits_total.result words.pc_deposits_total
-    c.tell_differs.new.found.items c.tell_differs-2.new.found.items refl (c.pc_deposits_total.ensures ∙ ap (λ b. (market_words b).pc_deposits_total) c.deref.ensures.value) told))
-    (c.tell_differs-2.ensures (deposited Pc m) (c.pc_deposits-pc.ensures m c.requires.of))
+    c.tell_differs.new.found.items c.tell_differs-2.new.found.items refl (c.pc_deposits_total.ensures ∙ ap (λ b. (market_words b).pc_deposits_total) c.words_of-words.ensures) told))
+    (c.tell_differs-2.ensures (deposited Pc m) (c.deposits_of-pc.ensures m c.requires.of))

@@ -14,5 +14,5 @@ returns c =
     on_ok_weaker c.tell_astray.result
     (astray-one (market_in (market_accounts_of c.args.market.now)) (traders c.args.book.now.accounts.now) (map decoded_event c.args.book.now.events.now) c.event_q.result
     c.args.found.now.items c.tell_astray.new.found.items c.requires.of.traders c.requires.of.events
-    (c.event_q.ensures ∙ ap (λ b. (market_words b).terms.event_q) c.deref.ensures.value))
+    (c.event_q.ensures ∙ ap (λ b. (market_words b).terms.event_q) c.words_of-words.ensures))
     c.tell_astray.ensures

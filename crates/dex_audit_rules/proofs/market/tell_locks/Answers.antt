@@ -12,7 +12,7 @@ returns c =
     on_ok_weaker c.tell_too_large-2.result
     (too_large-both (market_in (market_accounts_of c.args.market.now)) c.args.book.now.sizes c.bids.result c.asks.result c.args.book.now.bids.now c.args.book.now.asks.now
     c.args.found.now.items c.tell_too_large.new.found.items c.tell_too_large-2.new.found.items c.requires.of.sizes
-    (c.bids.ensures ∙ ap (λ b. (market_words b).terms.bids) c.deref.ensures.value)
-    (c.asks.ensures ∙ ap (λ b. (market_words b).terms.asks) c.deref.ensures.value)
+    (c.bids.ensures ∙ ap (λ b. (market_words b).terms.bids) c.words_of-words.ensures)
+    (c.asks.ensures ∙ ap (λ b. (market_words b).terms.asks) c.words_of-words.ensures)
     c.requires.of.bids c.requires.of.asks c.in_ok-tell_too_large.ensures)
     c.tell_too_large-2.ensures

@@ -13,7 +13,7 @@ returns c =
     on_ok_weaker c.tell_homeless-2.result
     (homeless-both (market_in (market_accounts_of c.args.market.now)) (traders c.args.book.now.accounts.now) c.bids.result c.asks.result c.args.book.now.bids.now c.args.book.now.asks.now
     c.args.found.now.items c.tell_homeless.new.found.items c.tell_homeless-2.new.found.items c.requires.of.traders
-    (c.bids.ensures ∙ ap (λ b. (market_words b).terms.bids) c.deref.ensures.value)
-    (c.asks.ensures ∙ ap (λ b. (market_words b).terms.asks) c.deref.ensures.value)
+    (c.bids.ensures ∙ ap (λ b. (market_words b).terms.bids) c.words_of-words.ensures)
+    (c.asks.ensures ∙ ap (λ b. (market_words b).terms.asks) c.words_of-words.ensures)
     c.requires.of.bids c.requires.of.asks c.in_ok-tell_homeless.ensures)
     c.tell_homeless-2.ensures

@@ -16,5 +16,5 @@ returns c =
     let sum = all_referrers m.traders + total referred m.events in
     on_ok_weaker c.tell_differs.result
     (differs-one 10 373 sum c.args.market.now.address c.args.market.now.address c.referrer_rebates_accrued.result m.referrer_rebates
-    c.args.found.now.items c.tell_differs.new.found.items refl (c.referrer_rebates_accrued.ensures ∙ ap (λ b. (market_words b).referrer_rebates_accrued) c.deref.ensures.value))
+    c.args.found.now.items c.tell_differs.new.found.items refl (c.referrer_rebates_accrued.ensures ∙ ap (λ b. (market_words b).referrer_rebates_accrued) c.words_of-words.ensures))
     (c.tell_differs.ensures sum (c.rebates.ensures m c.requires.of))

@@ -22,8 +22,8 @@ returns c =
       arith,
       c.saturating_add-coin.ensures,
       c.from.ensures,
-      c.coin_deposits.ensures m c.requires.of,
-      c.coin_fees_accrued.ensures ∙ ap (λ b. (market_words b).coin_fees_accrued) c.deref.ensures.value,
+      c.deposits_of.ensures m c.requires.of,
+      c.coin_fees_accrued.ensures ∙ ap (λ b. (market_words b).coin_fees_accrued) c.words_of-words.ensures,
     ) in
     let pc_sum : c.saturating_add-pc.result ≡ capped (deposited Pc m + earned Pc m) =
     omega (
@@ -31,21 +31,21 @@ returns c =
       c.saturating_add-pc.ensures,
       c.from-2.ensures,
       c.from-3.ensures,
-      c.pc_deposits.ensures m c.requires.of,
-      c.pc_fees_accrued.ensures ∙ ap (λ b. (market_words b).pc_fees_accrued) c.deref.ensures.value,
-      c.referrer_rebates_accrued.ensures ∙ ap (λ b. (market_words b).referrer_rebates_accrued) c.deref.ensures.value,
+      c.deposits_of-2.ensures m c.requires.of,
+      c.pc_fees_accrued.ensures ∙ ap (λ b. (market_words b).pc_fees_accrued) c.words_of-words.ensures,
+      c.referrer_rebates_accrued.ensures ∙ ap (λ b. (market_words b).referrer_rebates_accrued) c.words_of-words.ensures,
     ) in
     let first =
     differs-one 9 64 (deposited Coin m + earned Coin m) c.coin_vault.result m.listing.coin_vault c.amount.result m.coin_vault
     c.args.found.now.items c.tell_differs.new.found.items
-    (c.coin_vault.ensures ∙ ap (λ b. (market_words b).terms.coin_vault) c.deref.ensures.value)
-    (c.amount.ensures ∙ ap (λ b. (wallet_words b).amount) c.deref-2.ensures.value)
+    (c.coin_vault.ensures ∙ ap (λ b. (market_words b).terms.coin_vault) c.words_of-words.ensures)
+    (c.amount.ensures ∙ ap (λ b. (wallet_words b).amount) c.deref.ensures.value)
     (c.in_ok-tell_differs.ensures (deposited Coin m + earned Coin m) coin_sum) in
     on_ok_weaker c.tell_differs-2.result
     (λ told.
     both c.args.found.now.items (vault_off Coin m) (vault_off Pc m) c.tell_differs.new.found.items c.tell_differs-2.new.found.items first
     (differs-one 9 64 (deposited Pc m + earned Pc m) c.pc_vault.result m.listing.pc_vault c.amount-2.result m.pc_vault
     c.tell_differs.new.found.items c.tell_differs-2.new.found.items
-    (c.pc_vault.ensures ∙ ap (λ b. (market_words b).terms.pc_vault) c.deref.ensures.value)
-    (c.amount-2.ensures ∙ ap (λ b. (wallet_words b).amount) c.deref-3.ensures.value) told))
+    (c.pc_vault.ensures ∙ ap (λ b. (market_words b).terms.pc_vault) c.words_of-words.ensures)
+    (c.amount-2.ensures ∙ ap (λ b. (wallet_words b).amount) c.deref-2.ensures.value) told))
     (c.tell_differs-2.ensures (deposited Pc m + earned Pc m) pc_sum)

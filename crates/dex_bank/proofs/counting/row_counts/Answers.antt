@@ -52,13 +52,13 @@ loop-i-preserved c =
           subst (AreRowsOf on markets (take (i + 1) (map row_of rows)))
           (sym (with_items_is c.loop-i.markets c.count_each.new.counts (omega (arith, c.count_each.auto.counts, c.deref_mut.ensures.len))))
           (row-more on markets rows i row (there.market ∷ []) c.deref_mut.result.now c.count_each.new.counts inside is
-          (market-tells start c.requires.start (row_of row) there placed)
+          (market-tells start c.requires.start.1 (row_of row) there placed)
           (subst (AreRowsOf on markets (take i (map row_of rows))) (sym c.deref_mut.ensures.value) c.loop-i.invariant.markets) c.count_each.ensures);
       wallets =
           subst (AreRowsOf names wallets (take (i + 1) (map row_of rows)))
           (sym (with_items_is c.loop-i.wallets c.count_each-in-loop-i.new.counts (omega (arith, c.count_each-in-loop-i.auto.counts, c.deref_mut-in-loop-i.ensures.len))))
           (row-more names wallets rows i row told c.deref_mut-in-loop-i.result.now c.count_each-in-loop-i.new.counts inside is
-          (wallet-tells start c.requires.start (row_of row) there placed beside)
+          (wallet-tells start c.requires.start.1 (row_of row) there placed beside)
           (subst (AreRowsOf names wallets (take i (map row_of rows))) (sym c.deref_mut-in-loop-i.ensures.value) c.loop-i.invariant.wallets) c.count_each-in-loop-i.ensures);
     }
 

@@ -1,48 +1,83 @@
-use Rattle.std.proofs.Common.{◌≡◌, ◌||◌, Bool, is_some, Option, sym, ap, ◌∙◌}
-use Rattle.dex_world.proofs.Common.{PlainRow, Refusal, row_of, why_in}
-use Rattle.dex_bank.proofs.Common.{CellsState, world_of}
-use Rattle.dex_bank.proofs.Stands.{its-address, stands-still}
-use Rattle.dex_bank.proofs.StepTwo.{both-stepped, can-behind, can-wait, not-refused, why-still}
+use Rattle.std.proofs.Common.{List, get_or, sym, subst, arith}
+use Rattle.dex_world.proofs.Common.{Reply, row_of, with_items_is}
+use Rattle.dex_bank.proofs.Common.{CellState, CellsState, MarketCellState, cells_inside}
+use Rattle.std.specs.Vec.{with_items}
+use Rattle.dex_act.specs.Steps.{CanStepBoth}
+use Rattle.dex_act.specs.declared.steps.Legs.{Legs}
+use Rattle.dex_bank.specs.Stepped.{HaveBothStepped}
+use Rattle.dex_bank.specs.Stepping.{AreStepsAt}
+use Rattle.dex_bank.proofs.StepBoth.{AreReady, apart, are-ready, both-acted, can-both}
 use Rattle.dex_bank.proofs.stepping.stepped_both.Goals as goal
-use Rattle.dex_bank.proofs.stepping.stepped_both.Goals.{else-first_refused, then-first_refused}
+use Rattle.dex_bank.proofs.stepping.stepped_both.Goals.{After-steps_at-one}
 
-pub act_or_wait-one-requires-clause-held : goal.act_or_wait-one-requires-clause-held
-act_or_wait-one-requires-clause-held c = λ held.
-    can-wait (row_of c.args.first.now) c.args.cells.now c.requires.rows.first_take
-    (sym c.is_refused-first_refused.ensures.refused ∙ not-refused c.if-first_refused.any c.is_refused-first_refused.result (sym c.waits.ensures ∙ held))
+pub steps_at-one-requires-clause-apart : goal.steps_at-one-requires-clause-apart
+steps_at-one-requires-clause-apart c =
+    let legs : Legs = record {
+      first = record { row = c.args.first; places = c.args.first_standing.now.wallets };
+      second = record { row = c.args.second; places = c.args.second_standing.now.wallets };
+    } in
+    let inside = c.cells.inside in
+    let one = c.args.first_standing.now.market in
+    let two = c.args.second_standing.now.market in
+    let ready : AreReady (cells_inside inside) legs one two =
+    are-ready (cells_inside inside) c.args.cells.now legs one two c.cells.view_is c.cells.invariant c.requires.rows c.requires.first c.requires.second in
+    apart inside.mints.items inside.terms inside.markets.items inside.wallets.items legs one two ready
 
-pub act_or_wait-two-requires-clause-row : goal.act_or_wait-two-requires-clause-row
-act_or_wait-two-requires-clause-row c =
-    can-behind (row_of c.args.first.now) (row_of c.args.second.now) c.requires.rows.share c.waits.result c.act_or_wait-one.result c.args.cells.now
-    c.act_or_wait-one.new.cells c.is_refused-first_refused.ensures.cells c.act_or_wait-one.ensures c.requires.rows.second_can
+pub steps_at-one-requires-clause-can : goal.steps_at-one-requires-clause-can
+steps_at-one-requires-clause-can c = λ default.
+    let legs : Legs = record {
+      first = record { row = c.args.first; places = c.args.first_standing.now.wallets };
+      second = record { row = c.args.second; places = c.args.second_standing.now.wallets };
+    } in
+    let inside = c.cells.inside in
+    let one = c.args.first_standing.now.market in
+    let two = c.args.second_standing.now.market in
+    let ready : AreReady (cells_inside inside) legs one two =
+    are-ready (cells_inside inside) c.args.cells.now legs one two c.cells.view_is c.cells.invariant c.requires.rows c.requires.first c.requires.second in
+    subst (λ (ms : List MarketCellState). CanStepBoth inside.terms legs (get_or ms one default) (get_or ms two default) c.deref_mut-2.result.now) (sym c.deref_mut.ensures.value)
+    (subst (λ (ws : List CellState). CanStepBoth inside.terms legs (get_or inside.markets.items one default) (get_or inside.markets.items two default) ws)
+    (sym c.deref_mut-2.ensures.value) (can-both inside.mints.items inside.terms inside.markets.items inside.wallets.items legs one two ready default))
 
-pub act_or_wait-two-requires-clause-places : goal.act_or_wait-two-requires-clause-places
-act_or_wait-two-requires-clause-places c =
-    stands-still c.args.cells.now c.act_or_wait-one.new.cells (its-address c.args.cells.now c.is_refused-first_refused.ensures.cells)
-    (its-address c.act_or_wait-one.new.cells c.act_or_wait-one.ensures.cells) c.act_or_wait-one.ensures.kept (row_of c.args.second.now)
-    c.args.second_standing.now.market c.args.second_standing.now.wallets c.requires.second
+-- what is left of all cells, in the buffers that hold them
+abbrev left : After-steps_at-one → CellsState
+left c = record (cells_inside c.cells.inside) {
+  markets = (with_items c.cells.inside.markets c.steps_at-one.new.markets).items;
+  wallets = (with_items c.cells.inside.wallets c.steps_at-one.new.wallets).items;
+}
 
-pub act_or_wait-two-requires-clause-held : goal.act_or_wait-two-requires-clause-held
-act_or_wait-two-requires-clause-held c = λ held.
-    let after : CellsState = c.act_or_wait-one.new.cells in
-    let second : PlainRow = row_of c.args.second.now in
-    let same : is_some (why_in (world_of after) second) ≡ is_some (why_in (world_of c.args.cells.now) second) =
-    ap (λ (found : Option Refusal). is_some found)
-    (why-still (row_of c.args.first.now) second c.requires.rows.share c.waits.result c.act_or_wait-one.result c.args.cells.now after
-    c.is_refused-first_refused.ensures.cells c.act_or_wait-one.ensures) in
-    can-wait second after (λ isnt. same ∙ c.requires.rows.second_take isnt)
-    (same
-    ∙ sym c.is_refused-second_refused.ensures.refused
-    ∙ not-refused c.if-first_refused.any c.is_refused-second_refused.result (sym c.waits-2.ensures ∙ held))
+acted : (c : After-steps_at-one) → HaveBothStepped (row_of c.args.first.now) (row_of c.args.second.now) (c.steps_at-one.result.0.reply, c.steps_at-one.result.1.reply)
+    (cells_inside c.cells.inside) (left c)
+acted c =
+    let legs : Legs = record {
+      first = record { row = c.args.first; places = c.args.first_standing.now.wallets };
+      second = record { row = c.args.second; places = c.args.second_standing.now.wallets };
+    } in
+    let inside = c.cells.inside in
+    let one = c.args.first_standing.now.market in
+    let two = c.args.second_standing.now.market in
+    let ready : AreReady (cells_inside inside) legs one two =
+    are-ready (cells_inside inside) c.args.cells.now legs one two c.cells.view_is c.cells.invariant c.requires.rows c.requires.first c.requires.second in
+    let replies : Reply × Reply = (c.steps_at-one.result.0.reply, c.steps_at-one.result.1.reply) in
+    let before : CellsState = cells_inside inside in
+    let both = λ (ms : List MarketCellState) (ws : List CellState).
+    HaveBothStepped (row_of c.args.first.now) (row_of c.args.second.now) replies before (record before { markets = ms; wallets = ws }) in
+    let steps = λ (ms : List MarketCellState) (ws : List CellState).
+    AreStepsAt inside.terms legs c.steps_at-one.result one two ms c.steps_at-one.new.markets ws c.steps_at-one.new.wallets in
+    subst (λ (ms : List MarketCellState). both ms (left c).wallets)
+    (sym (with_items_is inside.markets c.steps_at-one.new.markets (omega (arith, c.steps_at-one.auto.markets, c.deref_mut.ensures.len))))
+    (subst (both c.steps_at-one.new.markets)
+    (sym (with_items_is inside.wallets c.steps_at-one.new.wallets (omega (arith, c.steps_at-one.auto.wallets, c.deref_mut-2.ensures.len))))
+    (both-acted inside.mints.items inside.terms inside.markets.items inside.wallets.items legs one two ready c.steps_at-one.result c.steps_at-one.new.markets
+    c.steps_at-one.new.wallets
+    (subst (λ (ms : List MarketCellState). steps ms inside.wallets.items) c.deref_mut.ensures.value
+    (subst (steps c.deref_mut.result.now) c.deref_mut-2.ensures.value c.steps_at-one.ensures))))
+
+pub invariant_of-cells : goal.invariant_of-cells
+invariant_of-cells c = (acted (goal.at.invariant_of-cells c).After-steps_at-one).cells
 
 pub returns : goal.returns
 returns c =
-    let two : Bool = c.is_refused-second_refused.result in
-    let any_is : c.if-first_refused.any ≡ (c.is_refused-first_refused.result || two) = elim c.if-first_refused.branch [
-      | then-first_refused w ↦ w.any-is ∙ w.if-first_refused.true ∙ sym (ap (λ (b : Bool). b || two) w.if-first_refused.true)
-      | else-first_refused w ↦ w.any-is ∙ sym (ap (λ (b : Bool). b || two) w.if-first_refused.false)
-    ] in
-    both-stepped (row_of c.args.first.now) (row_of c.args.second.now) c.requires.rows.share c.is_refused-first_refused.result two c.if-first_refused.any c.waits.result
-    c.waits-2.result c.act_or_wait-one.result c.act_or_wait-two.result c.args.cells.now c.act_or_wait-one.new.cells c.act_or_wait-two.new.cells
-    c.is_refused-first_refused.ensures.cells c.act_or_wait-one.ensures c.act_or_wait-two.ensures c.is_refused-first_refused.ensures.refused
-    c.is_refused-second_refused.ensures.refused any_is c.waits.ensures c.waits-2.ensures
+    let here = (goal.at.returns c).After-steps_at-one in
+    subst
+    (λ (cs : CellsState). HaveBothStepped (row_of c.args.first.now) (row_of c.args.second.now) (c.steps_at-one.result.0.reply, c.steps_at-one.result.1.reply) cs (left here))
+    c.cells.view_is (acted here)

@@ -10,7 +10,7 @@ use Rattle.dex_script_types.specs.Facts.{IsScript}
 use Rattle.dex_replay.specs.Runs.{IsRunOf}
 use Rattle.dex_replay.specs.WorthTold.{table_told}
 use Rattle.dex_replay.specs.WorthText.{worth_text}
-use Rattle.dex_answers.specs.Answers.{Answers, IsPlayed}
+use Rattle.dex_answers.specs.Answers.{AnswersWithin, IsPlayed}
 use Rattle.dex_answers.specs.Telling.{IsText}
 use Rattle.dex_answers.specs.Told.{text_of}
 use Rattle.dex_answers.specs.declared.status.Status.TheVariants as status
@@ -32,7 +32,7 @@ returns-in_ok-outcome-in-Ok c =
     subst (λ (one : PlainScript). c.len-markets.result ≡ length one.start.markets) c.script.view_is
     (c.len-markets.ensures ∙ c.script.inside.start.markets.ok.0 ∙ sym (length-map c.script.inside.start.markets.items market_accounts_of)) in
     let text : List ℕ = worth_text (length script.start.markets) (table_told script outcome) in
-    says c.table_of.result (Answers Worth c.args.bytes.now) status.Ok text
+    says c.table_of.result (AnswersWithin c.args.limits.now Worth c.args.bytes.now) status.Ok text
     (IfOk-weaker c.table_of.result _ _
     (λ told tells. subst (λ (n : ℕ). IsText told status.Ok (worth_text n (table_told script outcome))) many (tells script is are run.lawful)) c.table_of.ensures) (
       script,
@@ -45,4 +45,4 @@ returns-in_ok-outcome-in-Ok c =
 pub returns-in-Err : goal.returns-in-Err
 returns-in-Err c =
     let bytes : List ℕ = c.args.bytes.now in
-    IfOk-weaker c.no_script.result _ _ (λ told why. no-worth bytes told.status (text_of told) why) (c.no_script.ensures false bytes c.in-Err.ensures.told)
+    IfOk-weaker c.no_script.result _ _ (λ told why. no-worth c.args.limits.now bytes told.status (text_of told) why) (c.no_script.ensures c.args.limits.now false bytes c.in-Err.ensures.told)

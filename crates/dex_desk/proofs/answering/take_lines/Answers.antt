@@ -1,5 +1,4 @@
-use Rattle.std.proofs.Common.{◌+◌, List, ℕ, drop, subst, take}
-use Rattle.dex_desk.specs.Talks.{IsCut, talk}
+use Rattle.dex_desk.specs.Talks.{talk}
 use Rattle.dex_desk.specs.Talks.Session.{Serves}
 use Rattle.dex_desk.proofs.SessionLaws.{acted-on, line-on}
 use Rattle.dex_desk.proofs.TalkLaws.{went-still}
@@ -12,10 +11,8 @@ pub lines-preserved : goal.lines-preserved
 lines-preserved c =
     let text = c.lines.inbox in
     let size = c.in-Some.size in
-    let cut = subst (λ (l : List ℕ). IsCut l (take size l) (drop (size + 1) l)) c.bytes.ensures c.in-Some.ensures.cut in
     line-on (talk (Serves c.args.block c.args.inbox.now) c.args.buffers.now.text.items) c.lines.block c.in_ok-block.block text c.lines.buffers.text.items c.take_line.new.buffers.text.items
-    size c.pass.new.self c.lines.invariant cut
-    (rw c.bytes-in-Some.ensures at c.in_ok-block.ensures) c.pass.ensures
+    size c.pass.new.self c.lines.invariant c.in-Some.ensures.cut (rw c.bytes.ensures at c.in_ok-block.ensures) c.pass.ensures
 
 pub returns : goal.returns
 returns c =

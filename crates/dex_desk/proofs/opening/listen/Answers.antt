@@ -12,7 +12,7 @@ returns-then-saturating_add-gt-MOST-clause-found g c =
     let turns = g.D.Desk.turns c.args.desk.now in
     let kept = c.args.kept.now.items in
     let inbox = c.args.inbox.now in
-    let long : 67108864 < length (kept ++ inbox) =
+    let long : 1099511627776 < length (kept ++ inbox) =
     omega (arith, length-append kept inbox, c.saturating_add.ensures, c.len.ensures, c.len-2.ensures, ap length c.close_up.ensures, c.if-saturating_add-gt-MOST.true) in
     over-told c.over.result over.TooLong c.args.text.now.items c.over.new.text.items turns turns (talk (Sets kept inbox) []) kept _ c.over.ensures c.requires.text
     (talked-went turns (talk (Sets kept inbox) []) (talk (Ended over.TooLong) (last_line over.TooLong))
@@ -27,7 +27,7 @@ returns-then-saturating_add-gt-MOST-clause-stopped g c =
 
 pub returns-in-Ok-More-clause-found : goal.returns-in-Ok-More-clause-found
 returns-in-Ok-More-clause-found g c =
-    let few : length (c.args.kept.now.items ++ c.args.inbox.now) ≤ 67108864 =
+    let few : length (c.args.kept.now.items ++ c.args.inbox.now) ≤ 1099511627776 =
     omega (arith, length-append c.args.kept.now.items c.args.inbox.now, c.saturating_add.ensures, c.len.ensures, c.len-2.ensures, ap length c.close_up.ensures, c.if-saturating_add-gt-MOST.false) in
     let told = rw c.in-Ok-More.field-0-is at c.in-Ok-More.ensures.heard in (
       more-of-set-up (g.D.Desk.turns c.args.desk.now) (g.D.Desk.turns c.hear_more.new.desk) c.args.kept.now.items c.close_up.new.self c.args.inbox.now c.hear_more.new.inbox told
@@ -37,7 +37,7 @@ returns-in-Ok-More-clause-found g c =
 
 pub returns-in-Ok-Ended-clause-found : goal.returns-in-Ok-Ended-clause-found
 returns-in-Ok-Ended-clause-found g c =
-    let few : length (c.args.kept.now.items ++ c.args.inbox.now) ≤ 67108864 =
+    let few : length (c.args.kept.now.items ++ c.args.inbox.now) ≤ 1099511627776 =
     omega (arith, length-append c.args.kept.now.items c.args.inbox.now, c.saturating_add.ensures, c.len.ensures, c.len-2.ensures, ap length c.close_up.ensures, c.if-saturating_add-gt-MOST.false) in
     let a = g.D.Desk.turns c.args.desk.now in
     let b = g.D.Desk.turns c.hear_more.new.desk in
@@ -68,6 +68,6 @@ returns-in-Ok-Failed-clause-stopped g c =
 
 pub returns-in-Err-clause-stopped : goal.returns-in-Err-clause-stopped
 returns-in-Err-clause-stopped g c =
-    let few : length (c.args.kept.now.items ++ c.args.inbox.now) ≤ 67108864 =
+    let few : length (c.args.kept.now.items ++ c.args.inbox.now) ≤ 1099511627776 =
     omega (arith, length-append c.args.kept.now.items c.args.inbox.now, c.saturating_add.ensures, c.len.ensures, c.len-2.ensures, ap length c.close_up.ensures, c.if-saturating_add-gt-MOST.false) in
     vain-set-up (g.D.Desk.turns c.args.desk.now) (g.D.Desk.turns c.hear_more.new.desk) c.args.kept.now.items c.args.inbox.now c.in-Err.ensures.vain c.requires.listening few

@@ -12,7 +12,7 @@ returns-then-len-gt-MOST-clause-goes g c =
     let turns = g.D.Desk.turns c.args.desk.now in
     let block = c.args.block in
     let inbox = c.args.inbox.now in
-    let long : 67108864 < length inbox = omega (arith, c.len.ensures, ap length c.close_up.ensures, c.if-len-gt-MOST.true) in
+    let long : 1099511627776 < length inbox = omega (arith, c.len.ensures, ap length c.close_up.ensures, c.if-len-gt-MOST.true) in
     cut-goes c.cut_off.result over.TooLong block inbox c.args.buffers.now.text.items c.cut_off.new.buffers.text.items _ turns turns (talk (Serves block inbox) []) c.cut_off.ensures c.requires.text
     (λ said leaves. (c.requires.listening, long, leaves)) (talked-went turns (talk (Serves block inbox) []) (talk (Serves block inbox) []) (went-still (talk (Serves block inbox) [])))
 
@@ -24,7 +24,7 @@ returns-then-len-gt-MOST-clause-stopped g c =
 
 pub returns-in-Ok-More-clause-goes : goal.returns-in-Ok-More-clause-goes
 returns-in-Ok-More-clause-goes g c =
-    let few : length c.args.inbox.now ≤ 67108864 = omega (arith, c.len.ensures, ap length c.close_up.ensures, c.if-len-gt-MOST.false) in
+    let few : length c.args.inbox.now ≤ 1099511627776 = omega (arith, c.len.ensures, ap length c.close_up.ensures, c.if-len-gt-MOST.false) in
     let told = rw c.in-Ok-More.field-0-is at c.in-Ok-More.ensures.heard in (
       more-of-rows (g.D.Desk.turns c.args.desk.now) (g.D.Desk.turns c.hear_more.new.desk) c.args.block c.close_up.new.self c.args.inbox.now c.hear_more.new.inbox told
           c.close_up.ensures c.requires.listening few,
@@ -33,7 +33,7 @@ returns-in-Ok-More-clause-goes g c =
 
 pub returns-in-Ok-Ended-clause-goes : goal.returns-in-Ok-Ended-clause-goes
 returns-in-Ok-Ended-clause-goes g c =
-    let few : length c.args.inbox.now ≤ 67108864 = omega (arith, c.len.ensures, ap length c.close_up.ensures, c.if-len-gt-MOST.false) in
+    let few : length c.args.inbox.now ≤ 1099511627776 = omega (arith, c.len.ensures, ap length c.close_up.ensures, c.if-len-gt-MOST.false) in
     let a = g.D.Desk.turns c.args.desk.now in
     let b = g.D.Desk.turns c.hear_more.new.desk in
     let block = c.args.block in
@@ -46,7 +46,7 @@ returns-in-Ok-Ended-clause-goes g c =
 
 pub returns-in-Ok-Ended-clause-stopped : goal.returns-in-Ok-Ended-clause-stopped
 returns-in-Ok-Ended-clause-stopped g c =
-    let few : length c.args.inbox.now ≤ 67108864 = omega (arith, c.len.ensures, ap length c.close_up.ensures, c.if-len-gt-MOST.false) in
+    let few : length c.args.inbox.now ≤ 1099511627776 = omega (arith, c.len.ensures, ap length c.close_up.ensures, c.if-len-gt-MOST.false) in
     let a = g.D.Desk.turns c.args.desk.now in
     let b = g.D.Desk.turns c.hear_more.new.desk in
     let block = c.args.block in
@@ -79,5 +79,5 @@ returns-in-Ok-Failed-clause-stopped g c =
 
 pub returns-in-Err-clause-stopped : goal.returns-in-Err-clause-stopped
 returns-in-Err-clause-stopped g c =
-    let few : length c.args.inbox.now ≤ 67108864 = omega (arith, c.len.ensures, ap length c.close_up.ensures, c.if-len-gt-MOST.false) in
+    let few : length c.args.inbox.now ≤ 1099511627776 = omega (arith, c.len.ensures, ap length c.close_up.ensures, c.if-len-gt-MOST.false) in
     vain-rows (g.D.Desk.turns c.args.desk.now) (g.D.Desk.turns c.hear_more.new.desk) c.args.block c.args.inbox.now c.in-Err.ensures.vain c.requires.listening few

@@ -5,4 +5,4 @@ use Rattle.dex_dump.proofs.reading.has_room.Given as goal
 
 abbrev pub invariant-loop-market : goal.invariant-loop-market
 invariant-loop-market l =
-    has_room l.address (map market_accounts_of (drop l.market-index l.markets)) ≡ has_room l.address (map market_accounts_of l.markets)
+    has_room l.most l.address (map market_accounts_of (drop l.market-index l.markets)) ≡ has_room l.most l.address (map market_accounts_of l.markets)

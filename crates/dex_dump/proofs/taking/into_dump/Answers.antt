@@ -3,5 +3,5 @@ use Rattle.dex_dump.proofs.WholeLaws.{whole-read}
 use Rattle.dex_dump.proofs.taking.into_dump.Goals as goal
 
 pub returns-in-Ok-clause-read_back : goal.returns-in-Ok-clause-read_back
-returns-in-Ok-clause-read_back c = λ are.
-    whole-read (accounts_of c.args.accounts) _ _ c.in_ok-text.ensures.items c.in-Ok.ensures.text c.in-Ok.ensures.held are
+returns-in-Ok-clause-read_back c = λ limits are.
+    whole-read limits (accounts_of c.args.accounts) _ _ c.in_ok-text.ensures.items c.in-Ok.ensures.text c.in-Ok.ensures.held are

@@ -1,6 +1,6 @@
 use Rattle.std.proofs.Common.{ℕ, List, suc, ◌≡◌, ◌∙◌, ◌∷◌, [], ◌+◌, ◌++◌, get_or, take, take_all, ap, sym, arith}
 use Rattle.dex_types.specs.declared.addresses.Address.{Address}
-use Rattle.dex_worth.specs.declared.amounts.Amounts.{Amounts}
+use Rattle.dex_worth.specs.declared.amounts.TokenAmounts.{TokenAmounts}
 use Rattle.dex_worth.specs.Amounts.{none}
 use Rattle.dex_eager_market.specs.declared.accounts.Account.{Account}
 use Rattle.dex_eager_market.specs.Making.{account_with, accounts_with}
@@ -12,7 +12,7 @@ pub loop-place-preserved : goal.loop-place-preserved
 loop-place-preserved c =
     let place : ℕ = c.loop-place.place in
     let owners : List Address = c.args.owners.now in
-    let held : List Amounts = c.args.held.now in
+    let held : List TokenAmounts = c.args.held.now in
     let next : suc place ≡ place + 1 = omega arith in
     c.in_ok-push.ensures.items
     ∙ ap (λ (l : List Account). l ++ account_with (get_or owners place no_address) (get_or held place none) ∷ []) c.loop-place.invariant

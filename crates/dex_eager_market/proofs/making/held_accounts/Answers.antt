@@ -6,7 +6,7 @@ use Rattle.dex_types.specs.declared.addresses.Address.{Address}
 use Rattle.dex_types.specs.Accounts.{market_accounts_of}
 use Rattle.dex_types.specs.Trader.{Trader}
 use Rattle.dex_accounts.specs.Decoded.{market_in}
-use Rattle.dex_worth.specs.declared.amounts.Amounts.{Amounts}
+use Rattle.dex_worth.specs.declared.amounts.TokenAmounts.{TokenAmounts}
 use Rattle.dex_worth.specs.Amounts.{AreSums, capped_amounts}
 use Rattle.dex_worth.specs.Holdings.{held_amounts}
 use Rattle.dex_worth.proofs.Markets.{owners-are}
@@ -26,7 +26,7 @@ unfolding market_in
 returns c =
     let m = market_in (market_accounts_of c.args.market.now) in
     let owners : List Address = c.deref-3.result.now in
-    let held : List Amounts = c.deref-4.result.now in
+    let held : List TokenAmounts = c.deref-4.result.now in
     let named : owners ≡ map (λ (entry : Address × Trader). entry.0) m.traders =
     c.deref-3.ensures.value ∙ c.in_ok-owners.ensures ∙ ap (map (λ (account : OrdersAccount). account.address)) c.deref.ensures.value
     ∙ owners-are c.args.market.now.orders.items in

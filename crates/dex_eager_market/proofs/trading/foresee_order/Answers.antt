@@ -17,21 +17,21 @@ returns-then-base_too_large c =
 
 pub foresee-foreseen-requires-clause-modest : goal.foresee-foreseen-requires-clause-modest
 foresee-foreseen-requires-clause-modest c =
-    rw c.order_terms-terms.ensures.sizes rw c.want_of.ensures
+    rw c.terms_of-terms.ensures.sizes rw c.want_of.ensures
     (modest-order c.args.taker.id_side c.args.sizes (order_of c.args.taker) (omega arith) (omega arith) (sym c.base_too_large.ensures ∙ c.if-base_too_large.false))
 
 pub foresee-foreseen-requires-clause-orders : goal.foresee-foreseen-requires-clause-orders
 foresee-foreseen-requires-clause-orders c =
-    rw c.order_terms-terms.ensures.sizes (subst (All (CanFill (opposite c.args.taker.id_side) c.args.sizes)) (sym c.deref.ensures.value) c.requires.can_fill)
+    rw c.terms_of-terms.ensures.sizes (subst (All (CanFill (opposite c.args.taker.id_side) c.args.sizes)) (sym c.deref.ensures.value) c.requires.can_fill)
 
 pub returns-then-stops : goal.returns-then-stops
 returns-then-stops c =
     let met : Meeting = meeting_with c.args.sizes c.args.taker c.args.opposing.now.orders.items in
     let foreseen = c.foresee-foreseen.result in
-    let reached = seen-as c.args.sizes c.args.taker c.order_terms-terms.result (meet c.args.taker.id_side (taking c.order_terms-terms.result) (demand c.want_of.result) c.deref.result.now)
+    let reached = seen-as c.args.sizes c.args.taker c.terms_of-terms.result (meet c.args.taker.id_side (taking c.terms_of-terms.result) (demand c.want_of.result) c.deref.result.now)
     (meeting_with c.args.sizes c.args.taker c.args.opposing.now.orders.items) c.deref.result.now c.args.opposing.now.orders.items c.foresee-foreseen.result
-    c.order_terms-terms.ensures.sizes c.order_terms-terms.ensures.limit
-    (order-met c.args.sizes c.args.taker c.order_terms-terms.result c.want_of.result c.deref.result.now c.args.opposing.now.orders.items c.order_terms-terms.ensures.keeps c.want_of.ensures c.deref.ensures.value)
+    c.terms_of-terms.ensures.sizes c.terms_of-terms.ensures.limit
+    (order-met c.args.sizes c.args.taker c.terms_of-terms.result c.want_of.result c.deref.result.now c.args.opposing.now.orders.items c.terms_of-terms.ensures.keeps c.want_of.ensures c.deref.ensures.value)
     c.deref.ensures.value c.foresee-foreseen.ensures.foreseen in
     order-stops c.args.taker.id_side c.args.sizes c.args.taker.lots c.args.next foreseen.sums.pc foreseen.aborts met (sym c.base_too_large.ensures ∙ c.if-base_too_large.false)
     reached.pc reached.aborts ∙ sym c.stops.ensures ∙ c.if-stops.true
@@ -42,10 +42,10 @@ returns c =
     let n = order_of c.args.taker in
     let met : Meeting = meeting_with c.args.sizes c.args.taker c.args.opposing.now.orders.items in
     let foreseen = c.foresee-foreseen.result in
-    let reached = seen-as c.args.sizes c.args.taker c.order_terms-terms.result (meet c.args.taker.id_side (taking c.order_terms-terms.result) (demand c.want_of.result) c.deref.result.now)
+    let reached = seen-as c.args.sizes c.args.taker c.terms_of-terms.result (meet c.args.taker.id_side (taking c.terms_of-terms.result) (demand c.want_of.result) c.deref.result.now)
     (meeting_with c.args.sizes c.args.taker c.args.opposing.now.orders.items) c.deref.result.now c.args.opposing.now.orders.items c.foresee-foreseen.result
-    c.order_terms-terms.ensures.sizes c.order_terms-terms.ensures.limit
-    (order-met c.args.sizes c.args.taker c.order_terms-terms.result c.want_of.result c.deref.result.now c.args.opposing.now.orders.items c.order_terms-terms.ensures.keeps c.want_of.ensures c.deref.ensures.value)
+    c.terms_of-terms.ensures.sizes c.terms_of-terms.ensures.limit
+    (order-met c.args.sizes c.args.taker c.terms_of-terms.result c.want_of.result c.deref.result.now c.args.opposing.now.orders.items c.terms_of-terms.ensures.keeps c.want_of.ensures c.deref.ensures.value)
     c.deref.ensures.value c.foresee-foreseen.ensures.foreseen in
     let small = sym c.base_too_large.ensures ∙ c.if-base_too_large.false in
     let free = sym c.stops.ensures ∙ c.if-stops.false in

@@ -16,21 +16,21 @@ use Rattle.dex_eager_market.proofs.Trades.{seen-by, order-met, book-posted, orde
 use Rattle.dex_eager_market.proofs.trading.settle_order.Goals as goal
 
 pub meet_book-requires-clause-modest : goal.meet_book-requires-clause-modest
-meet_book-requires-clause-modest c = rw c.order_terms-terms.ensures.sizes rw c.want_of-want.ensures c.requires.trade.modest
+meet_book-requires-clause-modest c = rw c.terms_of-terms.ensures.sizes rw c.want_of-want.ensures c.requires.trade.modest
 
 pub meet_book-requires-clause-book : goal.meet_book-requires-clause-book
-meet_book-requires-clause-book c = rw c.order_terms-terms.ensures.sizes c.requires.opposing
+meet_book-requires-clause-book c = rw c.terms_of-terms.ensures.sizes c.requires.opposing
 
 pub meet_book-requires-clause-accounts : goal.meet_book-requires-clause-accounts
 meet_book-requires-clause-accounts c = all-more (2 ^ 124) (2 ^ 125) c.args.till.now.accounts.items (omega arith) c.requires.till.accounts
 
 pub meet_book-requires-clause-foreseen : goal.meet_book-requires-clause-foreseen
 meet_book-requires-clause-foreseen c =
-    seen-by c.args.sizes c.args.taker c.order_terms-terms.result
-    (meet c.args.taker.id_side (taking c.order_terms-terms.result) (demand c.want_of-want.result) c.args.opposing.now.orders.items)
+    seen-by c.args.sizes c.args.taker c.terms_of-terms.result
+    (meet c.args.taker.id_side (taking c.terms_of-terms.result) (demand c.want_of-want.result) c.args.opposing.now.orders.items)
     (meeting_with c.args.sizes c.args.taker c.args.opposing.now.orders.items) c.args.opposing.now.orders.items c.args.foreseen.now
-    c.order_terms-terms.ensures.sizes c.order_terms-terms.ensures.limit
-    (order-met c.args.sizes c.args.taker c.order_terms-terms.result c.want_of-want.result c.args.opposing.now.orders.items c.args.opposing.now.orders.items c.order_terms-terms.ensures.keeps c.want_of-want.ensures refl)
+    c.terms_of-terms.ensures.sizes c.terms_of-terms.ensures.limit
+    (order-met c.args.sizes c.args.taker c.terms_of-terms.result c.want_of-want.result c.args.opposing.now.orders.items c.args.opposing.now.orders.items c.terms_of-terms.ensures.keeps c.want_of-want.ensures refl)
     c.requires.trade.reached
 
 pub add-requires-clause-accounts : goal.add-requires-clause-accounts
@@ -61,11 +61,11 @@ returns-clause-market c =
       own_room = refl;
       opposing_room = c.meet_book.ensures.room;
       own_is = c.post.ensures.orders ∙ ap (λ (o : Order). (post side c.args.own.now.room o c.args.own.now.orders.items).side) order_is;
-      opposing_is = c.meet_book.ensures.left ∙ ap (λ (m : Meeting). m.left) (order-met c.args.sizes c.args.taker c.order_terms-terms.result c.want_of-want.result c.args.opposing.now.orders.items c.args.opposing.now.orders.items c.order_terms-terms.ensures.keeps c.want_of-want.ensures refl);
+      opposing_is = c.meet_book.ensures.left ∙ ap (λ (m : Meeting). m.left) (order-met c.args.sizes c.args.taker c.terms_of-terms.result c.want_of-want.result c.args.opposing.now.orders.items c.args.opposing.now.orders.items c.terms_of-terms.ensures.keeps c.want_of-want.ensures refl);
       next = refl;
       worths = c.add.ensures.worths
           ∙ ap (with_change c.args.taker.account (worth_of c.taker_change-change.result))
-          (c.meet_book.ensures.worths ∙ ap (λ (m : Meeting). with_fills (maker_fills m.events) (map entry_of c.args.till.now.accounts.items)) (order-met c.args.sizes c.args.taker c.order_terms-terms.result c.want_of-want.result c.args.opposing.now.orders.items c.args.opposing.now.orders.items c.order_terms-terms.ensures.keeps c.want_of-want.ensures refl))
+          (c.meet_book.ensures.worths ∙ ap (λ (m : Meeting). with_fills (maker_fills m.events) (map entry_of c.args.till.now.accounts.items)) (order-met c.args.sizes c.args.taker c.terms_of-terms.result c.want_of-want.result c.args.opposing.now.orders.items c.args.opposing.now.orders.items c.terms_of-terms.ensures.keeps c.want_of-want.ensures refl))
           ∙ ap (λ (v : Worth). with_change c.args.taker.account v paid)
           (ap worth_of c.taker_change-change.ensures.value
           ∙ taker-worth side sizes met c.taker_fee-fee.result c.args.foreseen.now.sums.base c.narrow-pc.result reached.base pc_is
@@ -98,7 +98,7 @@ returns-clause-own c =
     )
 
 pub returns-clause-opposing : goal.returns-clause-opposing
-returns-clause-opposing c = (rw c.order_terms-terms.ensures.sizes at c.meet_book.ensures.book, c.meet_book.ensures.room)
+returns-clause-opposing c = (rw c.terms_of-terms.ensures.sizes at c.meet_book.ensures.book, c.meet_book.ensures.room)
 
 pub returns-clause-till : goal.returns-clause-till
 returns-clause-till c = λ bound is.

@@ -27,5 +27,5 @@ migrate_markets-requires-clause-fits c =
     subst (All (λ (m : MarketAccounts). P (market_accounts_of m))) (sym c.deref_mut.ensures.value) (all-plain P _ (all-fit c.args.nodes c.args.events _ none))
 
 pub returns-clause-accepted : goal.returns-clause-accepted
-returns-clause-accepted c =
-    migrated-accepted c.args.nodes c.args.events (accounts_of c.args.accounts) _ (first_of (search rules, grind (arith, common_steps))) c.requires.accepted
+returns-clause-accepted c = λ limits accepted.
+    migrated-accepted c.args.nodes c.args.events limits (accounts_of c.args.accounts) _ (first_of (search rules, grind (arith, common_steps))) accepted

@@ -1,27 +1,19 @@
-use Rattle.std.proofs.Common.{inl, inr, arith}
-use Rattle.dex_parts.proofs.CutLaws.{parted-before, parted-less, parted-two}
+use Rattle.std.proofs.Common.{arith}
+use Rattle.dex_parts.proofs.CutLaws.{all-of-them, as-many-as-fit, both-legs, one-fewer}
 use Rattle.dex_parts.proofs.chains.front_of.Goals as goal
 
-pub returns-then-places-most-2-clause-parted : goal.returns-then-places-most-2-clause-parted
-returns-then-places-most-2-clause-parted c =
-    parted-before c.args.places.now c.args.most c.requires.order c.requires.some.1 (omega (arith, c.if-places-most.false)) _ _ c.if-places-most-2.true
+pub returns-then-places-most : goal.returns-then-places-most
+returns-then-places-most c =
+    all-of-them c.args.places.now c.args.most c.requires.order c.requires.some.1 c.requires.some.0 (omega (arith, c.if-places-most.true))
 
-pub returns-then-most-eq1-clause-parted : goal.returns-then-most-eq1-clause-parted
-returns-then-most-eq1-clause-parted c =
-    parted-two c.args.places.now c.args.most c.requires.order c.requires.some.1 (omega (arith, c.if-places-most.false)) _ _ c.if-places-most-2.false c.if-most-eq1.true
+pub returns-then-places-most-2 : goal.returns-then-places-most-2
+returns-then-places-most-2 c =
+    as-many-as-fit c.args.places.now c.args.most c.requires.order c.requires.some.1 (omega (arith, c.if-places-most.false)) _ _ c.if-places-most-2.true
 
-pub returns-else-most-eq1-clause-parted : goal.returns-else-most-eq1-clause-parted
-returns-else-most-eq1-clause-parted c =
-    parted-less c.args.places.now c.args.most c.requires.order c.requires.some.1 (omega (arith, c.if-places-most.false)) _ _ c.if-places-most-2.false c.if-most-eq1.false
+pub returns-then-most-eq1 : goal.returns-then-most-eq1
+returns-then-most-eq1 c =
+    both-legs c.args.places.now c.args.most c.requires.order c.requires.some.1 (omega (arith, c.if-places-most.false)) _ _ c.if-places-most-2.false c.if-most-eq1.true
 
-pub returns-then-places-most-clause-full : goal.returns-then-places-most-clause-full
-returns-then-places-most-clause-full c = inl (omega arith)
-
-pub returns-then-places-most-2-clause-full : goal.returns-then-places-most-2-clause-full
-returns-then-places-most-2-clause-full c = inr (omega arith)
-
-pub returns-then-most-eq1-clause-full : goal.returns-then-most-eq1-clause-full
-returns-then-most-eq1-clause-full c = inr (omega (arith, c.if-most-eq1.true))
-
-pub returns-else-most-eq1-clause-full : goal.returns-else-most-eq1-clause-full
-returns-else-most-eq1-clause-full c = inr (omega (arith, c.requires.some.1))
+pub returns-else-most-eq1 : goal.returns-else-most-eq1
+returns-else-most-eq1 c =
+    one-fewer c.args.places.now c.args.most c.requires.order c.requires.some.1 (omega (arith, c.if-places-most.false)) _ _ c.if-places-most-2.false c.if-most-eq1.false

@@ -1,6 +1,5 @@
 use Rattle.dex_parts.proofs.ShardLaws.{shard-leaves, shard-left}
 use Rattle.dex_parts.proofs.ShardWorlds.{items-act}
-use Rattle.dex_parts.proofs.ShardWorths.{shard-worth}
 use Rattle.dex_parts.proofs.laws.shards_are_the_whole.Goals as goal
 
 pub returns-clause-world : goal.returns-clause-world
@@ -11,6 +10,3 @@ returns-clause-leaves c = shard-leaves
 
 pub returns-clause-outcome : goal.returns-clause-outcome
 returns-clause-outcome c = shard-left
-
-pub returns-clause-worth : goal.returns-clause-worth
-returns-clause-worth c = shard-worth

@@ -1,4 +1,4 @@
-use Rattle.std.proofs.Common.{map, subst, sym, ◌∙◌}
+use Rattle.std.proofs.Common.{arith, map, subst, sym, ◌∙◌}
 use Rattle.std.proofs.lemmas.List.{length-map}
 use Rattle.dex_types.specs.Accounts.{accounts_of, market_accounts_of, named_of}
 use Rattle.dex_types.specs.Rows.{row_of}
@@ -29,5 +29,5 @@ returns c =
     subst (λ (script : PlainScript). AreShardsOf script shards.markets.items shards.wallets.items shards.rows.items) c.script.view_is
     (own-shards (script_inside inside) inside.places.items c.deref.result.now c.len-markets.result c.len-wallets.result
     (length-map inside.start.markets.items market_accounts_of ∙ sym (c.len-markets.ensures ∙ inside.start.markets.ok.0)) (length-map inside.start.wallets.items named_of ∙ sym (c.len-wallets.ensures ∙ inside.start.wallets.ok.0))
-    c.deref.ensures.value c.script.invariant.1 c.script.invariant.2 c.script.invariant.0.rows c.script.invariant.0.start.accepted.few_wallets
+    c.deref.ensures.value c.script.invariant.1 c.script.invariant.2 c.script.invariant.0.rows (omega (arith, c.script.invariant.0.start.accepted.few_wallets, c.script.invariant.0.start.accepted.within.wallets))
     shards.markets.items shards.wallets.items shards.rows.items c.in_ok-shards.ensures.of_markets c.in_ok-shards.ensures.of_wallets c.in_ok-shards.ensures.of_rows)

@@ -1,5 +1,6 @@
 use Rattle.std.proofs.Common.{◌≡◌, ℕ, ap, refl, subst, true}
 use Rattle.std.proofs.lemmas.Result.{IfOk-weaker}
+use Rattle.dex_types.specs.declared.limits.TheConstants.{STANDARD}
 use Rattle.dex_state.specs.Outcomes.{PlainOutcome, outcome_of}
 use Rattle.dex_report.specs.Report.{report_text}
 use Rattle.dex_report.specs.Telling.{FitOutcome}
@@ -37,4 +38,4 @@ returns-in_ok-outcome-in-Ok g c =
 
 pub returns-in-Err : goal.returns-in-Err
 returns-in-Err g c =
-    IfOk-weaker c.no_script.result _ _ (λ told why. no-batch c.args.bytes.now told.status (text_of told) why) (c.no_script.ensures true c.args.bytes.now c.in-Err.ensures.told)
+    IfOk-weaker c.no_script.result _ _ (λ told why. no-batch c.args.bytes.now told.status (text_of told) why) (c.no_script.ensures STANDARD true c.args.bytes.now c.in-Err.ensures.told)

@@ -1,5 +1,6 @@
 use Rattle.std.proofs.Common.{◌≡◌, ℕ, ap, false, subst}
 use Rattle.std.proofs.lemmas.Result.{IfOk-weaker}
+use Rattle.dex_types.specs.declared.limits.TheConstants.{STANDARD}
 use Rattle.dex_state.specs.Outcomes.{PlainOutcome, outcome_of}
 use Rattle.dex_report.specs.Report.{report_text}
 use Rattle.dex_report.specs.Telling.{FitOutcome}
@@ -39,4 +40,4 @@ returns-in_ok-outcome-in-Ok g c =
 
 pub returns-in-Err : goal.returns-in-Err
 returns-in-Err g c =
-    IfOk-weaker c.no_script.result _ _ (λ told why. no-run c.args.bytes.now told.status (text_of told) why) (c.no_script.ensures false c.args.bytes.now c.in-Err.ensures.told)
+    IfOk-weaker c.no_script.result _ _ (λ told why. no-run c.args.bytes.now told.status (text_of told) why) (c.no_script.ensures STANDARD false c.args.bytes.now c.in-Err.ensures.told)

@@ -4,7 +4,7 @@ use Rattle.dex_replay.proofs.Common.{IsScript, PlainScript, opened}
 use Rattle.dex_replay.specs.Acting.{AreLeft}
 use Rattle.dex_replay.proofs.acting.use_up.Given as goal
 
--- the same where rows and places stand from the last to the first
+-- the rows left, which stand from the last to the first as their places do, leave of the cells what all rows leave
 abbrev pub invariant-item : goal.invariant-item
 invariant-item l = (script : PlainScript) → IsScript script → l.fn.cells ≡ opened script → map row_of l.fn.rows.items ≡ script.rows
     → AreLeft script (map row_of (reverse l.rows.items)) (reverse l.places.items) l.cells

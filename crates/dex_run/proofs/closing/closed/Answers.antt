@@ -4,6 +4,7 @@ use Rattle.dex_replay.proofs.Common.{CellsState, outcome_of}
 use Rattle.dex_serializable.proofs.Common.{MarketOrigin, Stamped, WalletOrigin}
 use Rattle.dex_run.proofs.Common.{AreMarketsClosed, AreWalletsClosed, CanClose, GateView}
 use Rattle.dex_bank.specs.Closed as cells
+use Rattle.dex_act.specs.declared.sight.Terms.{Terms}
 use Rattle.dex_run.proofs.ClosingLaws.{are-cells, cells-length, closes}
 use Rattle.dex_run.proofs.ClosingPasses.{markets-close, wallets-close}
 use Rattle.dex_run.proofs.closing.closed.Goals as goal
@@ -23,8 +24,8 @@ closed_cells-wallet_cells-requires-clause-passes c =
 pub of-requires : goal.of-requires
 of-requires c = record {
   cells = are-cells c.args.bank c.args.seats.items c.into_parts-mints.ensures.kept c.requires.lanes
-      c.hand_out_all.new.markets.items c.hand_out_all.new.wallets.items (map named_of c.into_parts-mints.result.mints.items) c.into_parts-mints.result.srm c.into_parts-mints.result.msrm
-      c.closed_cells-market_cells.result.items c.closed_cells-wallet_cells.result.items c.into_parts-mints.result.program c.hand_out_all.ensures.wallets
+      c.hand_out_all.new.markets.items c.hand_out_all.new.wallets.items (map named_of c.into_parts-mints.result.mints.items) c.into_parts-mints.result.terms.srm c.into_parts-mints.result.terms.msrm
+      c.closed_cells-market_cells.result.items c.closed_cells-wallet_cells.result.items c.into_parts-mints.result.terms.program c.hand_out_all.ensures.wallets
       (subst (λ (gates : List (GateView (Stamped Call) MarketOrigin)). AreMarketsClosed gates c.hand_out_all.new.markets.items c.closed_cells-market_cells.result.items)
       c.into_parts-mints.ensures.parts.markets c.closed_cells-market_cells.ensures)
       (subst (λ (gates : List (GateView (Stamped WalletEntry) WalletOrigin)). AreWalletsClosed gates c.hand_out_all.new.wallets.items c.closed_cells-wallet_cells.result.items)
@@ -45,14 +46,14 @@ close_into-requires c =
 pub returns : goal.returns
 returns c done =
     closes c.args.bank c.args.seats.items c.into_parts-mints.ensures.kept c.requires.lanes
-    c.hand_out_all.new.markets.items c.hand_out_all.new.wallets.items (map named_of c.into_parts-mints.result.mints.items) c.into_parts-mints.result.srm c.into_parts-mints.result.msrm
-    c.closed_cells-market_cells.result.items c.closed_cells-wallet_cells.result.items c.into_parts-mints.result.program (outcome_of c.close_into.result)
+    c.hand_out_all.new.markets.items c.hand_out_all.new.wallets.items (map named_of c.into_parts-mints.result.mints.items) c.into_parts-mints.result.terms.srm c.into_parts-mints.result.terms.msrm
+    c.closed_cells-market_cells.result.items c.closed_cells-wallet_cells.result.items c.into_parts-mints.result.terms.program (outcome_of c.close_into.result)
     c.hand_out_all.ensures.kept c.requires.seats done c.hand_out_all.ensures.markets c.hand_out_all.ensures.wallets
     (subst (λ (gates : List (GateView (Stamped Call) MarketOrigin)). AreMarketsClosed gates c.hand_out_all.new.markets.items c.closed_cells-market_cells.result.items)
     c.into_parts-mints.ensures.parts.markets c.closed_cells-market_cells.ensures)
     (subst (λ (gates : List (GateView (Stamped WalletEntry) WalletOrigin)). AreWalletsClosed gates c.hand_out_all.new.wallets.items c.closed_cells-wallet_cells.result.items)
     c.into_parts-mints.ensures.parts.wallets c.closed_cells-wallet_cells.ensures)
     c.into_parts-mints.ensures.parts.mints
-    c.into_parts-mints.ensures.parts.srm
-    c.into_parts-mints.ensures.parts.msrm
+    (ap (λ (terms : Terms). terms.srm) c.into_parts-mints.ensures.parts.terms)
+    (ap (λ (terms : Terms). terms.msrm) c.into_parts-mints.ensures.parts.terms)
     (c.close_into.ensures.outcome ∙ ap cells.closed c.of.ensures)

@@ -7,9 +7,9 @@ pub returns-in-Some : goal.returns-in-Some
 returns-in-Some c =
     on-ok c.add_orders.result
     (λ grown. orders-added c.args.address (orders_account_of c.args.account) c.args.markets.now c.in-Some.place c.index-markets-place.result
-    c.add_orders.new.self (sym c.place_of.ensures.place ∙ c.in-Some.is) grown)
+    c.add_orders.new.self (sym c.place_of_declared.ensures.place ∙ c.in-Some.is) grown)
     c.add_orders.ensures
 
 pub returns : goal.returns
 returns c =
-    no-orders-added c.args.address (orders_account_of c.args.account) c.args.markets.now (sym c.place_of.ensures.place ∙ c.in_default.is)
+    no-orders-added c.args.address (orders_account_of c.args.account) c.args.markets.now (sym c.place_of_declared.ensures.place ∙ c.in_default.is)

@@ -5,4 +5,4 @@ use Rattle.dex_state.specs.Addresses.{all_of_market}
 use Rattle.dex_script.proofs.taken.take_markets.Given as goal
 
 abbrev pub invariant-loop-place : goal.invariant-loop-place
-invariant-loop-place l = l.taken.items ≡ l.initial.taken.items ++ flat_map all_of_market (map market_accounts_of (take l.place l.markets))
+invariant-loop-place l = l.taken ≡ l.initial.taken ++ flat_map all_of_market (map market_accounts_of (take l.place l.markets))

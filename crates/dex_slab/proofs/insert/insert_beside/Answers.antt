@@ -44,8 +44,8 @@ pub copy_node-requires-clause-from : goal.copy_node-requires-clause-from
 copy_node-requires-clause-from c =
     let old = c.args.bytes.now in
     let r = rooted old c.requires.slab c.requires.some in
-    let place = c.place_for-place.result.node in
-    node_within c.take_node-leaf.new.bytes place (omega (arith, way-below old c.args.order.id place r c.place_for-place.ensures.place.way))
+    let place = c.insertion_point-point.result.node in
+    node_within c.take_node-leaf.new.bytes place (omega (arith, way-below old c.args.order.id place r c.insertion_point-point.ensures.point.way))
 
 pub copy_node-requires-clause-to : goal.copy_node-requires-clause-to
 copy_node-requires-clause-to c =
@@ -73,11 +73,11 @@ pub branch_above-branch-requires : goal.branch_above-branch-requires
 branch_above-branch-requires c =
     let old = c.args.bytes.now in
     let r = rooted old c.requires.slab c.requires.some in
-    let place = c.place_for-place.ensures.place in
+    let place = c.insertion_point-point.ensures.point in
     let way = place.way in
     let id = c.args.order.id in
     let fits : id < 2 ^ 128 = search rules in
-    let low : top_key way.part < 2 ^ 128 = subst (λ (n : ℕ). n < 2 ^ 128) (way-key old r id c.place_for-place.result.node way) c.place_for-place.ensures.key in
+    let low : top_key way.part < 2 ^ 128 = subst (λ (n : ℕ). n < 2 ^ 128) (way-key old r id c.insertion_point-point.result.node way) c.insertion_point-point.ensures.key in
     let fresh = new_at id way.path way.part (subst (λ (t : Tree). RestsIn id t → ⊥) (sym way.whole) c.requires.new) in
     omega (arith, place.shares, parts-low id fits way.part (least_at way.path) low place.stops fresh (prefixed-part old r way.path way.part way.whole))
 
@@ -85,8 +85,8 @@ pub write_inner-requires : goal.write_inner-requires
 write_inner-requires c =
     let old = c.args.bytes.now in
     let r = rooted old c.requires.slab c.requires.some in
-    let place = c.place_for-place.result.node in
-    node_within c.write_leaf.new.bytes place (omega (arith, way-below old c.args.order.id place r c.place_for-place.ensures.place.way))
+    let place = c.insertion_point-point.result.node in
+    node_within c.write_leaf.new.bytes place (omega (arith, way-below old c.args.order.id place r c.insertion_point-point.ensures.point.way))
 
 pub returns : goal.returns
 returns c =
@@ -98,8 +98,8 @@ returns c =
     let b5 = c.write_inner.new.bytes in
     let new = c.put_u64.new.bytes in
     let order = c.args.order in
-    let place = c.place_for-place.result.node in
-    let shared_bits = c.place_for-place.result.shared in
+    let place = c.insertion_point-point.result.node in
+    let shared_bits = c.insertion_point-point.result.shared in
     let moved = c.take_node-moved.result in
     let leaf = c.take_node-leaf.result in
     let r = rooted old c.requires.slab c.requires.some in
@@ -126,10 +126,10 @@ returns c =
       length_old = search rules;
     } in
     let two_taken : length b2 ≡ length old = search rules in
-    let found = c.place_for-place.ensures.place in
+    let found = c.insertion_point-point.ensures.point in
     let way = found.way in
     let fits : order.id < 2 ^ 128 = search rules in
-    let low : top_key way.part < 2 ^ 128 = subst (λ (n : ℕ). n < 2 ^ 128) (way-key old r order.id place way) c.place_for-place.ensures.key in
+    let low : top_key way.part < 2 ^ 128 = subst (λ (n : ℕ). n < 2 ^ 128) (way-key old r order.id place way) c.insertion_point-point.ensures.key in
     let done : IsInserted old new order =
     inserted old b1 b2 b3 b4 b5 new moved leaf shared_bits order way.path way.part
     (subst (λ (n : ℕ). IsEntered old b1 b2 b3 b4 b5 new n moved leaf (count_of old + 1) order branch) (sym way.top) entered)

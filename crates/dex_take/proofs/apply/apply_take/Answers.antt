@@ -32,7 +32,7 @@ can g c =
     can-be-done c.args.taker.now c.args.plan.now old found.market found.sound found.of c.requires.decided
 
 pub meet_side-met-requires-clause-locks : goal.meet_side-met-requires-clause-locks
-meet_side-met-requires-clause-locks g c = rw (c.terms_of-terms.ensures.sizes, c.sizes-sizes.ensures) (backed g (goal.at.meet_side-met-requires-clause-locks g c).Start).fits
+meet_side-met-requires-clause-locks g c = rw (c.take_terms-terms.ensures.sizes, c.sizes-sizes.ensures) (backed g (goal.at.meet_side-met-requires-clause-locks g c).Start).fits
 
 pub meet_side-met-requires-clause-fits : goal.meet_side-met-requires-clause-fits
 meet_side-met-requires-clause-fits g c =
@@ -41,18 +41,18 @@ meet_side-met-requires-clause-fits g c =
     let t = bare_take taker in
     let lots : t.lots < 2 ^ 64 = c.amounts_fit.ensures.lots in
     let lock : t.max_pc < 2 ^ 64 = c.amounts_fit.ensures.lock in
-    rw (c.terms_of-terms.ensures.keeps, c.want_of-want.ensures, c.terms_of-terms.ensures.sizes, c.sizes-sizes.ensures)
+    rw (c.take_terms-terms.ensures.keeps, c.want_of-want.ensures, c.take_terms-terms.ensures.sizes, c.sizes-sizes.ensures)
     (fits-take taker.id_side sizes t (g.B.SideRead.orders c.args.opposite.now) lots (lock-fits taker.id_side sizes t (can g (goal.at.meet_side-met-requires-clause-fits g c).Start).size lock) (backed g (goal.at.meet_side-met-requires-clause-fits g c).Start).fits)
 
 pub meet_side-met-requires-clause-room : goal.meet_side-met-requires-clause-room
-meet_side-met-requires-clause-room g c = rw (c.terms_of-terms.ensures.keeps, c.want_of-want.ensures, c.sizes-sizes.ensures) (can g (goal.at.meet_side-met-requires-clause-room g c).Start).room
+meet_side-met-requires-clause-room g c = rw (c.take_terms-terms.ensures.keeps, c.want_of-want.ensures, c.sizes-sizes.ensures) (can g (goal.at.meet_side-met-requires-clause-room g c).Start).room
 
 pub overflow_sub-plan : goal.overflow_sub-plan
 overflow_sub-plan g c =
     let taker = c.args.taker.now in
     let orders = g.B.SideRead.orders c.args.opposite.now in
     let words = market_words c.args.market.now.bytes.now in
-    let same : meet taker.id_side (taking c.terms_of-terms.result) (demand c.want_of-want.result) orders ≡ meeting_with (sizes_of words) taker orders = cc in
+    let same : meet taker.id_side (taking c.take_terms-terms.result) (demand c.want_of-want.result) orders ≡ meeting_with (sizes_of words) taker orders = cc in
     omega (
       arith,
       c.meet_side-met.ensures.met.rebates,
@@ -66,7 +66,7 @@ pay-requires-clause-can g c =
     let taker = c.args.taker.now in
     let orders = g.B.SideRead.orders c.args.opposite.now in
     let words = market_words c.args.market.now.bytes.now in
-    let same : meet taker.id_side (taking c.terms_of-terms.result) (demand c.want_of-want.result) orders ≡ meeting_with (sizes_of words) taker orders = cc in
+    let same : meet taker.id_side (taking c.take_terms-terms.result) (demand c.want_of-want.result) orders ≡ meeting_with (sizes_of words) taker orders = cc in
     let kept : c.args.plan.now.fee - c.meet_side-met.result.sums.rebates ≡ kept_of (bare_take taker) (meeting_with (sizes_of words) taker orders) =
     omega (arith, c.meet_side-met.ensures.met.rebates, ap (λ (m : Meeting). m.rebates) same, ap (λ (p : TakePlan). p.fee) (can g (goal.at.pay-requires-clause-can g c).Start).planned) in
     rw (c.exchange_of.ensures, kept)
@@ -82,7 +82,7 @@ returns-clause-does g c =
     let bytes = c.args.market.now.bytes.now in
     let words = market_words bytes in
     let met : Meeting = meeting_with (sizes_of words) taker orders in
-    let same : meet taker.id_side (taking c.terms_of-terms.result) (demand c.want_of-want.result) orders ≡ met = cc in
+    let same : meet taker.id_side (taking c.take_terms-terms.result) (demand c.want_of-want.result) orders ≡ met = cc in
     let kept : c.args.plan.now.fee - c.meet_side-met.result.sums.rebates ≡ kept_of (bare_take taker) met =
     omega (arith, c.meet_side-met.ensures.met.rebates, ap (λ (m : Meeting). m.rebates) same, ap (λ (p : TakePlan). p.fee) (can g (goal.at.returns-clause-does g c).Start).planned) in
     let market = c.pay.ensures.bytes ∙ ap (λ (k : ℕ). bytes_after (moves c.exchange_of.result) k bytes) kept
@@ -97,5 +97,5 @@ returns-clause-list g c =
     let taker = c.args.taker.now in
     let orders = g.B.SideRead.orders c.args.opposite.now in
     let words = market_words c.args.market.now.bytes.now in
-    let same : meet taker.id_side (taking c.terms_of-terms.result) (demand c.want_of-want.result) orders ≡ meeting_with (sizes_of words) taker orders = cc in
+    let same : meet taker.id_side (taking c.take_terms-terms.result) (demand c.want_of-want.result) orders ≡ meeting_with (sizes_of words) taker orders = cc in
     c.meet_side-met.ensures.list ∙ ap (λ (m : Meeting). appended m.events (ring_of c.args.ring.now.bytes.now)) same

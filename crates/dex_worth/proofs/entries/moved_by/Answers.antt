@@ -2,7 +2,7 @@ use Rattle.std.proofs.Common.{ℕ, map, Some, sym, ap, ◌∙◌}
 use Rattle.dex_types.specs.declared.rows.Row.{Row}
 use Rattle.dex_types.specs.Rows.{row_of}
 use Rattle.dex_instruction.specs.Reading.{decoded}
-use Rattle.dex_worth.specs.declared.amounts.Amounts.{Amounts}
+use Rattle.dex_worth.specs.declared.amounts.TokenAmounts.{TokenAmounts}
 use Rattle.dex_worth.specs.Entries.{entered, for_first}
 use Rattle.dex_replay.specs.Told.{side_of}
 use Rattle.dex_worth.proofs.Moving.{call-is, moved-are, no-call, nothing-moved}
@@ -21,7 +21,7 @@ returns-in-Some-clause-told c = λ script call are told.
     (call-is script c.args.market c.args.entry.now call (map row_of c.args.rows.now) (row_of r) are told found)
     (λ owner. c.moved_for.ensures.deposited owner
     ∙ ap (λ (debits : ℕ). for_first owner (row_of r).named (entered (side_of (decoded (row_of r).bytes)) debits)) c.debits_in-debits.ensures.value)
-    (λ owner. c.moved_for.ensures.settled owner ∙ ap (λ (amounts : Amounts). for_first owner (row_of r).named amounts) c.settled_by-settled.ensures.value)
+    (λ owner. c.moved_for.ensures.settled owner ∙ ap (λ (amounts : TokenAmounts). for_first owner (row_of r).named amounts) c.settled_by-settled.ensures.value)
 
 pub returns-in-None-clause-told : goal.returns-in-None-clause-told
 returns-in-None-clause-told c = λ script call are told. absurd (no-call script c.args.market c.args.entry.now call (map row_of c.args.rows.now) are told c.in-None.ensures)

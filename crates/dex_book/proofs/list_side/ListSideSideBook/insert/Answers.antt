@@ -12,8 +12,8 @@ use Rattle.dex_book.proofs.list_side.ListSideSideBook.insert.Goals as goal
 put : (c : goal.After-unwrap) → c.insert.new.self.items ≡ posted c.self.inside.side c.args.order c.self.inside.orders.items
 put c =
     let there = posted-insert c.self.inside.side c.args.order c.self.inside.orders.items in
-    let items : c.insert.new.self.items ≡ insert c.self.inside.orders.items c.place_of-place.result c.args.order = rw c.unwrap.ensures at c.insert.ensures.items in
-    let place : c.place_of-place.result ≡ place_of c.self.inside.side c.args.order.id c.self.inside.orders.items = rw c.deref.ensures.value at c.place_of-place.ensures.place in
+    let items : c.insert.new.self.items ≡ insert c.self.inside.orders.items c.place_in_book-place.result c.args.order = rw c.unwrap.ensures at c.insert.ensures.items in
+    let place : c.place_in_book-place.result ≡ place_of c.self.inside.side c.args.order.id c.self.inside.orders.items = rw c.deref.ensures.value at c.place_in_book-place.ensures.place in
     items ∙ ap (λ at. insert c.self.inside.orders.items at c.args.order) place ∙ sym there
 
 pub returns-clause-orders : goal.returns-clause-orders

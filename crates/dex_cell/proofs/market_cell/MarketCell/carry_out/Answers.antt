@@ -21,29 +21,29 @@ use Rattle.dex_cell.proofs.market_cell.MarketCell.carry_out.Goals as goal
 
 -- ---- before the parcels move
 
-moved-first : (c : goal.After-amounts-1) → transfers_of c.amounts_of-amounts.result ≡ (step_on c.args.row.now c.args.seen.now (cell_inside c.self.inside)).transfers
+moved-first : (c : goal.After-pay-arg-2-1) → transfers_of c.args.amounts.now ≡ (step_on c.args.row.now c.args.seen.now (cell_inside c.self.inside)).transfers
 moved-first c =
-    plan-moves-cell (cell_inside c.self.inside) c.args.self.now c.args.row.now c.args.seen.now c.args.plan.now _ c.self.view_is c.requires.decided c.amounts_of-amounts.ensures
+    plan-moves-cell (cell_inside c.self.inside) c.args.self.now c.args.row.now c.args.seen.now c.args.plan.now _ c.self.view_is c.requires.decided c.requires.amounts
 
 pub pay-payouts-requires-clause-coin : goal.pay-payouts-requires-clause-coin
 pay-payouts-requires-clause-coin c =
-    subst (λ (t : Transfers). CanMoveShare c.self.inside.vaults.coin t.coin_out t.coin_in c.args.coin) (sym (moved-first c))
-    (coin-moves (cell_inside c.self.inside) c.args.row.now c.args.seen.now c.args.coin c.self.invariant.cell
-    (subst (λ (cell : MarketCellState). c.args.coin ≡ paid_in Coin c.args.plan.now (market_at cell)) (sym c.self.view_is) c.requires.coin
-    ∙ ap (λ (t : Transfers). parcel_of (mint_of Coin (market_at (cell_inside c.self.inside))) t.coin_in) (sym c.amounts_of-amounts.ensures ∙ moved-first c)))
+    subst (λ (t : Transfers). CanMoveShare c.self.inside.vaults.coin t.coin_out t.coin_in c.args.deposits.coin) (sym (moved-first c))
+    (coin-moves (cell_inside c.self.inside) c.args.row.now c.args.seen.now c.args.deposits.coin c.self.invariant.cell
+    (subst (λ (cell : MarketCellState). c.args.deposits.coin ≡ paid_in Coin c.args.plan.now (market_at cell)) (sym c.self.view_is) c.requires.coin
+    ∙ ap (λ (t : Transfers). parcel_of (mint_of Coin (market_at (cell_inside c.self.inside))) t.coin_in) (sym c.requires.amounts ∙ moved-first c)))
 
 pub pay-payouts-requires-clause-pc : goal.pay-payouts-requires-clause-pc
 pay-payouts-requires-clause-pc c =
-    subst (λ (t : Transfers). CanMoveShare c.self.inside.vaults.pc (t.pc_out + t.referrer_out) t.pc_in c.args.pc) (sym (moved-first c))
-    (pc-moves (cell_inside c.self.inside) c.args.row.now c.args.seen.now c.args.pc c.self.invariant.cell
-    (subst (λ (cell : MarketCellState). c.args.pc ≡ paid_in Pc c.args.plan.now (market_at cell)) (sym c.self.view_is) c.requires.pc
-    ∙ ap (λ (t : Transfers). parcel_of (mint_of Pc (market_at (cell_inside c.self.inside))) t.pc_in) (sym c.amounts_of-amounts.ensures ∙ moved-first c)))
+    subst (λ (t : Transfers). CanMoveShare c.self.inside.vaults.pc (t.pc_out + t.referrer_out) t.pc_in c.args.deposits.pc) (sym (moved-first c))
+    (pc-moves (cell_inside c.self.inside) c.args.row.now c.args.seen.now c.args.deposits.pc c.self.invariant.cell
+    (subst (λ (cell : MarketCellState). c.args.deposits.pc ≡ paid_in Pc c.args.plan.now (market_at cell)) (sym c.self.view_is) c.requires.pc
+    ∙ ap (λ (t : Transfers). parcel_of (mint_of Pc (market_at (cell_inside c.self.inside))) t.pc_in) (sym c.requires.amounts ∙ moved-first c)))
 
 -- ---- before the entry is written
 
 pub write_down-requires-clause-moves : goal.write_down-requires-clause-moves
 write_down-requires-clause-moves c =
-    subst (CanMoveEach c.args.seen.now) (sym (plan-moves-cell (cell_inside c.self.inside) c.args.self.now c.args.row.now c.args.seen.now c.args.plan.now _ c.self.view_is c.requires.decided c.amounts_of-amounts.ensures))
+    subst (CanMoveEach c.args.seen.now) (sym (plan-moves-cell (cell_inside c.self.inside) c.args.self.now c.args.row.now c.args.seen.now c.args.plan.now _ c.self.view_is c.requires.decided c.requires.amounts))
     (λ wallet. row-moves (asked_of (row_of c.args.row.now)) c.args.seen.now (market_at (cell_inside c.self.inside)) wallet c.self.invariant.cell.sound.sound c.requires.row.sees)
 
 -- ---- at the end
@@ -55,9 +55,9 @@ before c = cell_inside c.self.inside
 abbrev stepped : goal.After-write_down → Step
 stepped c = step_on c.args.row.now c.args.seen.now (before c)
 
-moved : (c : goal.After-write_down) → transfers_of c.amounts_of-amounts.result ≡ (stepped c).transfers
+moved : (c : goal.After-write_down) → transfers_of c.args.amounts.now ≡ (stepped c).transfers
 moved c =
-    plan-moves-cell (before c) c.args.self.now c.args.row.now c.args.seen.now c.args.plan.now _ c.self.view_is c.requires.decided c.amounts_of-amounts.ensures
+    plan-moves-cell (before c) c.args.self.now c.args.row.now c.args.seen.now c.args.plan.now _ c.self.view_is c.requires.decided c.requires.amounts
 
 calls : (c : goal.After-write_down) → map call_of c.write_down.new.calls.items ≡ (before c).calls ++ call_on c.args.row.now c.args.seen.now (before c) ∷ []
 calls c =

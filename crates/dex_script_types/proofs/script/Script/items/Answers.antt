@@ -16,6 +16,7 @@ items_among-requires c =
             ap items_at c.deref.ensures.value,
             items-beside (map row_of inside.rows) inside.places.items c.self.invariant.2,
             c.self.invariant.0.rows.few,
+            c.self.invariant.0.start.accepted.within.items,
           );
     }
 

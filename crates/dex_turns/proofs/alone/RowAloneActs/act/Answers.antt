@@ -1,58 +1,88 @@
-use Rattle.std.proofs.Common.{false, refl, sym, ap, ◌∙◌, subst, arith}
-use Rattle.dex_world.proofs.Common.{AllZip, false≢true, row_of, row_wallets}
-use Rattle.dex_turns.proofs.Common.{HasEntry, Stamped}
+use Rattle.std.proofs.Common.{◌≡◌, true, false, List, sym, ap, ◌∙◌, subst, arith}
+use Rattle.std.specs.List.{All}
+use Rattle.dex_types.specs.declared.addresses.Address.{Address}
+use Rattle.dex_world.proofs.Common.{AllZip, false≢true, row_of, row_wallets, seen_by, with_items_is}
+use Rattle.dex_turns.proofs.Common.{CellState, HasCall, HasEntry, Stamped, is_among}
 use Rattle.dex_cell.specs.CellState.{market_at}
 use Rattle.dex_history.specs.Journal.{Call, is_held}
+use Rattle.dex_stamps.specs.declared.stamp.Stamp.{Stamp}
+use Rattle.dex_act.specs.declared.sight.Terms.{Terms}
+use Rattle.dex_act.specs.Steps.{HasWallets, IsStepOn, made_by, world_in_hand}
+use Rattle.dex_act.specs.Wallets.{ArePlacesAmong}
+use Rattle.dex_turns.specs.Inside.{written_of}
 use Rattle.dex_turns.specs.Submitted.{written_by}
 use Rattle.dex_turns.specs.Turns.{IsTold}
-use Rattle.dex_turns.proofs.Acted.{held-is, is-told, row-entries, sees-own, sees-row}
-use Rattle.dex_turns.proofs.InHand.{has-hands}
+use Rattle.dex_turns.proofs.Acted.{call-is, has-call, held-is, is-told, row-entries}
+use Rattle.dex_turns.proofs.InHand.{has-hands, has-wallets}
 use Rattle.dex_turns.proofs.LegNames.{row-once}
 use Rattle.dex_turns.proofs.alone.RowAloneActs.act.Goals as goal
 
-pub act_or_wait-requires-clause-may : goal.act_or_wait-requires-clause-may
-act_or_wait-requires-clause-may g c =
+pub places_in-requires : goal.places_in-requires
+places_in-requires g c =
     let row = row_of c.args.self.now.row.now in
-    let hand = has-hands c.args.bank.now.script row (row_wallets row) c.args.hands.now.items c.requires.hands (row-once row) (λ address named. named) in
+    let script = c.args.bank.now.script in
+    let cells : List CellState = c.args.hands.now.items in
+    let hand = has-hands script row (row_wallets row) cells c.requires.hands (row-once row) (λ address named. named) in
+    subst (λ (cs : List CellState). All (λ (address : Address). is_among address cs ≡ true) (row_wallets row)) (sym c.deref.ensures.value) hand.here
+
+pub step-done-requires : goal.step-done-requires
+step-done-requires g c =
+    let row = row_of c.args.self.now.row.now in
+    let script = c.args.bank.now.script in
+    let cells : List CellState = c.args.hands.now.items in
+    let hand = has-hands script row (row_wallets row) cells c.requires.hands (row-once row) (λ address named. named) in
+    let at = subst (λ (cs : List CellState). ArePlacesAmong cs row c.places_in.result) c.deref.ensures.value c.places_in.ensures in
     record {
-      on = record {
-        market = c.requires.ready.on;
-        sees = sees-row c.args.bank.now.script row c.args.hands.now.items c.deref.result.now c.seen_by-seen.result hand c.deref.ensures.value c.seen_by-seen.ensures.seen;
-      };
-      sees = sees-own c.args.bank.now.script row c.args.hands.now.items c.deref.result.now c.seen_by-seen.result hand c.deref.ensures.value c.seen_by-seen.ensures.seen
-          c.seen_by-seen.ensures.fits;
+      on = c.requires.ready.on;
       lane = c.requires.ready.lane;
-      above = omega (arith, c.requires.below, c.next.ensures);
+      above = omega (arith, c.requires.below, c.next-stamp.ensures);
+      wallets = subst (HasWallets row c.places_in.result) (sym c.deref_mut.ensures.value) (has-wallets script row cells hand c.places_in.result at);
     }
 
 pub returns-clause-did : goal.returns-clause-did
 returns-clause-did g c =
     let row = row_of c.args.self.now.row.now in
-    let hand = has-hands c.args.bank.now.script row (row_wallets row) c.args.hands.now.items c.requires.hands (row-once row) (λ address named. named) in
+    let script = c.args.bank.now.script in
+    let cells : List CellState = c.args.hands.now.items in
+    let hand = has-hands script row (row_wallets row) cells c.requires.hands (row-once row) (λ address named. named) in
+    let done = c.step-done.result in
     let m = market_at c.args.market.now.cell in
+    let stamp = c.next-stamp.result.number in
+    let step = subst
+    (λ (ws : List CellState). IsStepOn c.terms.result.now row false done c.args.market.now.cell c.step-done.new.self.cell ws c.step-done.new.wallets)
+    c.deref_mut.ensures.value c.step-done.ensures.step in
+    let call =
+    call-is c.args.self.now.row.now c.of.result done false m c.of.ensures.seen c.of.ensures.entry step.recorded
+    ∙ ap (λ (s : Stamp). record { item = made_by false row done.seen.value m; stamp = s.number }) c.of.ensures.stamp in
     record {
       own =
-          ap (λ (call : Stamped Call). is_held call.item) c.act_or_wait.ensures.call
-          ∙ held-is false row c.seen_by-seen.result m (record { take = λ is. absurd (false≢true is); spared = λ is. absurd (false≢true is) });
+          ap (λ (call : Stamped Call). is_held call.item) call
+          ∙ held-is false row done.seen.value m (record { take = λ is. absurd (false≢true is); spared = λ is. absurd (false≢true is) });
       told =
-          subst (IsTold c.args.bank.now.script) (sym c.act_or_wait.ensures.call)
-          (is-told c.args.bank.now.script row c.args.hands.now.items c.deref.result.now c.seen_by-seen.result hand c.deref.ensures.value c.seen_by-seen.ensures.seen false m
-          c.next.result.number);
-      market = c.act_or_wait.ensures.market;
+          subst (IsTold script) (sym call)
+          (is-told script row cells done.seen.value hand (step.seen ∙ ap (λ (terms : Terms). seen_by row (world_in_hand terms cells)) c.terms.ensures.terms) step.sees false m stamp);
+      market =
+          subst (λ (call : Stamped Call). HasCall call c.args.market.now c.step-done.new.self) (sym call)
+          (has-call c.terms.result.now row false done stamp c.args.market.now c.step-done.new.self cells c.step-done.new.wallets step c.step-done.ensures.stamped
+          c.step-done.ensures.kept);
     }
-
-pub returns-clause-written : goal.returns-clause-written
-returns-clause-written g c = record {
-  of_lane = refl;
-  later = omega (arith, c.next.ensures, ap (λ (call : Stamped Call). call.stamp) c.act_or_wait.ensures.call);
-}
 
 pub returns-clause-hands : goal.returns-clause-hands
 returns-clause-hands g c =
     let row = row_of c.args.self.now.row.now in
-    let hand = has-hands c.args.bank.now.script row (row_wallets row) c.args.hands.now.items c.requires.hands (row-once row) (λ address named. named) in
-    subst (λ (call : Stamped Call). AllZip (HasEntry (written_by call)) c.args.hands.now.items c.act_or_wait.new.hands.items) (sym c.act_or_wait.ensures.call)
-    (row-entries c.args.bank.now.script row c.seen_by-seen.result false (market_at c.args.market.now.cell) c.next.result.number c.args.hands.now.items c.act_or_wait.new.hands.items
-    c.requires.hands
-    (sees-row c.args.bank.now.script row c.args.hands.now.items c.deref.result.now c.seen_by-seen.result hand c.deref.ensures.value c.seen_by-seen.ensures.seen)
-    c.act_or_wait.ensures.hands)
+    let script = c.args.bank.now.script in
+    let cells : List CellState = c.args.hands.now.items in
+    let hand = has-hands script row (row_wallets row) cells c.requires.hands (row-once row) (λ address named. named) in
+    let done = c.step-done.result in
+    let m = market_at c.args.market.now.cell in
+    let stamp = c.next-stamp.result.number in
+    let step = subst
+    (λ (ws : List CellState). IsStepOn c.terms.result.now row false done c.args.market.now.cell c.step-done.new.self.cell ws c.step-done.new.wallets)
+    c.deref_mut.ensures.value c.step-done.ensures.step in
+    let call =
+    call-is c.args.self.now.row.now c.of.result done false m c.of.ensures.seen c.of.ensures.entry step.recorded
+    ∙ ap (λ (s : Stamp). record { item = made_by false row done.seen.value m; stamp = s.number }) c.of.ensures.stamp in
+    subst (AllZip (HasEntry (written_of (c.args.self.now.row.now, c.of.result))) cells)
+    (sym (with_items_is c.args.hands.now c.step-done.new.wallets (omega (arith, c.step-done.auto.wallets, c.deref_mut.ensures.len))))
+    (subst (λ (call : Stamped Call). AllZip (HasEntry (written_by call)) cells c.step-done.new.wallets) (sym call)
+    (row-entries script row done.seen.value false m stamp cells c.step-done.new.wallets c.requires.hands step.sees step.did.wallets))

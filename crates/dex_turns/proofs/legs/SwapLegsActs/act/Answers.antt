@@ -1,101 +1,97 @@
-use Rattle.std.proofs.Common.{ℕ, Bool, ◌&&◌, not, List, refl, sym, ap, ◌∙◌, subst, arith}
-use Rattle.dex_world.proofs.Common.{AllZip, Call, Market, Seen, is_same, is_same-refl, row_of}
-use Rattle.dex_turns.proofs.Common.{CellState, HasEntry, Stamped, call_made}
+use Rattle.std.proofs.Common.{◌≡◌, ℕ, Bool, true, ◌&&◌, not, List, refl, sym, ap, ◌∙◌, subst, arith}
+use Rattle.std.specs.List.{All}
+use Rattle.dex_types.specs.declared.addresses.Address.{Address}
+use Rattle.dex_world.proofs.Common.{AllZip, Call, Market, PlainRow, Seen, row_of, row_wallets, seen_by, with_items_is}
+use Rattle.dex_turns.proofs.Common.{CellState, HasCall, HasEntry, MarketCellState, PlainScript, Stamped, call_made, is_among, terms_of}
 use Rattle.dex_cell.specs.CellState.{market_at}
 use Rattle.dex_history.specs.Journal.{is_done, is_held, is_refused, is_took}
+use Rattle.dex_stamps.specs.declared.stamp.Stamp.{Stamp}
+use Rattle.dex_act.specs.declared.places.WalletPlaces.{WalletPlaces}
+use Rattle.dex_act.specs.declared.sight.Terms.{Terms}
+use Rattle.dex_act.specs.declared.steps.Legs.{Legs}
+use Rattle.dex_act.specs.Steps.{AreStepsOn, HasWallets, IsTakeOrRefused, made_by, world_in_hand}
+use Rattle.dex_act.specs.Wallets.{ArePlacesAmong}
+use Rattle.dex_turns.specs.Legs.{legs_written}
 use Rattle.dex_turns.specs.Submitted.{written_by_two}
-use Rattle.dex_turns.specs.Turns.{IsTold, leg_wallets, made_by}
-use Rattle.dex_turns.proofs.Acted.{all-or-none, can-hold, held-is, is-told, leg-waits, listed, refused-is, seen-is, sees-own, sees-row}
-use Rattle.dex_turns.proofs.InHand.{has-hands}
-use Rattle.dex_turns.proofs.LegHands.{hands-behind, legs-entries, seen-behind}
+use Rattle.dex_turns.specs.Turns.{IsTold, leg_wallets}
+use Rattle.dex_turns.proofs.Acted.{all-or-none, call-is, has-call, held-is, is-told, leg-waits, refused-is, take-or-refused}
+use Rattle.dex_turns.proofs.InHand.{HasHands, has-hands, has-wallets}
+use Rattle.dex_turns.proofs.LegHands.{legs-entries}
 use Rattle.dex_turns.proofs.LegReplies.{done-is, leg-replies, took-is}
 use Rattle.dex_turns.proofs.LegNames.{each-named, first-named, leg-once, second-named}
 use Rattle.dex_turns.proofs.legs.SwapLegsActs.act.Goals as goal
 
--- ---- both are looked at
+-- ---- before they act
 
-pub is_refused-first_refused-requires : goal.is_refused-first_refused-requires
-is_refused-first_refused-requires g c =
-    let first = row_of c.args.self.now.first.now in
-    let second = row_of c.args.self.now.second.now in
-    let legs = c.requires.ready.legs in
-    let hand = has-hands c.args.bank.now.script first (leg_wallets first second) c.args.hands.now.items c.requires.hands (leg-once first second legs) (first-named first second legs) in
-    record {
-      market = c.requires.ready.first_may.on;
-      sees = sees-row c.args.bank.now.script first c.args.hands.now.items c.deref.result.now c.seen_by-first_seen.result hand c.deref.ensures.value c.seen_by-first_seen.ensures.seen;
-    }
+-- the wallets of a leg are among the cells in hand
+among : (script : PlainScript) (row : PlainRow) (cells lent : List CellState) → HasHands script row cells → lent ≡ cells
+    → All (λ (address : Address). is_among address lent ≡ true) (row_wallets row)
+among script row cells lent hand is = subst (λ (cs : List CellState). All (λ (address : Address). is_among address cs ≡ true) (row_wallets row)) (sym is) hand.here
 
-pub is_refused-second_refused-requires : goal.is_refused-second_refused-requires
-is_refused-second_refused-requires g c =
-    let first = row_of c.args.self.now.first.now in
-    let second = row_of c.args.self.now.second.now in
-    let legs = c.requires.ready.legs in
-    let hand = has-hands c.args.bank.now.script second (leg_wallets first second) c.args.hands.now.items c.requires.hands (leg-once first second legs) (second-named first second legs) in
-    record {
-      market = c.requires.ready.second_may.on;
-      sees = sees-row c.args.bank.now.script second c.args.hands.now.items c.deref-2.result.now c.seen_by-second_seen.result hand c.deref-2.ensures.value c.seen_by-second_seen.ensures.seen;
-    }
+-- and stand there
+stand : (script : PlainScript) (row : PlainRow) (cells lent held : List CellState) (places : WalletPlaces) → HasHands script row cells → lent ≡ cells → held ≡ cells
+    → ArePlacesAmong lent row places → HasWallets row places held
+stand script row cells lent held places hand is same at =
+    subst (HasWallets row places) (sym same) (has-wallets script row cells hand places (subst (λ (cs : List CellState). ArePlacesAmong cs row places) is at))
 
--- ---- the first acts or waits
+-- a leg is a take, or is refused
+take : (script : PlainScript) (row : PlainRow) (market : MarketCellState) (cells : List CellState) (terms : Terms) → terms ≡ terms_of script
+    → IsTakeOrRefused (terms_of script) row market cells → IsTakeOrRefused terms row market cells
+take script row market cells terms is told = subst (λ (t : Terms). IsTakeOrRefused t row market cells) (sym is) told
 
-pub act_or_wait-one-requires-clause-may : goal.act_or_wait-one-requires-clause-may
-act_or_wait-one-requires-clause-may g c =
-    let first = row_of c.args.self.now.first.now in
-    let second = row_of c.args.self.now.second.now in
-    let legs = c.requires.ready.legs in
-    let hand = has-hands c.args.bank.now.script first (leg_wallets first second) c.args.hands.now.items c.requires.hands (leg-once first second legs) (first-named first second legs) in
-    record {
-      on = record {
-        market = c.requires.ready.first_may.on;
-        sees = sees-row c.args.bank.now.script first c.args.hands.now.items c.deref.result.now c.seen_by-first_seen.result hand c.deref.ensures.value c.seen_by-first_seen.ensures.seen;
-      };
-      sees = sees-own c.args.bank.now.script first c.args.hands.now.items c.deref.result.now c.seen_by-first_seen.result hand c.deref.ensures.value c.seen_by-first_seen.ensures.seen
-          c.seen_by-first_seen.ensures.fits;
-      lane = c.requires.ready.first_may.lane;
-      above = omega (arith, c.requires.below, c.next-one_stamp.ensures);
-    }
-
-pub act_or_wait-one-requires-clause-held : goal.act_or_wait-one-requires-clause-held
-act_or_wait-one-requires-clause-held g c =
-    can-hold c.args.self.now.first.now c.seen_by-first_seen.result c.args.markets.now.first.cell c.waits.result
-    (leg-waits (row_of c.args.self.now.first.now) c.requires.ready.legs.first c.seen_by-first_seen.result (market_at c.args.markets.now.first.cell) c.waits.result
-    c.is_refused-second_refused.result c.is_refused-first_refused.result c.waits.ensures c.is_refused-first_refused.ensures)
-
--- ---- and then the second
-
-pub act_or_wait-two-requires-clause-held : goal.act_or_wait-two-requires-clause-held
-act_or_wait-two-requires-clause-held g c =
-    can-hold c.args.self.now.second.now c.seen_by-second_seen.result c.args.markets.now.second.cell c.waits-2.result
-    (leg-waits (row_of c.args.self.now.second.now) c.requires.ready.legs.second c.seen_by-second_seen.result (market_at c.args.markets.now.second.cell) c.waits-2.result
-    c.is_refused-first_refused.result c.is_refused-second_refused.result c.waits-2.ensures c.is_refused-second_refused.ensures)
-
--- it sees after the first what it saw before
-pub act_or_wait-two-requires-clause-may : goal.act_or_wait-two-requires-clause-may
-act_or_wait-two-requires-clause-may g c =
+pub places_in-requires : goal.places_in-requires
+places_in-requires g c =
     let script = c.args.bank.now.script in
     let first = row_of c.args.self.now.first.now in
     let second = row_of c.args.self.now.second.now in
     let legs = c.requires.ready.legs in
     let cells : List CellState = c.args.hands.now.items in
-    let mid : List CellState = c.act_or_wait-one.new.hands.items in
     let own = has-hands script first (leg_wallets first second) cells c.requires.hands (leg-once first second legs) (first-named first second legs) in
     let other = has-hands script second (leg_wallets first second) cells c.requires.hands (leg-once first second legs) (second-named first second legs) in
-    let m : Market = market_at c.args.markets.now.first.cell in
-    let behind = hands-behind first second legs.apart c.waits.result c.seen_by-first_seen.result _ script cells mid c.act_or_wait-one.ensures.hands other in
+    among script first cells c.deref.result.now own c.deref.ensures.value
+
+pub places_in-requires-2 : goal.places_in-requires-2
+places_in-requires-2 g c =
+    let script = c.args.bank.now.script in
+    let first = row_of c.args.self.now.first.now in
+    let second = row_of c.args.self.now.second.now in
+    let legs = c.requires.ready.legs in
+    let cells : List CellState = c.args.hands.now.items in
+    let own = has-hands script first (leg_wallets first second) cells c.requires.hands (leg-once first second legs) (first-named first second legs) in
+    let other = has-hands script second (leg_wallets first second) cells c.requires.hands (leg-once first second legs) (second-named first second legs) in
+    among script second cells c.deref-2.result.now other c.deref-2.ensures.value
+
+pub step_two-one-requires : goal.step_two-one-requires
+step_two-one-requires g c =
+    let script = c.args.bank.now.script in
+    let first = row_of c.args.self.now.first.now in
+    let second = row_of c.args.self.now.second.now in
+    let legs = c.requires.ready.legs in
+    let cells : List CellState = c.args.hands.now.items in
+    let own = has-hands script first (leg_wallets first second) cells c.requires.hands (leg-once first second legs) (first-named first second legs) in
+    let other = has-hands script second (leg_wallets first second) cells c.requires.hands (leg-once first second legs) (second-named first second legs) in
     record {
-      on = record {
-        market = c.requires.ready.second_may.on;
-        sees = sees-row script second cells c.deref-2.result.now c.seen_by-second_seen.result other c.deref-2.ensures.value c.seen_by-second_seen.ensures.seen;
+      first_may = record {
+        on = c.requires.ready.first_may.on;
+        lane = c.requires.ready.first_may.lane;
+        above = omega (arith, c.requires.below, c.next-one_stamp.ensures);
+        wallets =
+            stand script first cells c.deref.result.now c.deref_mut.result.now c.places_in.result own c.deref.ensures.value c.deref_mut.ensures.value c.places_in.ensures;
       };
-      sees = sees-own script second mid mid c.seen_by-second_seen.result behind refl
-          (seen-is script second cells c.deref-2.result.now c.seen_by-second_seen.result other c.deref-2.ensures.value c.seen_by-second_seen.ensures.seen
-          ∙ sym (seen-behind first second legs.apart c.waits.result c.seen_by-first_seen.result m script cells mid
-          (seen-is script first cells c.deref.result.now c.seen_by-first_seen.result own c.deref.ensures.value c.seen_by-first_seen.ensures.seen)
-          (ap (is_same first.market) (listed c.args.markets.now.first.cell.accounts ∙ sym c.requires.ready.first_may.on) ∙ is_same-refl first.market)
-          c.act_or_wait-one.ensures.hands.states))
-          c.seen_by-second_seen.ensures.fits;
-      lane = c.requires.ready.second_may.lane;
-      above = omega (arith, c.requires.below, c.next-two_stamp.ensures);
+      second_may = record {
+        on = c.requires.ready.second_may.on;
+        lane = c.requires.ready.second_may.lane;
+        above = omega (arith, c.requires.below, c.next-one_stamp.ensures);
+        wallets =
+            stand script second cells c.deref-2.result.now c.deref_mut.result.now c.places_in-2.result other c.deref-2.ensures.value c.deref_mut.ensures.value c.places_in-2.ensures;
+      };
+      share = legs.apart;
+      first_take =
+          take script first c.args.markets.now.first.cell c.deref_mut.result.now c.terms.result.now c.terms.ensures.terms
+          (take-or-refused script first legs.first c.args.markets.now.first.cell c.deref_mut.result.now);
+      second_take =
+          take script second c.args.markets.now.second.cell c.deref_mut.result.now c.terms.result.now c.terms.ensures.terms
+          (take-or-refused script second legs.second c.args.markets.now.second.cell c.deref_mut.result.now);
     }
 
 -- ---- what they did
@@ -111,40 +107,64 @@ returns-clause-did g c =
     let other = has-hands script second (leg_wallets first second) cells c.requires.hands (leg-once first second legs) (second-named first second legs) in
     let m : Market = market_at c.args.markets.now.first.cell in
     let n : Market = market_at c.args.markets.now.second.cell in
-    let one_seen : Seen = c.seen_by-first_seen.result in
-    let two_seen : Seen = c.seen_by-second_seen.result in
-    let one_may = leg-waits first legs.first one_seen m c.waits.result c.is_refused-second_refused.result c.is_refused-first_refused.result c.waits.ensures c.is_refused-first_refused.ensures in
-    let two_may = leg-waits second legs.second two_seen n c.waits-2.result c.is_refused-first_refused.result c.is_refused-second_refused.result c.waits-2.ensures c.is_refused-second_refused.ensures in
+    let dones = c.step_two-one.result in
+    let stamp = c.next-one_stamp.result.number in
+    let rows : Legs = record {
+      first = record { row = c.args.self.now.first; places = c.places_in.result };
+      second = record { row = c.args.self.now.second; places = c.places_in-2.result };
+    } in
+    let both = subst
+    (λ (ws : List CellState). AreStepsOn c.terms.result.now rows dones c.args.markets.now.first.cell c.step_two-one.new.first.cell c.args.markets.now.second.cell
+    c.step_two-one.new.second.cell ws c.step_two-one.new.wallets)
+    c.deref_mut.ensures.value c.step_two-one.ensures.steps in
+    let one_waits : Bool = both.two_refused && not both.one_refused in
+    let two_waits : Bool = both.one_refused && not both.two_refused in
+    let one_seen : Seen = dones.0.seen.value in
+    let two_seen : Seen = dones.1.seen.value in
+    let one_call =
+    call-is c.args.self.now.first.now c.of.result dones.0 one_waits m c.of.ensures.seen c.of.ensures.entry both.one.recorded
+    ∙ ap (λ (s : Stamp). record { item = made_by one_waits first one_seen m; stamp = s.number }) c.of.ensures.stamp in
+    let two_call =
+    call-is c.args.self.now.second.now c.of-2.result dones.1 two_waits n c.of-2.ensures.seen c.of-2.ensures.entry both.two.recorded
+    ∙ ap (λ (s : Stamp). record { item = made_by two_waits second two_seen n; stamp = s.number }) c.of-2.ensures.stamp
+    ∙ ap (λ (s : ℕ). record { item = made_by two_waits second two_seen n; stamp = s }) (c.next-two_stamp.ensures ∙ sym c.next-one_stamp.ensures) in
+    let one_may = leg-waits first legs.first one_seen m one_waits both.two_refused both.one_refused refl both.one_is in
+    let two_may = leg-waits second legs.second two_seen n two_waits both.one_refused both.two_refused refl both.two_is in
+    let one_refused = ap (λ (call : Stamped Call). is_refused call.item) one_call ∙ refused-is one_waits first one_seen m one_may ∙ sym both.one_is in
+    let two_refused = ap (λ (call : Stamped Call). is_refused call.item) two_call ∙ refused-is two_waits second two_seen n two_may ∙ sym both.two_is in
     record {
-      together =
-          ap (λ (call : Stamped Call). call.stamp) c.act_or_wait-two.ensures.call ∙ c.next-two_stamp.ensures ∙ sym (ap (λ (call : Stamped Call). call.stamp) c.act_or_wait-one.ensures.call ∙ c.next-one_stamp.ensures);
+      together = ap (λ (call : Stamped Call). call.stamp) two_call ∙ sym (ap (λ (call : Stamped Call). call.stamp) one_call);
       all_or_none =
-          all-or-none _ _ c.waits.result c.waits-2.result c.is_refused-first_refused.result c.is_refused-second_refused.result
-          (ap (λ (call : Stamped Call). is_held call.item) c.act_or_wait-one.ensures.call ∙ held-is c.waits.result first one_seen m one_may)
-          (ap (λ (call : Stamped Call). is_held call.item) c.act_or_wait-two.ensures.call ∙ held-is c.waits-2.result second two_seen n two_may)
-          (ap (λ (call : Stamped Call). is_refused call.item) c.act_or_wait-one.ensures.call ∙ refused-is c.waits.result first one_seen m one_may ∙ sym c.is_refused-first_refused.ensures)
-          (ap (λ (call : Stamped Call). is_refused call.item) c.act_or_wait-two.ensures.call ∙ refused-is c.waits-2.result second two_seen n two_may ∙ sym c.is_refused-second_refused.ensures)
-          c.waits.ensures c.waits-2.ensures;
+          all-or-none (call_made (c.args.self.now.first.now, c.of.result)) (call_made (c.args.self.now.second.now, c.of-2.result)) one_waits two_waits both.one_refused both.two_refused
+          (ap (λ (call : Stamped Call). is_held call.item) one_call ∙ held-is one_waits first one_seen m one_may)
+          (ap (λ (call : Stamped Call). is_held call.item) two_call ∙ held-is two_waits second two_seen n two_may)
+          one_refused two_refused refl refl;
       replies =
-          leg-replies c.act_or_wait-one.result.entry.value.reply c.act_or_wait-two.result.entry.value.reply c.waits.result c.waits-2.result c.is_refused-first_refused.result
-          c.is_refused-second_refused.result
-          (ap (λ (call : Stamped Call). is_took call.item.entry.reply) c.act_or_wait-one.ensures.call ∙ took-is first legs.first one_seen m c.waits.result one_may
-          ∙ ap (λ (b : Bool). not b && not c.waits.result) (sym c.is_refused-first_refused.ensures))
-          (ap (λ (call : Stamped Call). is_took call.item.entry.reply) c.act_or_wait-two.ensures.call ∙ took-is second legs.second two_seen n c.waits-2.result two_may
-          ∙ ap (λ (b : Bool). not b && not c.waits-2.result) (sym c.is_refused-second_refused.ensures))
-          (ap (λ (call : Stamped Call). is_refused call.item) c.act_or_wait-one.ensures.call ∙ refused-is c.waits.result first one_seen m one_may ∙ sym c.is_refused-first_refused.ensures)
-          (ap (λ (call : Stamped Call). is_refused call.item) c.act_or_wait-two.ensures.call ∙ refused-is c.waits-2.result second two_seen n two_may ∙ sym c.is_refused-second_refused.ensures)
-          (ap (λ (call : Stamped Call). is_done call.item.entry.reply) c.act_or_wait-one.ensures.call ∙ done-is first legs.first one_seen m c.waits.result one_may)
-          (ap (λ (call : Stamped Call). is_done call.item.entry.reply) c.act_or_wait-two.ensures.call ∙ done-is second legs.second two_seen n c.waits-2.result two_may)
-          c.waits.ensures c.waits-2.ensures;
+          leg-replies c.of.result.entry.value.reply c.of-2.result.entry.value.reply one_waits two_waits both.one_refused both.two_refused
+          (ap (λ (call : Stamped Call). is_took call.item.entry.reply) one_call ∙ took-is first legs.first one_seen m one_waits one_may
+          ∙ ap (λ (b : Bool). not b && not one_waits) (sym both.one_is))
+          (ap (λ (call : Stamped Call). is_took call.item.entry.reply) two_call ∙ took-is second legs.second two_seen n two_waits two_may
+          ∙ ap (λ (b : Bool). not b && not two_waits) (sym both.two_is))
+          one_refused two_refused
+          (ap (λ (call : Stamped Call). is_done call.item.entry.reply) one_call ∙ done-is first legs.first one_seen m one_waits one_may)
+          (ap (λ (call : Stamped Call). is_done call.item.entry.reply) two_call ∙ done-is second legs.second two_seen n two_waits two_may)
+          refl refl;
       told = (
-        subst (IsTold script) (sym c.act_or_wait-one.ensures.call)
-            (is-told script first cells c.deref.result.now one_seen own c.deref.ensures.value c.seen_by-first_seen.ensures.seen c.waits.result m c.next-one_stamp.result.number),
-        subst (IsTold script) (sym c.act_or_wait-two.ensures.call)
-            (is-told script second cells c.deref-2.result.now two_seen other c.deref-2.ensures.value c.seen_by-second_seen.ensures.seen c.waits-2.result n c.next-two_stamp.result.number),
+        subst (IsTold script) (sym one_call)
+            (is-told script first cells one_seen own (both.one.seen ∙ ap (λ (terms : Terms). seen_by first (world_in_hand terms cells)) c.terms.ensures.terms) both.one.sees
+            one_waits m stamp),
+        subst (IsTold script) (sym two_call)
+            (is-told script second cells two_seen other (both.two_seen ∙ ap (λ (terms : Terms). seen_by second (world_in_hand terms cells)) c.terms.ensures.terms) both.two.sees
+            two_waits n stamp),
       );
-      first = c.act_or_wait-one.ensures.market;
-      second = c.act_or_wait-two.ensures.market;
+      first =
+          subst (λ (call : Stamped Call). HasCall call c.args.markets.now.first c.step_two-one.new.first) (sym one_call)
+          (has-call c.terms.result.now first one_waits dones.0 stamp c.args.markets.now.first c.step_two-one.new.first cells both.between both.one c.step_two-one.ensures.first
+          c.step_two-one.ensures.kept.0);
+      second =
+          subst (λ (call : Stamped Call). HasCall call c.args.markets.now.second c.step_two-one.new.second) (sym two_call)
+          (has-call c.terms.result.now second two_waits dones.1 stamp c.args.markets.now.second c.step_two-one.new.second both.between c.step_two-one.new.wallets both.two
+          c.step_two-one.ensures.second c.step_two-one.ensures.kept.1);
     }
 
 pub returns-clause-hands : goal.returns-clause-hands
@@ -158,17 +178,31 @@ returns-clause-hands g c =
     let other = has-hands script second (leg_wallets first second) cells c.requires.hands (leg-once first second legs) (second-named first second legs) in
     let m : Market = market_at c.args.markets.now.first.cell in
     let n : Market = market_at c.args.markets.now.second.cell in
-    let one_seen : Seen = c.seen_by-first_seen.result in
-    let two_seen : Seen = c.seen_by-second_seen.result in
-    let one_is = c.act_or_wait-one.ensures.call in
-    let two_is =
-    c.act_or_wait-two.ensures.call
-    ∙ ap (λ (stamp : ℕ). record { item = made_by c.waits-2.result second two_seen n; stamp = stamp }) (c.next-two_stamp.ensures ∙ sym c.next-one_stamp.ensures) in
-    subst (λ (one : Stamped Call). AllZip (HasEntry (written_by_two one (call_made (c.args.self.now.second.now, c.act_or_wait-two.result)))) cells c.act_or_wait-two.new.hands.items) (sym one_is)
-    (subst (λ (two : Stamped Call). AllZip (HasEntry (written_by_two (record { item = made_by c.waits.result first one_seen m; stamp = c.next-one_stamp.result.number }) two)) cells c.act_or_wait-two.new.hands.items)
-    (sym two_is)
-    (legs-entries first second legs.apart c.waits.result c.waits-2.result one_seen two_seen m n c.next-one_stamp.result.number
-    (sees-row script first cells c.deref.result.now one_seen own c.deref.ensures.value c.seen_by-first_seen.ensures.seen)
-    (sees-row script second cells c.deref-2.result.now two_seen other c.deref-2.ensures.value c.seen_by-second_seen.ensures.seen) legs.lane cells
-    c.act_or_wait-one.new.hands.items c.act_or_wait-two.new.hands.items (each-named first second legs script cells c.requires.hands) c.act_or_wait-one.ensures.hands
-    c.act_or_wait-two.ensures.hands))
+    let dones = c.step_two-one.result in
+    let stamp = c.next-one_stamp.result.number in
+    let rows : Legs = record {
+      first = record { row = c.args.self.now.first; places = c.places_in.result };
+      second = record { row = c.args.self.now.second; places = c.places_in-2.result };
+    } in
+    let both = subst
+    (λ (ws : List CellState). AreStepsOn c.terms.result.now rows dones c.args.markets.now.first.cell c.step_two-one.new.first.cell c.args.markets.now.second.cell
+    c.step_two-one.new.second.cell ws c.step_two-one.new.wallets)
+    c.deref_mut.ensures.value c.step_two-one.ensures.steps in
+    let one_waits : Bool = both.two_refused && not both.one_refused in
+    let two_waits : Bool = both.one_refused && not both.two_refused in
+    let one_seen : Seen = dones.0.seen.value in
+    let two_seen : Seen = dones.1.seen.value in
+    let one_call =
+    call-is c.args.self.now.first.now c.of.result dones.0 one_waits m c.of.ensures.seen c.of.ensures.entry both.one.recorded
+    ∙ ap (λ (s : Stamp). record { item = made_by one_waits first one_seen m; stamp = s.number }) c.of.ensures.stamp in
+    let two_call =
+    call-is c.args.self.now.second.now c.of-2.result dones.1 two_waits n c.of-2.ensures.seen c.of-2.ensures.entry both.two.recorded
+    ∙ ap (λ (s : Stamp). record { item = made_by two_waits second two_seen n; stamp = s.number }) c.of-2.ensures.stamp
+    ∙ ap (λ (s : ℕ). record { item = made_by two_waits second two_seen n; stamp = s }) (c.next-two_stamp.ensures ∙ sym c.next-one_stamp.ensures) in
+    subst (AllZip (HasEntry (legs_written c.args.self.now.first.now c.args.self.now.second.now (record { first = c.of.result; second = c.of-2.result }))) cells)
+    (sym (with_items_is c.args.hands.now c.step_two-one.new.wallets (omega (arith, c.step_two-one.auto.wallets, c.deref_mut.ensures.len))))
+    (subst (λ (one : Stamped Call). AllZip (HasEntry (written_by_two one (call_made (c.args.self.now.second.now, c.of-2.result)))) cells c.step_two-one.new.wallets) (sym one_call)
+    (subst (λ (two : Stamped Call). AllZip (HasEntry (written_by_two (record { item = made_by one_waits first one_seen m; stamp = stamp }) two)) cells c.step_two-one.new.wallets)
+    (sym two_call)
+    (legs-entries first second legs.apart one_waits two_waits one_seen two_seen m n stamp both.one.sees both.two.sees legs.lane cells both.between c.step_two-one.new.wallets
+    (each-named first second legs script cells c.requires.hands) both.one.did.wallets both.two.did.wallets)))

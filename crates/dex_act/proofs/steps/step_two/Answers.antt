@@ -1,0 +1,108 @@
+use Rattle.std.proofs.Common.{◌≡◌, Bool, is_some, sym, ap, ◌∙◌, subst}
+use Rattle.dex_types.specs.declared.rows.Seen.{Seen}
+use Rattle.dex_types.specs.Rows.{PlainRow, row_of}
+use Rattle.dex_types.specs.Why.{why}
+use Rattle.dex_history.specs.Journal.{request_of, row_step}
+use Rattle.dex_cell.specs.CellState.{market_at}
+use Rattle.dex_world.specs.Items.{doing}
+use Rattle.dex_world.specs.World.{seen_by}
+use Rattle.dex_act.specs.Acted.{HaveActed}
+use Rattle.dex_act.specs.Steps.{CanStep, IsStepOn, world_in_hand}
+use Rattle.dex_act.proofs.StepLaws.{can-act, can-hold, sees-row}
+use Rattle.dex_act.proofs.BehindLaws.{can-behind, listed, seen-behind}
+use Rattle.dex_act.proofs.steps.step_two.Goals as goal
+use Rattle.dex_act.proofs.steps.step_two.Goals.{After-done-one}
+
+pub is_refused-one_refused-requires : goal.is_refused-one_refused-requires
+is_refused-one_refused-requires c = record {
+  market = c.requires.first_can.on;
+  sees = sees-row c.args.terms.now c.args.legs.now.first.row.now c.args.legs.now.first.places c.see.new.seen c.args.first.now c.args.wallets.now c.see.ensures.seen c.requires.first_can;
+}
+
+pub is_refused-two_refused-requires : goal.is_refused-two_refused-requires
+is_refused-two_refused-requires c = record {
+  market = c.requires.second_can.on;
+  sees = sees-row c.args.terms.now c.args.legs.now.second.row.now c.args.legs.now.second.places c.see-2.new.seen c.args.second.now c.args.wallets.now c.see-2.ensures.seen c.requires.second_can;
+}
+
+-- ---- the first acts or waits
+
+pub done-one-requires-clause-row : goal.done-one-requires-clause-row
+done-one-requires-clause-row c =
+    can-act c.args.terms.now c.args.legs.now.first.row.now c.args.legs.now.first.places c.see.new.seen c.args.first.now c.args.wallets.now c.see.ensures.seen c.requires.first_can
+    c.see.ensures.fits
+
+pub done-one-requires-clause-held : goal.done-one-requires-clause-held
+done-one-requires-clause-held c =
+    can-hold c.args.terms.now c.args.legs.now.first.row.now c.see.new.seen c.args.first.now c.args.wallets.now c.see.ensures.seen c.requires.first_take
+    c.waits-one_waits.result c.is_refused-two_refused.result c.is_refused-one_refused.result c.waits-one_waits.ensures c.is_refused-one_refused.ensures
+
+-- ---- and then the second
+
+abbrev first : After-done-one → PlainRow
+first c = row_of c.args.legs.now.first.row.now
+
+abbrev second : After-done-one → PlainRow
+second c = row_of c.args.legs.now.second.row.now
+
+moved : (c : After-done-one)
+    → let done = doing c.waits-one_waits.result (first c) in
+    HaveActed done c.see.new.seen (row_step done c.see.new.seen (market_at c.args.first.now)).transfers c.args.wallets.now c.done-one.new.wallets
+moved c =
+    let done = doing c.waits-one_waits.result (first c) in
+    subst (λ (seen : Seen). HaveActed done seen (row_step done seen (market_at c.args.first.now)).transfers c.args.wallets.now c.done-one.new.wallets) c.done-one.ensures.seen
+    c.done-one.ensures.done.wallets
+
+same : (c : After-done-one) → seen_by (second c) (world_in_hand c.args.terms.now c.done-one.new.wallets) ≡ seen_by (second c) (world_in_hand c.args.terms.now c.args.wallets.now)
+same c =
+    seen-behind (first c) (second c) c.requires.share c.waits-one_waits.result c.see.new.seen (market_at c.args.first.now) c.args.wallets.now c.done-one.new.wallets
+    (moved c) c.args.terms.now c.see.ensures.seen (listed (first c) c.args.first.now c.requires.first_can.on)
+
+can : (c : After-done-one) → CanStep (second c) c.args.legs.now.second.places c.args.second.now c.done-one.new.wallets
+can c =
+    can-behind (first c) (second c) c.requires.share c.waits-one_waits.result c.see.new.seen (market_at c.args.first.now) c.args.wallets.now c.done-one.new.wallets
+    (moved c) c.args.legs.now.second.places c.args.second.now c.requires.second_can
+
+pub done-two-requires-clause-row : goal.done-two-requires-clause-row
+done-two-requires-clause-row c =
+    can-act c.args.terms.now c.args.legs.now.second.row.now c.args.legs.now.second.places c.see-2.new.seen c.args.second.now c.done-one.new.wallets
+    (c.see-2.ensures.seen ∙ sym (same (goal.at.done-two-requires-clause-row c).After-done-one)) (can (goal.at.done-two-requires-clause-row c).After-done-one) c.see-2.ensures.fits
+
+pub done-two-requires-clause-at : goal.done-two-requires-clause-at
+done-two-requires-clause-at c = (can (goal.at.done-two-requires-clause-at c).After-done-one).wallets.at
+
+pub done-two-requires-clause-held : goal.done-two-requires-clause-held
+done-two-requires-clause-held c =
+    can-hold c.args.terms.now c.args.legs.now.second.row.now c.see-2.new.seen c.args.second.now c.args.wallets.now c.see-2.ensures.seen c.requires.second_take
+    c.waits-two_waits.result c.is_refused-one_refused.result c.is_refused-two_refused.result c.waits-two_waits.ensures c.is_refused-two_refused.ensures
+
+pub returns : goal.returns
+returns c =
+    let one_seen = c.done-one.ensures.seen ∙ c.see.ensures.seen in
+    let two_seen = c.done-two.ensures.seen ∙ c.see-2.ensures.seen in
+    record {
+      one_refused = c.is_refused-one_refused.result;
+      two_refused = c.is_refused-two_refused.result;
+      one_is = c.is_refused-one_refused.ensures ∙ ap (λ (seen : Seen). is_some (why (request_of (row_of c.args.legs.now.first.row.now)) seen (market_at c.args.first.now))) (sym c.done-one.ensures.seen);
+      two_is = c.is_refused-two_refused.ensures ∙ ap (λ (seen : Seen). is_some (why (request_of (row_of c.args.legs.now.second.row.now)) seen (market_at c.args.second.now))) (sym c.done-two.ensures.seen);
+      between = c.done-one.new.wallets;
+      one = subst
+          (λ (waits : Bool). IsStepOn c.args.terms.now (row_of c.args.legs.now.first.row.now) waits c.done-one.result c.args.first.now c.done-one.new.market c.args.wallets.now c.done-one.new.wallets)
+          c.waits-one_waits.ensures
+          (record {
+            seen = one_seen;
+            sees = sees-row c.args.terms.now c.args.legs.now.first.row.now c.args.legs.now.first.places c.done-one.result.seen.value c.args.first.now c.args.wallets.now one_seen c.requires.first_can;
+            recorded = c.done-one.ensures.recorded;
+            did = c.done-one.ensures.done;
+          });
+      two = subst
+          (λ (waits : Bool). IsStepOn c.args.terms.now (row_of c.args.legs.now.second.row.now) waits c.done-two.result c.args.second.now c.done-two.new.market c.done-one.new.wallets c.done-two.new.wallets)
+          c.waits-two_waits.ensures
+          (record {
+            seen = two_seen ∙ sym (same (goal.at.returns c).After-done-one);
+            sees = sees-row c.args.terms.now c.args.legs.now.second.row.now c.args.legs.now.second.places c.done-two.result.seen.value c.args.second.now c.args.wallets.now two_seen c.requires.second_can;
+            recorded = c.done-two.ensures.recorded;
+            did = c.done-two.ensures.done;
+          });
+      two_seen = two_seen;
+    }

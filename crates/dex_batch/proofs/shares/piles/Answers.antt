@@ -1,0 +1,29 @@
+use Rattle.std.proofs.Common.{◌≡◌, [], ◌∷◌, ◌++◌, List, map, ap, sym, subst, ◌∙◌}
+use Rattle.std.proofs.lemmas.List.{map-append}
+use Rattle.std.proofs.lemmas.List.Elements.{All-push}
+use Rattle.dex_cell.specs.CellState.{MarketCellState}
+use Rattle.dex_wallet.specs.CellState.{CellState}
+use Rattle.dex_bank.specs.Cells.{AreCells}
+use Rattle.dex_batch.specs.Shares.{ShareState}
+use Rattle.dex_batch.proofs.shares.piles.Goals as goal
+
+pub loop-share-preserved : goal.loop-share-preserved
+loop-share-preserved g c =
+    let yielded : List ShareState = c.loop-share.yielded in
+    let share : ShareState = c.in-Some.share in
+    let markets : ShareState → List MarketCellState = λ s. s.cells.markets in
+    let wallets : ShareState → List CellState = λ s. s.cells.wallets in
+    let own_markets : c.of.result ≡ markets share = c.of.ensures ∙ c.into_parts-own_markets.ensures.markets ∙ ap markets c.share.view_is in
+    let own_wallets : c.of-in-loop-share.result ≡ wallets share = c.of-in-loop-share.ensures ∙ c.into_parts-own_markets.ensures.wallets ∙ ap wallets c.share.view_is in
+    record {
+      markets = c.in_ok-add.ensures
+          ∙ ap (λ piles. piles ++ c.of.result ∷ []) c.loop-share.invariant.markets
+          ∙ ap (λ pile. map markets yielded ++ pile ∷ []) own_markets
+          ∙ sym (map-append markets yielded (share ∷ []));
+      wallets = c.in_ok-add-2.ensures
+          ∙ ap (λ piles. piles ++ c.of-in-loop-share.result ∷ []) c.loop-share.invariant.wallets
+          ∙ ap (λ pile. map wallets yielded ++ pile ∷ []) own_wallets
+          ∙ sym (map-append wallets yielded (share ∷ []));
+      cells = All-push (λ (s : ShareState). AreCells s.cells) yielded share c.loop-share.invariant.cells
+          (subst (λ (s : ShareState). AreCells s.cells) c.share.view_is c.into_parts-own_markets.ensures.cells);
+    }

@@ -1,0 +1,2 @@
+pub mod ShardWorths
+pub mod AuditLaws

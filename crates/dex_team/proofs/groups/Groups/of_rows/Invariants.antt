@@ -1,7 +1,0 @@
-use Rattle.std.proofs.Common.{take}
-use Rattle.std.specs.List.{AllZip}
-use Rattle.dex_team.specs.Groups.{IsOfGroup}
-use Rattle.dex_team.proofs.groups.Groups.of_rows.Given as goal
-
-abbrev pub invariant-loop-place : goal.invariant-loop-place
-invariant-loop-place l = AllZip (IsOfGroup l.self.markets.items l.self.wallets.items) (take l.place l.places) l.numbers.items
