@@ -82,6 +82,101 @@ uint8_t dex_chained(uint32_t rows, const uint8_t *script, size_t length, uint8_t
 uint8_t dex_shards_wide(const uint8_t *script, size_t length, uint8_t *room, size_t room_size, size_t *size);
 uint8_t dex_chained_wide(uint32_t rows, const uint8_t *script, size_t length, uint8_t *room, size_t room_size, size_t *size);
 
+/* ---- one instruction on the account bytes of one market, in place, as a ledger's program does it
+ *
+ * What the caller is trusted with beside the points above: the accounts were found sound by an audit (of a dump that has them), or left by
+ * dex_process, and nobody else changed them; each wallet is a token account of 165 bytes that stands in no other place of the call, and
+ * what it holds and what the vault of its mint holds are below 2^64 together. None of these calls takes memory but dex_reply_text, and
+ * none costs by the sizes of accounts but dex_pending, which reads the events that are pending. */
+
+typedef struct {
+  uint8_t bytes[32];
+} dex_address;
+
+/* Bytes of the caller. No `at` is null, also where the length is 0. */
+typedef struct {
+  uint8_t *at;
+  size_t length;
+} dex_bytes;
+
+/* A number of 128 bits: low + 2^64 * high. */
+typedef struct {
+  uint64_t low, high;
+} dex_u128;
+
+enum { DEX_WALLET_SIZE = 165, DEX_ORDERS_SIZE = 3228, DEX_ORDERS_RECORD = 32 + DEX_ORDERS_SIZE };
+
+/* All accounts of one market. `authority` is the person who signs for it and stands in no account. `orders` are the open-orders accounts
+ * one after another, each as its address and its 3,228 bytes. `pending_coin` and `pending_pc`, what makers' fills in the event queue are
+ * still to take off totals, are set by dex_pending and kept by dex_process. */
+typedef struct {
+  dex_address address, authority;
+  dex_bytes market, coin_vault, pc_vault, requests, events, bids, asks, orders;
+  dex_u128 pending_coin, pending_pc;
+} dex_market;
+
+/* A token account that an instruction names, by its address; of length 0 where there is none. */
+typedef struct {
+  dex_address address;
+  dex_bytes bytes;
+} dex_wallet;
+
+/* The wallets that an instruction names, each once, in any order. */
+typedef struct {
+  dex_wallet wallets[4];
+} dex_wallets;
+
+enum { DEX_NO_WALLET = 255, DEX_SERUM = 0, DEX_OPENBOOK = 1 };
+
+/* An instruction: who signs it, the open-orders accounts that it names, its data (docs/FORMATS.md), the clock, and which of the wallets it
+ * names under each role: 0 to 3, or DEX_NO_WALLET; two roles may name one. `srm` and `msrm` are the mints of discounts, where
+ * `has_srm` and `has_msrm` are not 0. */
+typedef struct {
+  dex_address signer;
+  const dex_address *named;
+  size_t named_count;
+  const uint8_t *data;
+  size_t data_length;
+  int64_t clock;
+  uint8_t coin, pc, discount, referrer;
+  uint8_t program, has_srm, has_msrm;
+  dex_address srm, msrm;
+} dex_instruction;
+
+/* What a reply is. */
+enum {
+  DEX_REFUSED = 0,   /* nothing was changed: `reason`, and its values */
+  DEX_ORDERED = 1,   /* `order` (its id), `slot`, `lots` that filled, `pc` and `fee` of the fills, lots that `rested` */
+  DEX_TOOK = 2,      /* `lots`, `pc`, `fee` */
+  DEX_CANCELLED = 3, /* `count` orders left the book */
+  DEX_CONSUMED = 4,  /* `count` events were paid */
+  DEX_SETTLED = 5,   /* `coin`, `pc`, `referrer`: what the wallets got */
+  DEX_SWEPT = 6,     /* `pc`: what the wallet got */
+  DEX_DONE = 7
+};
+
+/* A reply. Of a refusal `reason` is its number, 1 to 24 (docs/REFUSED.md), and its values are: `rule` (1); `address`, an owner's, an
+ * authority's, a mint's or an account's (5 to 8 and 16); `count` slots and `held` funds (9); `clock` and `latest` (13); `order` (19);
+ * `amount`, what was got, is needed or would be brought, and `balance` (20, 22, 23; of 20 the amount alone); `count` needed and `room`
+ * (21); `held` in the vault and `pending` (24). A field that is not named for its kind is 0. */
+typedef struct {
+  uint8_t kind, reason, rule, slot;
+  uint32_t count, room;
+  uint64_t lots, pc, fee, rested, coin, referrer, amount, balance;
+  int64_t clock, latest;
+  dex_u128 order, held, pending;
+  dex_address address;
+} dex_reply;
+
+/* Counts what is pending from the market's event queue: once before the first instruction. */
+void dex_pending(dex_market *market);
+
+/* Does an instruction on the accounts, or refuses it and changes nothing but *reply. It returns reply->kind. */
+uint8_t dex_process(dex_market *market, dex_wallets *wallets, const dex_instruction *instruction, dex_reply *reply);
+
+/* What a report says of a reply, such as `ok cancelled 2`: DEX_OK, or DEX_NO_MEMORY. */
+uint8_t dex_reply_text(const dex_reply *reply, uint8_t *room, size_t room_size, size_t *size);
+
 /* ---- with memory from malloc: nothing below is proved */
 
 /* A function of bytes alone: dex_replay, dex_dump, dex_audit, dex_worth or dex_shards, or one of them within the widest limits. */

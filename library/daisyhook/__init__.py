@@ -19,13 +19,15 @@ The commands `run` and `batch` need threads of their own and are not here: they 
 The module keeps nothing between calls, so threads may call it at once; they run side by side inside the library.
 """
 
-from . import flow, rows
-from .accounts import Accounts, Depth, Event, Level, Market, Mint, OpenOrders, Order, Wallet
+from . import data, flow, rows
+from .accounts import Market as DumpedMarket
+from .accounts import Accounts, Depth, Event, Level, Mint, OpenOrders, Order, Wallet
 from .commands import Exchange, accounts, audit, bulk, chained, dump, make, migrate, replay, shards, worth
 from .desk import Desk
 from .entries import Cancelled, Consumed, Done, Entry, Move, Ordered, Refused, Reply, Settled, Swept, Took, WalletEntry
 from .errors import AuditFailed, DeskGone, DexError, DumpRefused, Finding, InputTooLong, MigrateRefused, OutOfLimits, OutOfMemory, ScriptRefused
 from .limits import STANDARD, WIDE, Limits
+from .market import Market
 from .parts import Shards
 from .report import Report
 from .rows import take_data
@@ -35,10 +37,10 @@ from .worth import Worth, Worths
 
 __all__ = [
     'replay', 'dump', 'audit', 'worth', 'migrate', 'make', 'bulk', 'shards', 'chained', 'accounts', 'Exchange', 'Desk', 'take_data',
-    'rows', 'flow', 'Limits', 'STANDARD', 'WIDE',
+    'rows', 'flow', 'data', 'Limits', 'STANDARD', 'WIDE',
     'Report', 'Entry', 'Move', 'WalletEntry', 'Swap', 'Leg',
     'Reply', 'Ordered', 'Took', 'Cancelled', 'Consumed', 'Settled', 'Swept', 'Done', 'Refused',
-    'Accounts', 'Market', 'Mint', 'Wallet', 'Order', 'Event', 'OpenOrders', 'Depth', 'Level',
+    'Accounts', 'DumpedMarket', 'Market', 'Mint', 'Wallet', 'Order', 'Event', 'OpenOrders', 'Depth', 'Level',
     'Summary', 'MarketSummary', 'Worth', 'Worths', 'Shards',
     'DexError', 'DeskGone', 'ScriptRefused', 'DumpRefused', 'AuditFailed', 'MigrateRefused', 'InputTooLong', 'OutOfLimits', 'OutOfMemory', 'Finding',
 ]

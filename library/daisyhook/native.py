@@ -21,6 +21,9 @@ FRONTS = {
 }
 # The same within the widest limits.
 FRONTS.update({f'{name}_wide': front for name, front in list(FRONTS.items()) if front is not MADE})
+PLACE = ctypes.c_void_p
+# The functions over a market's accounts: what they take, and what they give.
+IN_PLACE = {'dex_pending': ((PLACE,), None), 'dex_process': ((PLACE,) * 4, ctypes.c_uint8)}
 ROOM = (ctypes.POINTER(ctypes.c_char), SIZE, ctypes.POINTER(SIZE))
 
 # What a first room has beside five times the input: enough for the accounts of a small script.
@@ -49,6 +52,9 @@ def library() -> ctypes.CDLL:
         function = getattr(loaded, name)
         function.restype = ctypes.c_uint8
         function.argtypes = front + ROOM
+    for name, (taken, given) in IN_PLACE.items():
+        function = getattr(loaded, name)
+        function.argtypes, function.restype = taken, given
     return loaded
 
 

@@ -84,7 +84,7 @@ def try_report(text: bytes) -> None:
              [sum(one.lots for one in side) for side in (market.bids, market.asks)])
 
 
-def slots_of(market: daisyhook.Market) -> set[int]:
+def slots_of(market: daisyhook.DumpedMarket) -> set[int]:
     """The ids in the slots of a market's accounts."""
     return {order for account in market.open_orders.values() for order in account.slots.values()}
 

@@ -4,13 +4,13 @@ ghost use Rattle.std.specs.Prelude.{◌≡◌, ◌<◌, ◌-◌, ◌++◌, ◌�
 ghost use Rattle.dex_ring.specs.PendingFills.{pending_fills_of};
 ghost use Rattle.dex_ring.specs.Ring.{IsEventQueue, ring_of};
 
-use crate::amounts::amounts_of;
 use crate::call_record::CallRecord;
 use crate::journal::write_down;
 use crate::payouts::{Deposits, Payouts, Vaults, pay};
 use dex_decide::Plan;
 use dex_fills::{PendingFills, pending_fills};
 use dex_movements::Amounts;
+use dex_purse::amounts_of;
 use dex_ring::RingRef;
 use dex_stamps::{Kept, Log};
 use dex_types::{Entry, MarketAccounts, NoMemory, Refusal, Reply, Row, Seen};

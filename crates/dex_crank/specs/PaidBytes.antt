@@ -17,8 +17,12 @@ pub record CrankBytes : Type 0 where
   pub accounts : List PlainAccount
 
 -- the bytes of a queue and of accounts
+abbrev pub crank_of : List ℕ → List PlainAccount → CrankBytes
+crank_of queue accounts = record { queue = queue; accounts = accounts }
+
+-- the bytes of a queue and of accounts that each own theirs
 abbrev pub crank_bytes : List ℕ → List OrdersAccount → CrankBytes
-crank_bytes queue accounts = record { queue = queue; accounts = map orders_account_of accounts }
+crank_bytes queue accounts = crank_of queue (map orders_account_of accounts)
 
 -- ---- one account
 

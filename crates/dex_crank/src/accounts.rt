@@ -6,12 +6,14 @@ ghost use Rattle.dex_types.specs.Accounts.{orders_account_of};
 ghost use Rattle.dex_types.specs.QueuedEvent.{decoded_event};
 ghost use Rattle.dex_orders.specs.OrdersAccount.{IsOpen, account_of, funded, funds_of, removed};
 ghost use Rattle.dex_accounts.specs.Owners.{changed_at};
+ghost use Rattle.dex_lent.specs.Flat.{accounts_in};
 ghost use Rattle.dex_crank.specs.Funds.{FitsFunds, paid_funds};
 ghost use Rattle.dex_crank.specs.PaidBytes.{CanTake, HasOwner, paid_in};
 
 use crate::kinds::is_final;
 use crate::payment::paid_funds;
 use dex_accounts::place_of;
+use dex_lent::{DATA, FlatOrders, OrdersAccounts, OwnedOrders, data_at};
 use dex_orders::OrdersView;
 use dex_types::{Event, OrdersAccount};
 
@@ -69,8 +71,40 @@ fn pay_at(accounts: &mut [OrdersAccount], place: usize, event: &Event)
     pay_buffer(&mut accounts[place].bytes, event);
 }
 
-/// Pays the event to its owner's account; all other accounts stay.
-pub fn pay_owner(accounts: &mut [OrdersAccount], event: &Event)
+/// Open-orders accounts that events are paid to.
+pub trait PaysOrders: OrdersAccounts {
+    /// Pays the event to its owner's account; all other accounts stay.
+    fn pay_owner(&mut self, event: &Event)
+        requires { HasOwner (decoded_event event.now) (Self.held self.old) }
+        ensures held { Self.held self.new ≡ changed_at event.now.owner (paid_in (decoded_event event.now))
+            (Self.held self.old) }
+        ensures place { Self.place self.new ≡ Self.place self.old };
+}
+
+impl<'a> PaysOrders for OwnedOrders<'a> {
+    fn pay_owner(&mut self, event: &Event) {
+        pay_owned(self.accounts, event);
+    }
+}
+
+impl<'a> PaysOrders for FlatOrders<'a> {
+    fn pay_owner(&mut self, event: &Event) {
+        pay_flat(self.bytes, event);
+    }
+}
+
+/// Pays the event to its owner's account among records.
+fn pay_flat(bytes: &mut [u8], event: &Event)
+    requires { HasOwner (decoded_event event.now) (accounts_in bytes.old) }
+    ensures { accounts_in bytes.new ≡ changed_at event.now.owner (paid_in (decoded_event event.now))
+        (accounts_in bytes.old) }
+{
+    let at = data_at(bytes, event.owner);
+    pay(&mut bytes[at..at + DATA], event);
+}
+
+/// Pays the event to its owner's account among accounts that own their bytes.
+fn pay_owned(accounts: &mut [OrdersAccount], event: &Event)
     requires { HasOwner (decoded_event event.now) (map orders_account_of accounts.old) }
     ensures { map orders_account_of accounts.new ≡ changed_at event.now.owner (paid_in (decoded_event event.now))
         (map orders_account_of accounts.old) }

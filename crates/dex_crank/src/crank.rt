@@ -8,12 +8,13 @@ ghost use Rattle.dex_types.specs.Side.{Coin, Pc};
 ghost use Rattle.dex_types.specs.Solvency.{all_leaving};
 ghost use Rattle.dex_ring.specs.Ring.{events_of};
 ghost use Rattle.dex_accounts.specs.Keeps.{KeepsEvents};
-ghost use Rattle.dex_crank.specs.PaidBytes.{crank_bytes, paid_bytes, paid_first};
+ghost use Rattle.dex_crank.specs.PaidBytes.{crank_bytes, crank_of, paid_bytes, paid_first};
 ghost use Rattle.dex_crank.specs.Parts.{AreCrankedIn, AreOfSoundMarket, Keeps};
 
-use crate::accounts::pay_owner;
+use crate::accounts::PaysOrders;
 use crate::kinds::with_fill;
 use crate::queue::{goes_on, take_first};
+use dex_lent::OwnedOrders;
 use dex_ring::{PendingFills, RingView};
 use dex_types::{Address, Event, OrdersAccount};
 
@@ -25,30 +26,33 @@ pub struct Consumed {
 }
 
 /// Pays the first event to its owner and takes it off the queue.
-fn pay_first(queue: &mut [u8], accounts: &mut [OrdersAccount]) -> Event
-    requires market { (m : Market) × AreCrankedIn m (crank_bytes queue.old accounts.old) }
+fn pay_first<A: PaysOrders>(queue: &mut [u8], accounts: &mut A) -> Event
+    requires market { (m : Market) × AreCrankedIn m (crank_of queue.old (A.held accounts.old)) }
     requires pending { 0 < length (events_of queue.old) }
     ensures event { events_of queue.old ≡ decoded_event result ∷ events_of queue.new }
-    ensures bytes { crank_bytes queue.new accounts.new ≡ paid_first (crank_bytes queue.old accounts.old) }
+    ensures bytes { crank_of queue.new (A.held accounts.new) ≡ paid_first (crank_of queue.old (A.held accounts.old)) }
+    ensures place { A.place accounts.new ≡ A.place accounts.old }
 {
     let event = take_first(queue);
-    pay_owner(accounts, &event);
+    accounts.pay_owner(&event);
     event
 }
 
 /// Consumes events of a slice that is a queue.
-pub(crate) fn consume_from(
+pub(crate) fn consume_from<A: PaysOrders>(
     queue: &mut [u8],
-    accounts: &mut [OrdersAccount],
+    accounts: &mut A,
     named: &[Address],
     limit: u16,
 ) -> Consumed
-    requires { (m : Market) × AreCrankedIn m (crank_bytes queue.old accounts.old) }
+    requires { (m : Market) × AreCrankedIn m (crank_of queue.old (A.held accounts.old)) }
     ensures count { result.count ≡ consumable limit named.now (events_of queue.old) }
     ensures coin { all_leaving Coin (events_of queue.old)
         ≡ result.fills.coin + all_leaving Coin (events_of queue.new) }
     ensures pc { all_leaving Pc (events_of queue.old) ≡ result.fills.pc + all_leaving Pc (events_of queue.new) }
-    ensures does { crank_bytes queue.new accounts.new ≡ paid_bytes result.count (crank_bytes queue.old accounts.old) }
+    ensures does { crank_of queue.new (A.held accounts.new)
+        ≡ paid_bytes result.count (crank_of queue.old (A.held accounts.old)) }
+    ensures place { A.place accounts.new ≡ A.place accounts.old }
 {
     let mut fills = PendingFills { coin: 0, pc: 0 };
     for count in 0..limit {
@@ -65,22 +69,24 @@ pub(crate) fn consume_from(
 
 /// Consumes events as `consume` does, and tells what they were still to take off totals: the sums over the events that
 /// are pending afterwards are those before less these. So who keeps the two sums needs no pass over the queue.
-pub fn consume_with_pending(
+pub fn consume_with_pending<A: PaysOrders>(
     ring: &mut RingView<'_>,
-    accounts: &mut [OrdersAccount],
+    accounts: &mut A,
     named: &[Address],
     limit: u16,
 ) -> Consumed
-    requires { AreOfSoundMarket (crank_bytes ring.old.bytes.now accounts.old) }
+    requires { AreOfSoundMarket (crank_of ring.old.bytes.now (A.held accounts.old)) }
     ensures count { result.count ≡ consumable limit named.now (events_of ring.old.bytes.now) }
     ensures coin { all_leaving Coin (events_of ring.old.bytes.now)
         ≡ result.fills.coin + all_leaving Coin (events_of ring.new.bytes.now) }
     ensures pc { all_leaving Pc (events_of ring.old.bytes.now)
         ≡ result.fills.pc + all_leaving Pc (events_of ring.new.bytes.now) }
-    ensures does { crank_bytes ring.new.bytes.now accounts.new
-        ≡ paid_bytes result.count (crank_bytes ring.old.bytes.now accounts.old) }
+    ensures does { crank_of ring.new.bytes.now (A.held accounts.new)
+        ≡ paid_bytes result.count (crank_of ring.old.bytes.now (A.held accounts.old)) }
     ensures ring { KeepsEvents ring.old ring.new }
-    ensures kept { Keeps (crank_bytes ring.old.bytes.now accounts.old) (crank_bytes ring.new.bytes.now accounts.new) }
+    ensures kept { Keeps (crank_of ring.old.bytes.now (A.held accounts.old))
+        (crank_of ring.new.bytes.now (A.held accounts.new)) }
+    ensures place { A.place accounts.new ≡ A.place accounts.old }
 {
     consume_from(ring.bytes, accounts, named, limit)
 }
@@ -106,5 +112,6 @@ pub fn consume(
     ensures ring { KeepsEvents ring.old ring.new }
     ensures kept { Keeps (crank_bytes ring.old.bytes.now accounts.old) (crank_bytes ring.new.bytes.now accounts.new) }
 {
-    consume_with_pending(ring, accounts, named, limit).count
+    let mut owned = OwnedOrders { accounts };
+    consume_with_pending(ring, &mut owned, named, limit).count
 }

@@ -9,5 +9,6 @@ pub mod laws;
 mod payment;
 mod queue;
 
+pub use accounts::PaysOrders;
 pub use crank::{Consumed, consume, consume_with_pending};
 pub use kinds::{Kind, is_final, kind_of};

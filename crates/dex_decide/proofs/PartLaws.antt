@@ -28,7 +28,8 @@ use Rattle.dex_settle.proofs.ModelLaws.{close-is, disable-is, init-is, settle-is
 use Rattle.dex_accounts.specs.Decoded.{AreSound, market_in}
 use Rattle.dex_accounts.specs.Parts.{AreOf, AreSoundParts, HasOpen, parts_of}
 use Rattle.dex_cancel_slots.specs.Given.{IsGiven, sides_by, sides_given}
-use Rattle.dex_history.specs.Journal.{Agree, Asked, Sees}
+use Rattle.dex_history.specs.Journal.{Agree}
+use Rattle.dex_plan.specs.Given.{SeesEachOnce}
 use Rattle.dex_decide.specs.Named.{IsActing, account_by, named_in, party_by}
 use Rattle.dex_decide.proofs.NamedLaws.{is-named, none-first}
 use Rattle.dex_decide.proofs.Planning.{of-party}
@@ -184,5 +185,5 @@ one-mint (Some seen) (Some too) agree wallet same first second at =
     let one : seen ≡ too = agree (ap (λ (w : WalletSeen). w.address) is ∙ at ∙ ap (λ (w : WalletSeen). w.address) (sym was)) in
     ap (λ (w : WalletSeen). w.mint) (sym is ∙ one ∙ was)
 
-pub one-coin-mint : (asked : Asked) (seen : Seen) → Sees asked seen → HasOneCoinMint seen
-one-coin-mint asked seen sees = record { pc = one-mint seen.coin seen.pc sees.coin_pc; referrer = one-mint seen.coin seen.referrer sees.coin_referrer }
+pub one-coin-mint : (seen : Seen) → SeesEachOnce seen → HasOneCoinMint seen
+one-coin-mint seen sees = record { pc = one-mint seen.coin seen.pc sees.coin_pc; referrer = one-mint seen.coin seen.referrer sees.coin_referrer }

@@ -8,5 +8,5 @@ mod ordering;
 mod rows;
 mod taking;
 
-pub use dex_plan::{Deposit, Plan, what_is_decided_is_of_the_step};
-pub use rows::{decide, decide_into, taker_of};
+pub use dex_plan::{Ask, Deposit, Plan, what_is_decided_is_of_the_step};
+pub use rows::{decide, decide_ask, decide_into, taker_by, taker_of};

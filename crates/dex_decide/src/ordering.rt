@@ -1,7 +1,6 @@
 //! Whether a new order is refused. Each function reads only.
 
 ghost use Rattle.std.specs.Prelude.{◌≡◌};
-ghost use Rattle.dex_types.specs.Accounts.{market_accounts_of};
 ghost use Rattle.dex_types.specs.Reasons as each;
 ghost use Rattle.dex_types.specs.Terms.{tier_seen};
 ghost use Rattle.dex_types.specs.Why as reasons;
@@ -9,22 +8,23 @@ ghost use Rattle.dex_match.specs.LentParts.{outcome_in};
 ghost use Rattle.dex_match.specs.OrderTerms.{order_of};
 ghost use Rattle.dex_orders.specs.OrdersAccount.{IsOpen, account_of};
 ghost use Rattle.dex_ring.specs.PendingFills.{pending_fills_of};
-ghost use Rattle.dex_accounts.specs.Decoded.{AreSound};
-ghost use Rattle.dex_plan.specs.Given.{asked_by, bytes_on, given_on, market_of};
+ghost use Rattle.dex_accounts.specs.Decoded.{AreSound, market_in};
+ghost use Rattle.dex_plan.specs.Given.{asked_by, bytes_on, given_on};
 ghost use Rattle.dex_decide.specs.Named.{IsActing, party_by};
 ghost use Rattle.dex_plan.specs.Plans.{order_answer, order_by, order_planned};
 
 use crate::named::{Acting, open_named};
 use crate::taking::is_disabled;
 use dex_fills::PendingFills;
+use dex_lent::ReadMarket;
 use dex_market::{MarketRef, RequestRef};
 use dex_match::{Decided, Taker, decide_order_with_pending, gathered};
 use dex_orders::OrdersRef;
-use dex_plan::Plan;
+use dex_plan::{Ask, Plan};
 use dex_reasons::{is_mint, missing, not_owner, not_signed, other_discount_mint, other_mint};
 use dex_ring::RingRef;
 use dex_slab::SlabRef;
-use dex_types::{Address, MarketAccounts, Refusal, Row, Seen, Side, Tier, WalletSeen};
+use dex_types::{Address, Refusal, Seen, Side, Tier, WalletSeen};
 
 /// The tier that a row reaches by its discount wallet.
 pub fn tier_seen(seen: &Seen) -> Tier
@@ -37,17 +37,17 @@ pub fn tier_seen(seen: &Seen) -> Tier
 }
 
 /// A side of the book, for reading.
-pub fn side_of(accounts: &MarketAccounts, side: Side) -> SlabRef<'_>
-    ensures bytes { result.bytes.now ≡ bytes_on side (market_accounts_of accounts.now) }
+pub fn side_of<M: ReadMarket>(accounts: &M, side: Side) -> SlabRef<'_>
+    ensures bytes { result.bytes.now ≡ bytes_on side (M.held accounts.now) }
     ensures side { result.side ≡ side }
 {
     match side {
         Side::Bid => SlabRef {
-            bytes: &accounts.bids,
+            bytes: accounts.bids(),
             side,
         },
         Side::Ask => SlabRef {
-            bytes: &accounts.asks,
+            bytes: accounts.asks(),
             side,
         },
     }
@@ -66,12 +66,12 @@ pub fn payer_seen(side: Side, seen: &Seen) -> &Option<WalletSeen>
 
 /// The mint of what an order of the side pays with.
 #[inline(never)]
-fn payer_mint(accounts: &MarketAccounts, side: Side) -> Address
-    requires { AreSound (market_accounts_of accounts.now) }
-    ensures { result ≡ reasons.payer_mint side (market_of accounts.now) }
+fn payer_mint<M: ReadMarket>(accounts: &M, side: Side) -> Address
+    requires { AreSound (M.held accounts.now) }
+    ensures { result ≡ reasons.payer_mint side (market_in (M.held accounts.now)) }
 {
     let market = MarketRef {
-        bytes: &accounts.market,
+        bytes: accounts.market(),
     };
     match side {
         Side::Bid => market.pc_mint(),
@@ -81,16 +81,16 @@ fn payer_mint(accounts: &MarketAccounts, side: Side) -> Address
 
 /// The first reason that asks for wallets and for the signer.
 #[inline(never)]
-fn wallet_reason(
-    accounts: &MarketAccounts,
-    row: &Row,
+fn wallet_reason<M: ReadMarket>(
+    accounts: &M,
+    ask: &Ask<'_>,
     seen: &Seen,
     acting: Acting<'_>,
     side: Side,
 ) -> Option<Refusal>
-    requires sound { AreSound (market_accounts_of accounts.now) }
+    requires sound { AreSound (M.held accounts.now) }
     requires open { IsOpen acting.bytes.now }
-    ensures { result ≡ reasons.why_order_early side (asked_by row.entry.now) seen.now (market_of accounts.now)
+    ensures { result ≡ reasons.why_order_early side (asked_by ask.entry.now) seen.now (market_in (M.held accounts.now))
         (party_by acting.entry.address acting.entry.bytes.now) }
 {
     let orders = OrdersRef {
@@ -100,7 +100,7 @@ fn wallet_reason(
     if let Some(why) = missing(*paying) {
         return Some(why);
     }
-    if let Some(why) = not_owner(orders.owner(), row.signer) {
+    if let Some(why) = not_owner(orders.owner(), ask.signer) {
         return Some(why);
     }
     if let Some(why) = other_mint(payer_mint(accounts, side), *paying) {
@@ -109,10 +109,10 @@ fn wallet_reason(
     if let Some(why) = discount_mint_reason(seen) {
         return Some(why);
     }
-    if let Some(why) = not_signed(row.signer, *paying) {
+    if let Some(why) = not_signed(ask.signer, *paying) {
         return Some(why);
     }
-    not_signed(row.signer, seen.discount)
+    not_signed(ask.signer, seen.discount)
 }
 
 /// Why the discount wallet, where one is named, is of another mint.
@@ -126,30 +126,30 @@ fn discount_mint_reason(seen: &Seen) -> Option<Refusal>
 }
 
 /// What the order does, or why it is refused, apart from wallets and the signer.
-fn decide_order_with(
-    accounts: &MarketAccounts,
-    row: &Row,
+fn decide_order_with<M: ReadMarket>(
+    accounts: &M,
+    ask: &Ask<'_>,
     acting: Acting<'_>,
     taker: &Taker,
     balance: u64,
     pending: &PendingFills,
 ) -> Result<Decided, Refusal>
-    requires sound { AreSound (market_accounts_of accounts.now) }
-    requires acting { IsActing row.now.named.items (market_accounts_of accounts.now).orders
+    requires sound { AreSound (M.held accounts.now) }
+    requires acting { IsActing ask.now.named.now (M.held accounts.now).orders
         acting.address acting.bytes.now }
     requires account { taker.now.account ≡ acting.address }
-    requires pending { pending.now ≡ pending_fills_of (market_of accounts.now).events }
+    requires pending { pending.now ≡ pending_fills_of (market_in (M.held accounts.now)).events }
     ensures { result ≡ outcome_in taker.entry.now
-        (given_on taker.entry.now.id_side acting.entry.bytes.now accounts.now) balance }
+        (given_on taker.entry.now.id_side acting.entry.bytes.now (M.held accounts.now)) balance }
 {
     let market = MarketRef {
-        bytes: &accounts.market,
+        bytes: accounts.market(),
     };
     let requests = RequestRef {
-        bytes: &accounts.requests,
+        bytes: accounts.requests(),
     };
     let ring = RingRef {
-        bytes: &accounts.events,
+        bytes: accounts.events(),
     };
     let orders = OrdersRef {
         bytes: acting.bytes,
@@ -163,39 +163,39 @@ fn decide_order_with(
 /// A row, and what it sees.
 #[derive(Clone, Copy)]
 struct Asked<'a> {
-    row: &'a Row,
+    ask: &'a Ask<'a>,
     seen: &'a Seen,
 }
 
 /// A new order of an open account.
-fn decide_order_by(
-    accounts: &MarketAccounts,
+fn decide_order_by<M: ReadMarket>(
+    accounts: &M,
     asked: Asked<'_>,
     acting: Acting<'_>,
     taker: &Taker,
     pending: &PendingFills,
     answer: &mut Result<Plan, Refusal>,
 )
-    requires sound { AreSound (market_accounts_of accounts.now) }
-    requires acting { IsActing asked.row.now.named.items (market_accounts_of accounts.now).orders
+    requires sound { AreSound (M.held accounts.now) }
+    requires acting { IsActing asked.ask.now.named.now (M.held accounts.now).orders
         acting.address acting.bytes.now }
     requires account { taker.now.account ≡ acting.address }
-    requires pending { pending.now ≡ pending_fills_of (market_of accounts.now).events }
+    requires pending { pending.now ≡ pending_fills_of (market_in (M.held accounts.now)).events }
     ensures { answer.new ≡ each.answered (reasons.why_order_of taker.entry.now.id_side (order_of taker.entry.now)
-        (asked_by asked.entry.row.now) asked.entry.seen.now (market_of accounts.now)
+        (asked_by asked.entry.ask.now) asked.entry.seen.now (market_in (M.held accounts.now))
         (party_by acting.entry.address acting.entry.bytes.now))
-        (order_planned taker.entry.now.id_side (order_of taker.entry.now) (market_of accounts.now)
+        (order_planned taker.entry.now.id_side (order_of taker.entry.now) (market_in (M.held accounts.now))
         (account_of acting.entry.bytes.now)) }
 {
     let Some(wallet) = payer_seen(taker.id_side, asked.seen) else {
         *answer = Err(Refusal::NoAccount);
         return;
     };
-    if let Some(why) = wallet_reason(accounts, asked.row, asked.seen, acting, taker.id_side) {
+    if let Some(why) = wallet_reason(accounts, asked.ask, asked.seen, acting, taker.id_side) {
         *answer = Err(why);
         return;
     }
-    match decide_order_with(accounts, asked.row, acting, taker, wallet.balance, pending) {
+    match decide_order_with(accounts, asked.ask, acting, taker, wallet.balance, pending) {
         Ok(decided) => {
             *answer = Ok(Plan::Order {
                 taker: *taker,
@@ -210,31 +210,31 @@ fn decide_order_by(
 /// A new order of the account that the row names first; the taker's own account is not looked at. The answer is written
 /// where it is wanted: a plan has some 250 bytes.
 #[inline(never)]
-pub fn decide_order_row(
-    accounts: &MarketAccounts,
-    row: &Row,
+pub fn decide_order_row<M: ReadMarket>(
+    accounts: &M,
+    ask: &Ask<'_>,
     seen: &Seen,
     taker: Taker,
     pending: &PendingFills,
     answer: &mut Result<Plan, Refusal>,
 )
-    requires sound { AreSound (market_accounts_of accounts.now) }
-    requires pending { pending.now ≡ pending_fills_of (market_of accounts.now).events }
-    ensures { answer.new ≡ order_answer taker.id_side (order_by taker) (asked_by row.entry.now) seen.now
-        (market_of accounts.now) }
+    requires sound { AreSound (M.held accounts.now) }
+    requires pending { pending.now ≡ pending_fills_of (market_in (M.held accounts.now)).events }
+    ensures { answer.new ≡ order_answer taker.id_side (order_by taker) (asked_by ask.entry.now) seen.now
+        (market_in (M.held accounts.now)) }
 {
     if let Some(why) = is_disabled(accounts) {
         *answer = Err(why);
         return;
     }
-    match open_named(&accounts.orders, &row.named) {
+    match open_named(accounts, ask.named) {
         None => *answer = Err(Refusal::NoAccount),
         Some(acting) => {
             let taker = Taker {
                 account: acting.address,
                 ..taker
             };
-            let asked = Asked { row, seen };
+            let asked = Asked { ask, seen };
             decide_order_by(accounts, asked, acting, &taker, pending, answer);
         }
     }

@@ -6,9 +6,9 @@ ghost use Rattle.dex_types.specs.Reasons as each;
 ghost use Rattle.dex_types.specs.Rows.{row_of};
 ghost use Rattle.dex_types.specs.Why as reasons;
 ghost use Rattle.dex_ring.specs.PendingFills.{pending_fills_of};
-ghost use Rattle.dex_accounts.specs.Decoded.{AreSound};
-ghost use Rattle.dex_history.specs.Journal.{Sees, asked_of};
-ghost use Rattle.dex_plan.specs.Given.{asked_by, market_of};
+ghost use Rattle.dex_accounts.specs.Decoded.{AreSound, market_in};
+ghost use Rattle.dex_history.specs.Journal.{Sees, asked_of, request_of};
+ghost use Rattle.dex_plan.specs.Given.{SeesEachOnce, asked_by, market_of};
 ghost use Rattle.dex_decide.specs.Takers.{taker_in};
 ghost use Rattle.dex_plan.specs.Plans as planning;
 
@@ -21,20 +21,21 @@ use crate::taking::decide_take_row;
 use dex_cancel::CancelWhat;
 use dex_fills::PendingFills;
 use dex_instruction::decode;
+use dex_lent::ReadMarket;
 use dex_match::Taker;
-use dex_plan::Plan;
+use dex_plan::{Ask, Plan, ask_of};
 use dex_take::LeastFill;
 use dex_types::{Ix, MarketAccounts, OrderType, Refusal, Row, Seen, SelfTrade};
 
 /// The taker of a new order or of a take, as its row states it. An order has the signer in place of the account;
 /// a take has none, and no order that could rest.
-pub fn taker_of(row: &Row, seen: &Seen, ix: &Ix) -> Taker
-    requires { IsSome (taker_in ix.now (asked_by row.now) seen.now) }
-    ensures { taker_in ix.entry.now (asked_by row.entry.now) seen.now ≡ Some result }
+pub fn taker_by(ask: &Ask<'_>, seen: &Seen, ix: &Ix) -> Taker
+    requires { IsSome (taker_in ix.now (asked_by ask.now) seen.now) }
+    ensures { taker_in ix.entry.now (asked_by ask.entry.now) seen.now ≡ Some result }
 {
     let tier = tier_seen(seen);
-    let account = row.signer;
-    let now = row.now;
+    let account = ask.signer;
+    let now = ask.clock;
     let program = seen.program;
     match *ix {
         Ix::NewOrderV3 {
@@ -89,55 +90,82 @@ pub fn taker_of(row: &Row, seen: &Seen, ix: &Ix) -> Taker
     }
 }
 
+/// The same of a row.
+pub fn taker_of(row: &Row, seen: &Seen, ix: &Ix) -> Taker
+    requires { IsSome (taker_in ix.now (request_of (row_of row.now)) seen.now) }
+    ensures { taker_in ix.entry.now (request_of (row_of row.entry.now)) seen.now ≡ Some result }
+{
+    taker_by(&ask_of(row), seen, ix)
+}
+
 /// An instruction that was decoded.
-fn decide_instruction(
-    accounts: &MarketAccounts,
-    row: &Row,
+fn decide_instruction<M: ReadMarket>(
+    accounts: &M,
+    ask: &Ask<'_>,
     seen: &Seen,
     ix: Ix,
     pending: &PendingFills,
     answer: &mut Result<Plan, Refusal>,
 )
-    requires sound { AreSound (market_accounts_of accounts.now) }
-    requires sees { Sees (asked_of (row_of row.now)) seen.now }
-    requires pending { pending.now ≡ pending_fills_of (market_of accounts.now).events }
+    requires sound { AreSound (M.held accounts.now) }
+    requires sees { SeesEachOnce seen.now }
+    requires pending { pending.now ≡ pending_fills_of (market_in (M.held accounts.now)).events }
     ensures { answer.new ≡ each.answered
-        (reasons.why_instruction ix (asked_by row.entry.now) seen.now (market_of accounts.now))
-        (planning.plan_on ix (asked_by row.entry.now) seen.now (market_of accounts.now)) }
+        (reasons.why_instruction ix (asked_by ask.entry.now) seen.now (market_in (M.held accounts.now)))
+        (planning.plan_on ix (asked_by ask.entry.now) seen.now (market_in (M.held accounts.now))) }
 {
     match ix {
         Ix::InitializeMarket { .. } => *answer = Err(Refusal::AccountExists),
         Ix::MatchOrders { .. } => *answer = Ok(Plan::Nothing),
         Ix::ConsumeEvents { limit } => *answer = Ok(Plan::Consume { limit }),
-        Ix::SettleFunds => *answer = decide_settle_row(accounts, row, seen),
-        Ix::DisableMarket => *answer = decide_disable_row(accounts, row),
-        Ix::SweepFees => *answer = decide_sweep_row(accounts, row, seen),
+        Ix::SettleFunds => *answer = decide_settle_row(accounts, ask, seen),
+        Ix::DisableMarket => *answer = decide_disable_row(accounts, ask),
+        Ix::SweepFees => *answer = decide_sweep_row(accounts, ask, seen),
         Ix::NewOrderV3 { .. } => {
-            let taker = taker_of(row, seen, &ix);
-            decide_order_row(accounts, row, seen, taker, pending, answer);
+            let taker = taker_by(ask, seen, &ix);
+            decide_order_row(accounts, ask, seen, taker, pending, answer);
         }
         Ix::CancelOrderV2 { side, order_id } => {
             let what = CancelWhat::ById { side, id: order_id };
-            *answer = decide_cancel_row(accounts, row, what);
+            *answer = decide_cancel_row(accounts, ask, what);
         }
         Ix::CancelOrderByClientIdV2 { client_order_id } => {
-            *answer = decide_cancel_row(accounts, row, CancelWhat::ByClient(client_order_id));
+            *answer = decide_cancel_row(accounts, ask, CancelWhat::ByClient(client_order_id));
         }
         Ix::SendTake {
             min_coin_qty: lots,
             min_native_pc_qty: pc,
             ..
         } => {
-            let taker = taker_of(row, seen, &ix);
+            let taker = taker_by(ask, seen, &ix);
             let least = LeastFill { lots, pc };
-            *answer = decide_take_row(accounts, row, seen, taker, least, pending);
+            *answer = decide_take_row(accounts, ask, seen, taker, least, pending);
         }
-        Ix::CloseOpenOrders => *answer = decide_close_row(accounts, row),
-        Ix::InitOpenOrders => *answer = decide_init_row(accounts, row),
-        Ix::Prune { limit } => *answer = decide_prune_row(accounts, row, limit),
+        Ix::CloseOpenOrders => *answer = decide_close_row(accounts, ask),
+        Ix::InitOpenOrders => *answer = decide_init_row(accounts, ask),
+        Ix::Prune { limit } => *answer = decide_prune_row(accounts, ask, limit),
         Ix::CancelOrdersByClientIds { ids } => {
-            *answer = decide_cancel_row(accounts, row, CancelWhat::ByClients(ids));
+            *answer = decide_cancel_row(accounts, ask, CancelWhat::ByClients(ids));
         }
+    }
+}
+
+/// What `decide` answers of what is asked, by itself or by a row, of any market's accounts.
+pub fn decide_ask<M: ReadMarket>(
+    accounts: &M,
+    ask: &Ask<'_>,
+    seen: &Seen,
+    pending: &PendingFills,
+    answer: &mut Result<Plan, Refusal>,
+)
+    requires sound { AreSound (M.held accounts.now) }
+    requires sees { SeesEachOnce seen.now }
+    requires pending { pending.now ≡ pending_fills_of (market_in (M.held accounts.now)).events }
+    ensures { answer.new ≡ planning.decided (asked_by ask.entry.now) seen.now (market_in (M.held accounts.now)) }
+{
+    match decode(ask.data) {
+        Ok(ix) => decide_instruction(accounts, ask, seen, ix, pending, answer),
+        Err(rule) => *answer = Err(Refusal::BadData(rule)),
     }
 }
 
@@ -156,7 +184,7 @@ pub fn decide(
     requires sound { AreSound (market_accounts_of accounts.now) }
     requires sees { Sees (asked_of (row_of row.now)) seen.now }
     requires pending { pending.now ≡ pending_fills_of (market_of accounts.now).events }
-    ensures { result ≡ planning.decided (asked_by row.entry.now) seen.now (market_of accounts.now) }
+    ensures { result ≡ planning.decided (request_of (row_of row.entry.now)) seen.now (market_of accounts.now) }
 {
     let mut answer = Err(Refusal::NoAccount);
     decide_into(accounts, row, seen, pending, &mut answer);
@@ -174,10 +202,7 @@ pub fn decide_into(
     requires sound { AreSound (market_accounts_of accounts.now) }
     requires sees { Sees (asked_of (row_of row.now)) seen.now }
     requires pending { pending.now ≡ pending_fills_of (market_of accounts.now).events }
-    ensures { answer.new ≡ planning.decided (asked_by row.entry.now) seen.now (market_of accounts.now) }
+    ensures { answer.new ≡ planning.decided (request_of (row_of row.entry.now)) seen.now (market_of accounts.now) }
 {
-    match decode(&row.bytes) {
-        Ok(ix) => decide_instruction(accounts, row, seen, ix, pending, answer),
-        Err(rule) => *answer = Err(Refusal::BadData(rule)),
-    }
+    decide_ask(accounts, &ask_of(row), seen, pending, answer);
 }

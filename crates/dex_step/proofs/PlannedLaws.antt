@@ -16,9 +16,8 @@ use Rattle.dex_types.specs.Market.{Market}
 use Rattle.dex_types.specs.NewOrder.{NewOrder, order_on}
 use Rattle.dex_types.specs.Reasons.{answered, disabled, first_of, missing, not_authority, not_blank, not_empty, not_owner, not_person, when_disabled}
 use Rattle.dex_types.specs.Requests.{HasPrice, Party, Request, open_party, party_of}
-use Rattle.dex_types.specs.Rows.{PlainRow}
 use Rattle.dex_types.specs.Soundness.{IsSound}
-use Rattle.dex_types.specs.Steps.{Step, act, act_cancel, act_close, act_decoded, act_init, act_order, act_settle, act_take, by_party, ordered, settled, unless_refused}
+use Rattle.dex_types.specs.Steps.{Step, act, act_cancel, act_close, act_decoded, act_init, act_order, act_settle, act_take, by_party, ordered, settled, step, unless_refused}
 use Rattle.dex_types.specs.Settle.{settlement}
 use Rattle.dex_types.specs.Take.{Take}
 use Rattle.dex_types.specs.Terms.{terms_order, terms_take}
@@ -28,9 +27,7 @@ use Rattle.dex_cancel.specs.declared.what.CancelWhat.{CancelWhat}
 use Rattle.dex_cancel.specs.declared.what.CancelWhat.TheVariants as cancels
 use Rattle.dex_cancel.specs.Cancelling.{named_by}
 use Rattle.dex_sound.proofs.OrderSoundReasons.{first_of-none, order-none, take-none}
-use Rattle.dex_sound.proofs.StepSound.{party-found}
-use Rattle.dex_history.specs.Journal.{request_of, row_step}
-use Rattle.dex_history.proofs.PriceLaws.{decoded-priced, row-sound}
+use Rattle.dex_sound.proofs.StepSound.{party-found, step-sound}
 use Rattle.dex_match.specs.declared.order_terms.Taker.{Taker}
 use Rattle.dex_ring.specs.PendingFills.{pending_fills_of}
 use Rattle.dex_take.specs.TakeTerms.{bare_take, take_of}
@@ -288,15 +285,14 @@ decoded-planned : (instruction : Result Ix BadData) (request : Request) (seen : 
 decoded-planned (Err rule) request seen m priced none sound = absurd (cc)
 decoded-planned (Ok ix) request seen m priced none sound = each-planned ix request seen m priced none sound
 
--- a plan that was decided is one of its row's step
-pub row-planned : (row : PlainRow) (seen : Seen) (m : Market) (plan : Plan) → IsSound m → Ok plan ≡ planning.decided (request_of row) seen m
-    → IsPlanned plan (request_of row) m (row_step row seen m)
-row-planned row seen m plan sound is =
-    let request : Request = request_of row in
+-- a plan that was decided is one of the step that was asked for
+pub asked-planned : (request : Request) (seen : Seen) (m : Market) (plan : Plan) → IsSound m → HasPrice request.instruction → Ok plan ≡ planning.decided request seen m
+    → IsPlanned plan request m (step request seen m)
+asked-planned request seen m plan sound priced is =
     let ok = answered-ok (why request seen m) (planning.plan_decoded request.instruction request seen m) plan is in
-    let steps : row_step row seen m ≡ act_decoded request.instruction request seen m =
+    let steps : step request seen m ≡ act_decoded request.instruction request seen m =
     ap (λ (r : Option Refusal). unless_refused r m (act_decoded request.instruction request seen m)) ok.0 in
-    let after : IsSound (act_decoded request.instruction request seen m).market = subst (λ (s : Step). IsSound s.market) steps (row-sound row seen m sound) in
-    subst (λ (p : Plan). IsPlanned p request m (row_step row seen m)) (sym ok.1)
+    let after : IsSound (act_decoded request.instruction request seen m).market = subst (λ (s : Step). IsSound s.market) steps (step-sound request seen m sound priced) in
+    subst (λ (p : Plan). IsPlanned p request m (step request seen m)) (sym ok.1)
     (subst (IsPlanned (planning.plan_decoded request.instruction request seen m) request m) (sym steps)
-    (decoded-planned request.instruction request seen m (decoded-priced row.bytes) ok.0 after))
+    (decoded-planned request.instruction request seen m priced ok.0 after))

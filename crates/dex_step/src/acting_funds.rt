@@ -17,14 +17,18 @@ ghost use Rattle.dex_step.specs.FundBytes.{
   HasOpened,
   HasSettled,
 };
-ghost use Rattle.dex_types.specs.Accounts.{market_accounts_of, orders_account_of};
+ghost use Rattle.dex_lent.specs.Flat.{accounts_in};
+ghost use Rattle.dex_lent.specs.Lent.{KeepsPlaces, lent_of};
+ghost use Rattle.dex_types.specs.Accounts.{orders_account_of};
 
+use crate::steps_orders::StepsOrders;
 use crate::vaults::take_out;
 use dex_accounts::place_of;
+use dex_lent::{DATA, LentMarket, data_at};
 use dex_market::MarketView;
 use dex_orders::{OrdersView, close, init};
 use dex_settle::{SettlePlan, apply_disable, apply_settle, apply_sweep};
-use dex_types::{Address, MarketAccounts, OrdersAccount, Reply};
+use dex_types::{Address, OrdersAccount, Reply};
 
 /// Settling, on the bytes of the market account and of an open account.
 fn settle_on_bytes(plan: &SettlePlan, market: &mut [u8], account: &mut [u8])
@@ -38,8 +42,8 @@ fn settle_on_bytes(plan: &SettlePlan, market: &mut [u8], account: &mut [u8])
     );
 }
 
-/// Settling the owner's account among the others.
-fn settle_among(
+/// Settling the owner's account among those that own their bytes.
+pub(crate) fn settle_owned(
     plan: &SettlePlan,
     owner: Address,
     market: &mut [u8],
@@ -53,18 +57,33 @@ fn settle_among(
     settle_on_bytes(plan, market, &mut accounts[place].bytes);
 }
 
+/// Settling the owner's account among records.
+pub(crate) fn settle_flat(plan: &SettlePlan, owner: Address, market: &mut [u8], accounts: &mut [u8])
+    requires { CanChange owner (CanSettle plan.now market.old) (accounts_in accounts.old) }
+    ensures { HasChanged owner (HasSettled plan.entry.now market.old market.new)
+        (accounts_in accounts.old) (accounts_in accounts.new) }
+{
+    let at = data_at(accounts, owner);
+    settle_on_bytes(plan, market, &mut accounts[at..at + DATA]);
+}
+
 /// An account settled as it was decided: all its free funds and its referrer part leave the vaults, but for what of
 /// that goes to the fees.
-pub(crate) fn settle_row(accounts: &mut MarketAccounts, owner: Address, plan: &SettlePlan) -> Reply
-    requires sound { AreSound (market_accounts_of accounts.old) }
-    requires decided { acts.IsSettleDecided plan.now owner (market_in (market_accounts_of accounts.old)) }
-    ensures { let m = market_in (market_accounts_of accounts.old) in
-        HasStepped (market_accounts_of accounts.old) (market_accounts_of accounts.new) result
+pub(crate) fn settle_row<O: StepsOrders>(
+    accounts: &mut LentMarket<'_, O>,
+    owner: Address,
+    plan: &SettlePlan,
+) -> Reply
+    requires sound { AreSound (lent_of O.held accounts.old) }
+    requires decided { acts.IsSettleDecided plan.now owner (market_in (lent_of O.held accounts.old)) }
+    ensures stepped { let m = market_in (lent_of O.held accounts.old) in
+        HasStepped (lent_of O.held accounts.old) (lent_of O.held accounts.new) result
         (pending_fills_of m.events) (acts.settle_step plan.entry.now owner m) }
+    ensures places { KeepsPlaces O.place accounts.old accounts.new }
 {
-    settle_among(plan, owner, &mut accounts.market, &mut accounts.orders);
-    take_out(&mut accounts.coin_vault, plan.coin);
-    take_out(&mut accounts.pc_vault, plan.pc + plan.referrer);
+    accounts.orders.settle(plan, owner, accounts.market);
+    take_out(accounts.coin_vault, plan.coin);
+    take_out(accounts.pc_vault, plan.pc + plan.referrer);
     Reply::Settled {
         coin: plan.coin,
         pc: plan.pc,
@@ -81,15 +100,16 @@ fn sweep_on_bytes(market: &mut [u8])
 }
 
 /// The fees swept as it was decided: these, in native pc, leave the pc vault.
-pub(crate) fn sweep_row(accounts: &mut MarketAccounts, fees: u64) -> Reply
-    requires sound { AreSound (market_accounts_of accounts.old) }
-    requires decided { acts.IsSweepDecided fees (market_in (market_accounts_of accounts.old)) }
-    ensures { let m = market_in (market_accounts_of accounts.old) in
-        HasStepped (market_accounts_of accounts.old) (market_accounts_of accounts.new) result
+pub(crate) fn sweep_row<O: StepsOrders>(accounts: &mut LentMarket<'_, O>, fees: u64) -> Reply
+    requires sound { AreSound (lent_of O.held accounts.old) }
+    requires decided { acts.IsSweepDecided fees (market_in (lent_of O.held accounts.old)) }
+    ensures stepped { let m = market_in (lent_of O.held accounts.old) in
+        HasStepped (lent_of O.held accounts.old) (lent_of O.held accounts.new) result
         (pending_fills_of m.events) (acts.sweep_step m) }
+    ensures places { KeepsPlaces O.place accounts.old accounts.new }
 {
-    sweep_on_bytes(&mut accounts.market);
-    take_out(&mut accounts.pc_vault, fees);
+    sweep_on_bytes(accounts.market);
+    take_out(accounts.pc_vault, fees);
     Reply::Swept(fees)
 }
 
@@ -102,19 +122,25 @@ fn disable_on_bytes(market: &mut [u8])
 }
 
 /// The market disabled for good, as it was decided.
-pub(crate) fn disable_row(accounts: &mut MarketAccounts) -> Reply
-    requires sound { AreSound (market_accounts_of accounts.old) }
-    requires decided { acts.IsDisableDecided (market_in (market_accounts_of accounts.old)) }
-    ensures { let m = market_in (market_accounts_of accounts.old) in
-        HasStepped (market_accounts_of accounts.old) (market_accounts_of accounts.new) result
+pub(crate) fn disable_row<O: StepsOrders>(accounts: &mut LentMarket<'_, O>) -> Reply
+    requires sound { AreSound (lent_of O.held accounts.old) }
+    requires decided { acts.IsDisableDecided (market_in (lent_of O.held accounts.old)) }
+    ensures stepped { let m = market_in (lent_of O.held accounts.old) in
+        HasStepped (lent_of O.held accounts.old) (lent_of O.held accounts.new) result
         (pending_fills_of m.events) (acts.disable_step m) }
+    ensures places { KeepsPlaces O.place accounts.old accounts.new }
 {
-    disable_on_bytes(&mut accounts.market);
+    disable_on_bytes(accounts.market);
     Reply::Done
 }
 
-/// Opening the owner's account among the others.
-fn init_among(owner: Address, market: Address, person: Address, accounts: &mut [OrdersAccount])
+/// Opening the owner's account among those that own their bytes.
+pub(crate) fn init_owned(
+    owner: Address,
+    market: Address,
+    person: Address,
+    accounts: &mut [OrdersAccount],
+)
     requires { CanChange owner IsBlank (map orders_account_of accounts.old) }
     ensures { HasChanged owner (HasOpened market person)
         (map orders_account_of accounts.old) (map orders_account_of accounts.new) }
@@ -123,20 +149,35 @@ fn init_among(owner: Address, market: Address, person: Address, accounts: &mut [
     init(&mut accounts[place].bytes, market, person);
 }
 
-/// An account that was never opened is opened for the signer, as it was decided.
-pub(crate) fn init_row(accounts: &mut MarketAccounts, owner: Address, signer: Address) -> Reply
-    requires sound { AreSound (market_accounts_of accounts.old) }
-    requires decided { acts.IsInitDecided owner signer (market_in (market_accounts_of accounts.old)) }
-    ensures { let m = market_in (market_accounts_of accounts.old) in
-        HasStepped (market_accounts_of accounts.old) (market_accounts_of accounts.new) result
-        (pending_fills_of m.events) (acts.init_step owner signer m) }
+/// Opening the owner's account among records.
+pub(crate) fn init_flat(owner: Address, market: Address, person: Address, accounts: &mut [u8])
+    requires { CanChange owner IsBlank (accounts_in accounts.old) }
+    ensures { HasChanged owner (HasOpened market person)
+        (accounts_in accounts.old) (accounts_in accounts.new) }
 {
-    init_among(owner, accounts.address, signer, &mut accounts.orders);
+    let at = data_at(accounts, owner);
+    init(&mut accounts[at..at + DATA], market, person);
+}
+
+/// An account that was never opened is opened for the signer, as it was decided.
+pub(crate) fn init_row<O: StepsOrders>(
+    accounts: &mut LentMarket<'_, O>,
+    owner: Address,
+    signer: Address,
+) -> Reply
+    requires sound { AreSound (lent_of O.held accounts.old) }
+    requires decided { acts.IsInitDecided owner signer (market_in (lent_of O.held accounts.old)) }
+    ensures stepped { let m = market_in (lent_of O.held accounts.old) in
+        HasStepped (lent_of O.held accounts.old) (lent_of O.held accounts.new) result
+        (pending_fills_of m.events) (acts.init_step owner signer m) }
+    ensures places { KeepsPlaces O.place accounts.old accounts.new }
+{
+    accounts.orders.init(owner, accounts.address, signer);
     Reply::Done
 }
 
-/// Closing the owner's account among the others.
-fn close_among(owner: Address, accounts: &mut [OrdersAccount])
+/// Closing the owner's account among those that own their bytes.
+pub(crate) fn close_owned(owner: Address, accounts: &mut [OrdersAccount])
     requires { CanChange owner CanClose (map orders_account_of accounts.old) }
     ensures { HasChanged owner HasClosed
         (map orders_account_of accounts.old) (map orders_account_of accounts.new) }
@@ -145,14 +186,25 @@ fn close_among(owner: Address, accounts: &mut [OrdersAccount])
     close(&mut accounts[place].bytes);
 }
 
-/// An account without funds and orders is closed for good, as it was decided.
-pub(crate) fn close_row(accounts: &mut MarketAccounts, owner: Address) -> Reply
-    requires sound { AreSound (market_accounts_of accounts.old) }
-    requires decided { acts.IsCloseDecided owner (market_in (market_accounts_of accounts.old)) }
-    ensures { let m = market_in (market_accounts_of accounts.old) in
-        HasStepped (market_accounts_of accounts.old) (market_accounts_of accounts.new) result
-        (pending_fills_of m.events) (acts.close_step owner m) }
+/// Closing the owner's account among records.
+pub(crate) fn close_flat(owner: Address, accounts: &mut [u8])
+    requires { CanChange owner CanClose (accounts_in accounts.old) }
+    ensures { HasChanged owner HasClosed
+        (accounts_in accounts.old) (accounts_in accounts.new) }
 {
-    close_among(owner, &mut accounts.orders);
+    let at = data_at(accounts, owner);
+    close(&mut accounts[at..at + DATA]);
+}
+
+/// An account without funds and orders is closed for good, as it was decided.
+pub(crate) fn close_row<O: StepsOrders>(accounts: &mut LentMarket<'_, O>, owner: Address) -> Reply
+    requires sound { AreSound (lent_of O.held accounts.old) }
+    requires decided { acts.IsCloseDecided owner (market_in (lent_of O.held accounts.old)) }
+    ensures stepped { let m = market_in (lent_of O.held accounts.old) in
+        HasStepped (lent_of O.held accounts.old) (lent_of O.held accounts.new) result
+        (pending_fills_of m.events) (acts.close_step owner m) }
+    ensures places { KeepsPlaces O.place accounts.old accounts.new }
+{
+    accounts.orders.close(owner);
     Reply::Done
 }

@@ -13,16 +13,20 @@ ghost use Rattle.dex_step.specs.OrderActs.{
   order_bytes,
 };
 ghost use Rattle.dex_step.specs.OrderRows.{IsOrderDecided, order_step};
-ghost use Rattle.dex_types.specs.Accounts.{market_accounts_of, orders_account_of};
+ghost use Rattle.dex_lent.specs.Flat.{accounts_in};
+ghost use Rattle.dex_lent.specs.Lent.{KeepsPlaces, lent_of};
+ghost use Rattle.dex_types.specs.Accounts.{orders_account_of};
 
+use crate::steps_orders::StepsOrders;
 use crate::vaults::bring;
 use dex_accounts::place_of;
+use dex_lent::{DATA, LentMarket, data_at};
 use dex_market::{MarketView, RequestView};
 use dex_match::{OrderPlan, Taker, apply_order};
 use dex_orders::OrdersView;
 use dex_ring::{PendingFills, RingView};
 use dex_slab::SlabView;
-use dex_types::{MarketAccounts, OrdersAccount, Reply, Side};
+use dex_types::{OrdersAccount, Reply, Side};
 
 /// A new order, on the bytes of its accounts: as many as `apply_order` takes, since the checker follows no record of
 /// lent views.
@@ -57,24 +61,22 @@ fn order_on_bytes(
     )
 }
 
-/// A new order of an account among others. It takes the market's accounts one by one, for the same reason.
-fn order_among(
+/// A new order of an account among those that own their bytes.
+pub(crate) fn order_owned(
     plan: &OrderPlan,
     taker: Taker,
-    market: &mut Vec<u8>,
-    requests: &mut Vec<u8>,
-    events: &mut Vec<u8>,
+    market: &mut [u8],
+    requests: &mut [u8],
+    events: &mut [u8],
     accounts: &mut [OrdersAccount],
-    own: &mut Vec<u8>,
-    opposite: &mut Vec<u8>,
+    own: &mut [u8],
+    opposite: &mut [u8],
 ) -> Reply
-    requires { CanOrderAmong plan.now taker (among market.old.items requests.old.items events.old.items
-        own.old.items opposite.old.items (map orders_account_of accounts.old)) }
+    requires { CanOrderAmong plan.now taker (among market.old requests.old events.old own.old opposite.old
+        (map orders_account_of accounts.old)) }
     ensures { HasOrderedAmong taker result
-        (among market.old.items requests.old.items events.old.items own.old.items opposite.old.items
-        (map orders_account_of accounts.old))
-        (among market.new.items requests.new.items events.new.items own.new.items opposite.new.items
-        (map orders_account_of accounts.new)) }
+        (among market.old requests.old events.old own.old opposite.old (map orders_account_of accounts.old))
+        (among market.new requests.new events.new own.new opposite.new (map orders_account_of accounts.new)) }
 {
     let place = place_of(accounts, taker.account);
     let account = &mut accounts[place].bytes;
@@ -83,51 +85,92 @@ fn order_among(
     )
 }
 
-/// A new order of either side, with its deposit in the vault.
-fn order_by_side(accounts: &mut MarketAccounts, plan: &OrderPlan, taker: Taker) -> Reply
-    requires can { CanOrderAmong plan.now taker (among_of taker.id_side (market_accounts_of accounts.old)) }
-    requires vault { CanTakeIn taker.id_side plan.now.deposit (market_accounts_of accounts.old) }
-    ensures does { HasOrderedAmong taker result (among_of taker.id_side (market_accounts_of accounts.old))
-        (among_of taker.id_side (market_accounts_of accounts.new)) }
-    ensures vaults { HaveTakenIn taker.id_side plan.now.deposit (market_accounts_of accounts.old)
-        (market_accounts_of accounts.new) }
+/// A new order of an account among records.
+pub(crate) fn order_flat(
+    plan: &OrderPlan,
+    taker: Taker,
+    market: &mut [u8],
+    requests: &mut [u8],
+    events: &mut [u8],
+    accounts: &mut [u8],
+    own: &mut [u8],
+    opposite: &mut [u8],
+) -> Reply
+    requires { CanOrderAmong plan.now taker (among market.old requests.old events.old own.old opposite.old
+        (accounts_in accounts.old)) }
+    ensures { HasOrderedAmong taker result
+        (among market.old requests.old events.old own.old opposite.old (accounts_in accounts.old))
+        (among market.new requests.new events.new own.new opposite.new (accounts_in accounts.new)) }
 {
-    let MarketAccounts {
+    let at = data_at(accounts, taker.account);
+    order_on_bytes(
+        plan,
+        taker,
         market,
         requests,
         events,
-        orders,
-        bids,
-        asks,
-        coin_vault,
-        pc_vault,
-        ..
-    } = accounts;
+        &mut accounts[at..at + DATA],
+        own,
+        opposite,
+    )
+}
+
+/// A new order of either side, with its deposit in the vault.
+fn order_by_side<O: StepsOrders>(
+    accounts: &mut LentMarket<'_, O>,
+    plan: &OrderPlan,
+    taker: Taker,
+) -> Reply
+    requires can { CanOrderAmong plan.now taker (among_of taker.id_side (lent_of O.held accounts.old)) }
+    requires vault { CanTakeIn taker.id_side plan.now.deposit (lent_of O.held accounts.old) }
+    ensures does { HasOrderedAmong taker result (among_of taker.id_side (lent_of O.held accounts.old))
+        (among_of taker.id_side (lent_of O.held accounts.new)) }
+    ensures vaults { HaveTakenIn taker.id_side plan.now.deposit (lent_of O.held accounts.old)
+        (lent_of O.held accounts.new) }
+    ensures places { KeepsPlaces O.place accounts.old accounts.new }
+{
     match taker.id_side {
         Side::Bid => {
-            bring(pc_vault, plan.deposit);
-            order_among(plan, taker, market, requests, events, orders, bids, asks)
+            bring(accounts.pc_vault, plan.deposit);
+            accounts.orders.order(
+                plan,
+                taker,
+                accounts.market,
+                accounts.requests,
+                accounts.events,
+                accounts.bids,
+                accounts.asks,
+            )
         }
         Side::Ask => {
-            bring(coin_vault, plan.deposit);
-            order_among(plan, taker, market, requests, events, orders, asks, bids)
+            bring(accounts.coin_vault, plan.deposit);
+            accounts.orders.order(
+                plan,
+                taker,
+                accounts.market,
+                accounts.requests,
+                accounts.events,
+                accounts.asks,
+                accounts.bids,
+            )
         }
     }
 }
 
 /// A new order of an open account, as it was decided: it trades and rests, its deposit enters the vault, and it is
 /// answered what it did. `left` is what makers' fills are to take off totals after it.
-pub(crate) fn order_row(
-    accounts: &mut MarketAccounts,
+pub(crate) fn order_row<O: StepsOrders>(
+    accounts: &mut LentMarket<'_, O>,
     pending: &mut PendingFills,
     taker: Taker,
     plan: &OrderPlan,
     left: PendingFills,
 ) -> Reply
-    requires sound { AreSound (market_accounts_of accounts.old) }
-    requires decided { IsOrderDecided taker plan.now left (market_in (market_accounts_of accounts.old)) }
-    ensures { HasStepped (market_accounts_of accounts.old) (market_accounts_of accounts.new) result pending.new
-        (order_step taker (market_in (market_accounts_of accounts.old))) }
+    requires sound { AreSound (lent_of O.held accounts.old) }
+    requires decided { IsOrderDecided taker plan.now left (market_in (lent_of O.held accounts.old)) }
+    ensures stepped { HasStepped (lent_of O.held accounts.old) (lent_of O.held accounts.new) result pending.new
+        (order_step taker (market_in (lent_of O.held accounts.old))) }
+    ensures places { KeepsPlaces O.place accounts.old accounts.new }
 {
     let reply = order_by_side(accounts, plan, taker);
     *pending = left;

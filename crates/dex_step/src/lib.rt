@@ -7,6 +7,8 @@ mod acting_funds;
 mod acting_orders;
 mod acting_takes;
 mod applying;
+mod steps_orders;
 mod vaults;
 
-pub use applying::apply;
+pub use applying::{apply, apply_ask};
+pub use steps_orders::StepsOrders;

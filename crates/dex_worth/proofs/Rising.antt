@@ -1,16 +1,15 @@
 -- Rows by numbers that never fall.
-use Rattle.std.proofs.Common.{ℕ, zero, suc, [], ◌∷◌, ◌-◌, drop, Some, ◌≡◌, ◌<◌, ◌≤◌, ◌==◌, Bool, true, false, nat_lt, List, length, map, get_or, refl, ap, ◌∙◌, subst, sym, arith, ⊎_elim}
+use Rattle.std.proofs.Common.{ℕ, zero, suc, [], ◌∷◌, drop, Some, ◌≡◌, ◌<◌, ◌≤◌, ◌==◌, Bool, true, false, nat_lt, List, length, map, get_or, refl, ap, ◌∙◌, subst, arith, ⊎_elim}
 use Rattle.std.specs.List.{AllPairs}
 use Rattle.std.specs.List.Sorted.{IsPartitionedBy}
 use Rattle.std.proofs.lemmas.Bool.{and_left, cases_lt, cond-false, lt-ltb, ltb-true, ne_eqb}
-use Rattle.std.proofs.lemmas.List.{get_or-map, get_or_default, length-map}
+use Rattle.std.proofs.lemmas.List.{get_or-map, length-map}
 use Rattle.dex_types.specs.declared.addresses.Address.{Address}
 use Rattle.dex_types.specs.declared.rows.Row.{Row}
 use Rattle.dex_types.specs.Addresses.{is_same}
 use Rattle.dex_types.specs.Rows.{PlainRow, row_of}
 use Rattle.dex_script_types.specs.Firsts.{first_of}
 use Rattle.dex_replay.specs.EntryCalls.{is_row_on}
-use Rattle.dex_worth.specs.Entries.{AreBefore}
 
 -- the row stands before this number
 abbrev pub is_before : ℕ → Row → Bool
@@ -28,22 +27,6 @@ parted-rising rows number rising i j d before within stands =
     lt-ltb (get_or rows i d).number number (omega (arith, le, one, other, ltb-true (get_or rows j d).number number stands)))
     (λ (later : j ≤ i). let same : j ≡ i = omega arith in subst (λ (k : ℕ). is_before number (get_or rows k d) ≡ true) same stands)
     (cases_lt i j)
-
--- where the one in front of a place stands before a number, so do all in front of it
-pub all-before : (rows : List Row) (place number : ℕ) (front : Row) → AllPairs (λ (one other : PlainRow). one.number ≤ other.number) (map row_of rows)
-    → 0 < place → place < length rows → (get_or rows (place - 1) front).number < number → AreBefore number place rows
-all-before rows place number front rising some within low k d before inside =
-    let long : length (map row_of rows) ≡ length rows = length-map rows row_of in
-    let last : get_or rows (place - 1) d ≡ get_or rows (place - 1) front = get_or_default rows (place - 1) d front (omega (arith, within, some)) in
-    let under : (get_or rows (place - 1) d).number < number = subst (λ (row : Row). row.number < number) (sym last) low in
-    ⊎_elim
-    (λ (earlier : k < place - 1).
-    let le = rising k (place - 1) (row_of d) earlier (omega (arith, long, within, some)) in
-    let one = ap (λ (row : PlainRow). row.number) (get_or-map row_of rows k d (row_of d) inside) in
-    let other = ap (λ (row : PlainRow). row.number) (get_or-map row_of rows (place - 1) d (row_of d) (omega (arith, within, some))) in
-    omega (arith, le, one, other, under))
-    (λ (later : place - 1 ≤ k). let same : place - 1 ≡ k = omega arith in subst (λ (i : ℕ). (get_or rows i d).number < number) same under)
-    (cases_lt k (place - 1))
 
 -- a row before the number is not the one
 pub not-before : (market : Address) (number : ℕ) (row : Row) → is_before number row ≡ true → is_row_on market number (row_of row) ≡ false

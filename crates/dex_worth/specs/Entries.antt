@@ -1,8 +1,7 @@
 -- What entries tell of both tokens at once.
-use Rattle.std.specs.Prelude.{ℕ, ◌≡◌, ◌<◌, Option, Some, None, List, length, get_or, if◌then◌else◌}
+use Rattle.std.specs.Prelude.{ℕ, ◌≡◌, Option, Some, None, List, if◌then◌else◌}
 use Rattle.dex_types.specs.declared.addresses.Address.{Address}
 use Rattle.dex_types.specs.declared.replies.Reply.{Reply}
-use Rattle.dex_types.specs.declared.rows.Row.{Row}
 use Rattle.dex_types.specs.declared.terms.Side.{Side}
 use Rattle.dex_types.specs.Side.{Coin, Pc}
 use Rattle.dex_types.specs.Totals.{total}
@@ -61,7 +60,3 @@ pub record AreMoved (call : Call) (moved : Option Moved) : Type 0 where
 abbrev pub IsSmall : ℕ → Option Moved → Type 0
 IsSmall bound None = Unit {0}
 IsSmall bound (Some moved) = IsWithin bound moved.deposited × IsWithin bound moved.settled
-
--- all rows in front of a place stand before a number
-abbrev pub AreBefore : ℕ → ℕ → List Row → Type 0
-AreBefore number place rows = (k : ℕ) (d : Row) → k < place → k < length rows → (get_or rows k d).number < number

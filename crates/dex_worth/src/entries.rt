@@ -128,9 +128,8 @@ fn is_nothing(debits: u128, settled: TokenAmounts) -> bool
     debits == 0 && settled.coin == 0 && settled.pc == 0
 }
 
-/// What an entry of the market's journal moved for an account, by its row, which is looked for near the row of an
-/// earlier entry first.
-fn moved_by(rows: &[Row], market: Address, entry: &Entry, near: &mut usize) -> Option<Moved>
+/// What an entry of the market's journal moved for an account, by its row.
+fn moved_by(rows: &[Row], market: Address, entry: &Entry) -> Option<Moved>
     requires { AllPairs (λ (one other : PlainRow). one.number ≤ other.number) (map row_of rows.now) }
     ensures told { (script : PlainScript) (call : Call) → map row_of rows.now ≡ script.rows
         → call_told script market entry.now ≡ Some call → told.AreMoved call result }
@@ -141,11 +140,8 @@ fn moved_by(rows: &[Row], market: Address, entry: &Entry, near: &mut usize) -> O
     if is_nothing(debits, settled) {
         return None;
     }
-    match find_row(rows, *near, market, entry.row) {
-        Some(place) => {
-            *near = place;
-            moved_for(&rows[place], debits, settled)
-        }
+    match find_row(rows, market, entry.row) {
+        Some(place) => moved_for(&rows[place], debits, settled),
         None => None,
     }
 }
@@ -205,9 +201,8 @@ pub fn ledger_of(
 {
     let mut deposited = zeros(alloc, owners)?;
     let mut settled = zeros(alloc, owners)?;
-    let mut near = 0;
     for place in 0..entries.len() {
-        let moved = moved_by(rows, market, &entries[place], &mut near);
+        let moved = moved_by(rows, market, &entries[place]);
         add_moved(&mut deposited, &mut settled, owners, moved);
     }
     Ok(Ledger { deposited, settled })

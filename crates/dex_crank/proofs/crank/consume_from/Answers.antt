@@ -5,30 +5,30 @@ use Rattle.dex_types.specs.QueuedEvent.{decoded_event}
 use Rattle.dex_types.specs.Owed.{leaving}
 use Rattle.dex_types.specs.Side.{Coin, Pc}
 use Rattle.dex_types.specs.Solvency.{all_leaving}
-use Rattle.dex_crank.specs.PaidBytes.{CrankBytes, crank_bytes, goes_on, paid_bytes, paid_first}
+use Rattle.dex_crank.specs.PaidBytes.{CrankBytes, crank_of, goes_on, paid_bytes, paid_first}
 use Rattle.dex_crank.proofs.CountLaws.{consumable-le, consumable-more, consumable-none}
 use Rattle.dex_crank.proofs.PartLaws.{cranked-now}
 use Rattle.dex_crank.proofs.crank.consume_from.Goals as goal
 
 pub goes_on-requires : goal.goes_on-requires
-goes_on-requires c =
+goes_on-requires g c =
     let le : c.loop-count.count ≤ length (events_of c.args.queue.now) =
     omega (arith, c.loop-count.invariant.consumed, consumable-le c.args.limit c.args.named.now (events_of c.args.queue.now)) in
-    (cranked-now (crank_bytes c.args.queue.now c.args.accounts.now) (crank_bytes c.loop-count.queue c.loop-count.accounts) c.requires.0 c.loop-count.count c.requires.1
+    (cranked-now (crank_of c.args.queue.now (g.A.OrdersAccounts.held c.args.accounts.now)) (crank_of c.loop-count.queue (g.A.OrdersAccounts.held c.loop-count.accounts)) c.requires.0 c.loop-count.count c.requires.1
     c.loop-count.invariant.bytes le).queue
 
 pub pay_first-event-requires-clause-market : goal.pay_first-event-requires-clause-market
-pay_first-event-requires-clause-market c =
+pay_first-event-requires-clause-market g c =
     let le : c.loop-count.count ≤ length (events_of c.args.queue.now) =
     omega (arith, c.loop-count.invariant.consumed, consumable-le c.args.limit c.args.named.now (events_of c.args.queue.now)) in (
       after_crank c.loop-count.count c.requires.0,
-      cranked-now (crank_bytes c.args.queue.now c.args.accounts.now) (crank_bytes c.loop-count.queue c.loop-count.accounts) c.requires.0 c.loop-count.count c.requires.1
+      cranked-now (crank_of c.args.queue.now (g.A.OrdersAccounts.held c.args.accounts.now)) (crank_of c.loop-count.queue (g.A.OrdersAccounts.held c.loop-count.accounts)) c.requires.0 c.loop-count.count c.requires.1
           c.loop-count.invariant.bytes le,
     )
 
 pub loop-count-preserved : goal.loop-count-preserved
-loop-count-preserved c =
-    let before : CrankBytes = crank_bytes c.args.queue.now c.args.accounts.now in
+loop-count-preserved g c =
+    let before : CrankBytes = crank_of c.args.queue.now (g.A.OrdersAccounts.held c.args.accounts.now) in
     let count = c.loop-count.count in
     let left : ℕ = c.args.limit - count in
     let next : suc count ≡ count + 1 = omega arith in
@@ -54,9 +54,10 @@ loop-count-preserved c =
       pc = omega (arith, c.loop-count.invariant.pc, pc, c.with_fill-fills.ensures.pc);
       coin_small = omega (arith, c.loop-count.invariant.coin_small, c.with_fill-fills.ensures.coin_small);
       pc_small = omega (arith, c.loop-count.invariant.pc_small, c.with_fill-fills.ensures.pc_small);
+      place = c.pay_first-event.ensures.place ∙ c.loop-count.invariant.place;
     }
 
 pub returns-clause-count : goal.returns-clause-count
-returns-clause-count c =
+returns-clause-count g c =
     let none : c.args.limit - c.loop-count.count ≡ 0 = omega arith in
     omega (arith, c.loop-count.invariant.consumed, consumable-none (c.args.limit - c.loop-count.count) c.args.named.now (events_of c.loop-count.queue) none)

@@ -3,13 +3,14 @@ use Rattle.dex_types.specs.Reasons.{disabled, missing, not_signed_by, other_disc
 use Rattle.dex_types.specs.Why.{payer}
 use Rattle.dex_reasons.proofs.FirstReasons.{joined, joined-first}
 use Rattle.dex_plan.specs.Given.{market_of}
+use Rattle.dex_accounts.specs.Decoded.{market_in}
 use Rattle.dex_decide.proofs.taking.wallet_reason.Goals as goal
 
 pub returns : goal.returns
-returns c =
+returns g c =
     let seen = c.args.seen.now in
-    let m = market_of c.args.accounts.now in
-    let signer = c.args.row.now.signer in
+    let m = market_in (g.M.ReadMarket.held c.args.accounts.now) in
+    let signer = c.args.ask.now.signer in
     let later =
     missing seen.coin
     ∷ missing seen.pc

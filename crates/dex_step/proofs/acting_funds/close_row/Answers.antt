@@ -1,22 +1,21 @@
 use Rattle.std.proofs.Common.{ap, arith, map, refl, rules, sym}
 use Rattle.std.proofs.lemmas.List.{with_items_is}
-use Rattle.dex_types.specs.Accounts.{market_accounts_of, orders_account_of}
+use Rattle.dex_lent.specs.Lent.{lent_of}
 use Rattle.dex_step.specs.FundBytes.{HasClosed}
 use Rattle.dex_step.proofs.FundLaws.{changed-same, close-can, close-stepped}
 use Rattle.dex_step.proofs.SoundParts.{vaults-kept}
 use Rattle.dex_step.proofs.acting_funds.close_row.Goals as goal
 
-pub close_among-requires : goal.close_among-requires
-close_among-requires c =
-    let can = close-can c.args.owner (market_accounts_of c.args.accounts.now) c.requires.sound c.requires.decided in
+pub close-requires : goal.close-requires
+close-requires g c =
+    let can = close-can c.args.owner (lent_of g.O.OrdersAccounts.held c.args.accounts.now) c.requires.sound c.requires.decided in
     search (rules, can)
 
-pub returns : goal.returns
-returns c =
+pub returns-clause-stepped : goal.returns-clause-stepped
+returns-clause-stepped g c =
     let old = c.args.accounts.now in
-    let did = c.close_among in
-    close-stepped (market_accounts_of old) _ c.requires.sound refl refl refl refl c.args.owner c.requires.decided
-    (changed-same c.args.owner HasClosed _ _ _ _ did.ensures (search rules)
-    (ap (map orders_account_of) (sym (with_items_is old.orders did.new.accounts (omega (arith, did.auto.accounts, c.deref_mut.ensures.len))))))
+    let did = c.close in
+    close-stepped (lent_of g.O.OrdersAccounts.held old) _ c.requires.sound refl refl refl refl c.args.owner c.requires.decided
+    did.ensures.does
     refl
-    (vaults-kept (market_accounts_of old) _ c.requires.sound refl refl refl refl)
+    (vaults-kept (lent_of g.O.OrdersAccounts.held old) _ c.requires.sound refl refl refl refl)

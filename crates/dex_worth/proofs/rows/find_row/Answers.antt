@@ -1,18 +1,20 @@
-use Rattle.std.proofs.Common.{◌≡◌, ◌<◌, map, length, get_or, Some, sym, ap, ◌∙◌, arith}
-use Rattle.std.proofs.lemmas.Bool.{lt-ltb}
+use Rattle.std.proofs.Common.{rules, ◌≡◌, ◌<◌, map, length, get_or, Some, sym, ap, ◌∙◌, arith}
 use Rattle.std.proofs.lemmas.List.{get_or-map, get_or_default, length-map}
+use Rattle.std.proofs.lemmas.List.Sorted.{IsPartitionPoint-from_clause}
 use Rattle.dex_types.specs.declared.rows.Row.{Row}
 use Rattle.dex_types.specs.Rows.{PlainRow, row_of}
 use Rattle.dex_replay.specs.EntryCalls.{is_row_on}
 use Rattle.dex_worth.proofs.Lists.{first-here, first-later}
-use Rattle.dex_worth.proofs.Rising.{found-behind}
+use Rattle.dex_worth.proofs.Rising.{found-behind, is_before, parted-rising}
 use Rattle.dex_worth.proofs.rows.find_row.Goals as goal
 
 pub loop-place-init : goal.loop-place-init
 loop-place-init c =
     let number = c.args.number in
-    let rows = c.args.rows.now in
-    found-behind c.args.market number rows c.start_of-place.result (λ k d low high. lt-ltb (get_or rows k d).number number (c.start_of-place.ensures k d low high))
+    let parts =
+    IsPartitionPoint-from_clause (is_before number) c.args.rows.now c.partition_point-before.result c.partition_point-before.ensures.partitioned
+    (parted-rising c.args.rows.now number c.requires) (λ a r q k. search rules) in
+    found-behind c.args.market number c.args.rows.now c.partition_point-before.result (λ k d low high. parts.0 k d (omega arith) low)
 
 pub returns-then-is_on : goal.returns-then-is_on
 returns-then-is_on c =

@@ -1,0 +1,12 @@
+//! One instruction on the account bytes of one market, in place, as a ledger's program does it.
+#![tactic(auto)]
+
+mod counting;
+mod processing;
+
+pub use counting::pending;
+pub use dex_lent::{FlatOrders, LentMarket, OwnedOrders};
+pub use dex_plan::Ask;
+pub use dex_purse::{LentWallets, Roles, Slot};
+pub use dex_ring::PendingFills;
+pub use processing::{Terms, process};

@@ -1,4 +1,0 @@
-use Rattle.dex_worth.proofs.rows.start_of.Given as goal
-
-abbrev pub invariant-loop-place : goal.invariant-loop-place
-invariant-loop-place l = Unit {0}
