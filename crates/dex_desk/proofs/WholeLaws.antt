@@ -117,6 +117,7 @@ record Since (script : PlainScript) (begin : PlainOutcome) (accepted : List Plai
   told : AreAmong (map answers_in parts) said
   program : block.draft.script.program ≡ script.program
   limits : block.draft.script.limits ≡ script.limits
+  width : WIDE ≡ script.limits
   low : ℕ
   done : AreBelow low (script.rows ++ rows_in parts)
   above : AreFrom low block.draft.script.rows
@@ -135,6 +136,7 @@ more-said script begin accepted block said more since = record {
   told = among-more (map answers_in since.parts) said more since.told;
   program = since.program;
   limits = since.limits;
+  width = since.width;
   low = since.low;
   done = since.done;
   above = since.above;
@@ -177,7 +179,8 @@ have-acted script begin accepted block after said answers more since have =
           (subst (λ (pieces : List (List ℕ)). AreAmong pieces (said ++ (answers_in part ++ more))) (sym (map-append answers_in since.parts (part ∷ [])))
           (among-push (map answers_in since.parts) said (answers_in part) more since.told));
       program = since.program;
-      limits = since.limits;
+      limits = since.width;
+      width = since.width;
       low = block.number;
       done = subst (AreBelow block.number) (sym all)
           (All-append (λ (row : PlainRow). row.number < block.number) (script.rows ++ rows_in since.parts) rows
@@ -228,6 +231,7 @@ grown script begin accepted block after said rows lane since room same is =
       told = since.told;
       program = since.program;
       limits = since.limits;
+      width = since.width;
       low = since.low;
       done = since.done;
       above = All-append (λ (r : PlainRow). since.low ≤ r.number) old rows since.above
@@ -277,6 +281,7 @@ later script begin accepted block now said since = record {
   told = since.told;
   program = since.program;
   limits = since.limits;
+  width = since.width;
   low = since.low;
   done = since.done;
   above = since.above;
@@ -446,6 +451,7 @@ none-yet text block is =
       told = tt;
       program = refl;
       limits = sym (read-limits WIDE false text script is.reads);
+      width = sym (read-limits WIDE false text script is.reads);
       low = number;
       done = subst (AreBelow number) (sym rows) below;
       above = All-nil (λ (row : PlainRow). number ≤ row.number);
