@@ -14,7 +14,8 @@ use Rattle.dex_types.specs.declared.rows.Seen.{Seen}
 use Rattle.dex_types.specs.Accounts.{PlainMarketAccounts}
 use Rattle.dex_types.specs.Steps.{Step, step}
 
--- what an instruction acts on: a market's accounts, the wallets that it names, and what pending makers' fills are to take off totals
+-- what an instruction acts on: a market's accounts, the wallets that it names, and what pending makers' fills are to
+-- take off totals
 pub record Acting : Type 0 where
   pub accounts : PlainMarketAccounts
   pub wallets : Purse
@@ -40,7 +41,8 @@ seen_by roles terms purse = record {
 abbrev pub step_of : Ask → Seen → PlainMarketAccounts → Step
 step_of ask seen accounts = step (asked_by ask) seen (market_in accounts)
 
--- the accounts stand for a sound market, the named wallets are token accounts of distinct addresses, and the sums are those of the queue
+-- the accounts stand for a sound market, the named wallets are token accounts of distinct addresses, and the sums are
+-- those of the queue
 pub record CanAct (roles : Roles) (seen : Seen) (on : Acting) : Type 0 where
   pub sound : AreSound on.accounts
   pub wallets : AreWallets roles on.wallets
@@ -48,8 +50,8 @@ pub record CanAct (roles : Roles) (seen : Seen) (on : Acting) : Type 0 where
   pub sees : Sees roles on.wallets seen
   pub pending : on.pending ≡ pending_fills_of (market_in on.accounts).events
 
--- a step was done: its reply was answered; the accounts stand for the market that it leaves, which is sound; each wallet moved by exactly
--- what it takes and brings; and the sums are those of the events that are pending there
+-- a step was done: its reply was answered; the accounts stand for the market that it leaves, which is sound; each
+-- wallet moved by exactly what it takes and brings; and the sums are those of the events that are pending there
 pub record HasActed (roles : Roles) (reply : Reply) (before after : Acting) (s : Step) : Type 0 where
   pub reply_is : reply ≡ s.reply
   pub market : market_in after.accounts ≡ s.market
