@@ -16,7 +16,7 @@ lent_of held lent = record {
   events = lent.events.now;
   bids = lent.bids.now;
   asks = lent.asks.now;
-  orders = held lent.orders;
+  orders = held lent.orders.now;
 }
 
 -- each account lies where it did: what was written is seen by whoever lent it
@@ -28,4 +28,5 @@ pub record KeepsPlaces {O : Type 0} (place : O → GName) (before after : LentMa
   pub events : after.events.ghost_name ≡ before.events.ghost_name
   pub bids : after.bids.ghost_name ≡ before.bids.ghost_name
   pub asks : after.asks.ghost_name ≡ before.asks.ghost_name
-  pub orders : place after.orders ≡ place before.orders
+  pub orders : after.orders.ghost_name ≡ before.orders.ghost_name
+  pub lies : place after.orders.now ≡ place before.orders.now

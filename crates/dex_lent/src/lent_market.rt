@@ -16,5 +16,5 @@ pub struct LentMarket<'a, O> {
     pub events: &'a mut [u8],
     pub bids: &'a mut [u8],
     pub asks: &'a mut [u8],
-    pub orders: O,
+    pub orders: &'a mut O,
 }

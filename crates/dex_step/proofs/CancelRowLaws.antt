@@ -28,6 +28,7 @@ use Rattle.dex_ring.specs.PendingFills.{pending_fills_of}
 use Rattle.dex_ring.specs.Ring.{IsEventQueue, Ring, ring_of, room_of}
 use Rattle.dex_slab.specs.Slab.{resting}
 use Rattle.dex_step.specs.Acting.{HasStepped, HaveVaults, coin_held, pc_held}
+use Rattle.dex_step.specs.FundBytes.{CanChange}
 use Rattle.dex_step.specs.CancelActs.{CanCancel, HasCancelled, IsCancelDecided, cancel_bytes, cancel_bytes_of, cancel_step}
 use Rattle.dex_step.proofs.OwnerParts.{OpenAt, open-at}
 use Rattle.dex_step.proofs.SteppedLaws.{leaves-stepped}
@@ -68,9 +69,6 @@ module _ (accounts : PlainMarketAccounts) (by : CancelBy) (owner : Address) (siz
   at : OpenAt owner made.account accounts
   at = open-at owner made.account accounts sound made.known
 
-  pub cancel-found : IsSome (bytes_at owner accounts.orders)
-  cancel-found = ap is_some at.has.found
-
   -- it can be done
   pub cancel-can : (held : List ℕ) → bytes_at owner accounts.orders ≡ Some held → CanCancel by owner held (cancel_bytes sizes accounts.bids accounts.asks accounts.events)
   cancel-can held found =
@@ -83,6 +81,9 @@ module _ (accounts : PlainMarketAccounts) (by : CancelBy) (owner : Address) (siz
         market = record { whole = parts_of accounts; sound = sound-parts accounts sound; has = has; is = refl };
         decided_is = ok-answered _ _ reason;
       })
+
+  pub cancel-among : CanChange owner (λ account. CanCancel by owner account (cancel_bytes sizes accounts.bids accounts.asks accounts.events)) accounts.orders
+  cancel-among = record { account = at.bytes; found = at.has.found; can = cancel-can at.bytes at.has.found }
 
   module _ (after : PlainMarketAccounts) (count : ℕ)
       (did : HasCancelled by owner count (cancel_bytes sizes accounts.bids accounts.asks accounts.events) (cancel_bytes sizes after.bids after.asks after.events))

@@ -55,6 +55,21 @@ pub record KeepsAccounts (before after : PlainMarketAccounts) : Type 0 where
   pub addresses : addresses_of after.orders ≡ addresses_of before.orders
   pub accepted : IsAccepted before → IsAccepted after
 
+-- a market's accounts by what each holds
+abbrev pub accounts_with : Address → Address → List ℕ → List ℕ → List ℕ → List ℕ → List ℕ → List ℕ → List ℕ → List PlainAccount → PlainMarketAccounts
+accounts_with address authority market coin_vault pc_vault requests events bids asks orders = record {
+  address = address;
+  authority = authority;
+  market = market;
+  coin_vault = coin_vault;
+  pc_vault = pc_vault;
+  requests = requests;
+  events = events;
+  bids = bids;
+  asks = asks;
+  orders = orders;
+}
+
 -- a step of the market was done on its accounts: its reply was answered, they are those of the market that it leaves,
 -- which is sound, and the sums are those of the events that are pending there
 pub record HasStepped (before after : PlainMarketAccounts) (reply : Reply) (pending : PendingFills) (s : Step) : Type 0 where

@@ -44,7 +44,7 @@ pub(crate) fn consume_row<O: StepsOrders>(
         (consume_step limit named.entry.now (market_in (lent_of O.held accounts.old))) }
     ensures places { KeepsPlaces O.place accounts.old accounts.new }
 {
-    let consumed = consume_on_bytes(accounts.events, &mut accounts.orders, named, limit);
+    let consumed = consume_on_bytes(accounts.events, accounts.orders, named, limit);
     pending.coin -= consumed.fills.coin;
     pending.pc -= consumed.fills.pc;
     Reply::Consumed(consumed.count)

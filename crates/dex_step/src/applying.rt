@@ -6,11 +6,11 @@ ghost use Rattle.dex_plan.specs.Given.{asked_by, market_of};
 ghost use Rattle.dex_plan.specs.Plans.{decided};
 ghost use Rattle.dex_history.specs.Journal.{request_of, row_step};
 ghost use Rattle.dex_ring.specs.PendingFills.{pending_fills_of};
-ghost use Rattle.dex_step.specs.Acting.{HasStepped};
-ghost use Rattle.dex_types.specs.Accounts.{market_accounts_of};
+ghost use Rattle.dex_step.specs.Acting.{HasStepped, accounts_with};
+ghost use Rattle.dex_types.specs.Accounts.{market_accounts_of, orders_account_of};
 ghost use Rattle.dex_types.specs.Rows.{row_of};
 ghost use Rattle.dex_types.specs.Steps.{step};
-ghost use Rattle.std.specs.Prelude.{◌≡◌, ◌<◌, ◌∷◌, List, Ok, length};
+ghost use Rattle.std.specs.Prelude.{◌≡◌, ◌<◌, ◌∷◌, List, Ok, length, map};
 
 use crate::acting_cancels::cancel_row;
 use crate::acting_events::consume_row;
@@ -21,7 +21,7 @@ use crate::steps_orders::StepsOrders;
 use dex_lent::{LentMarket, OwnedOrders};
 use dex_plan::{Ask, Plan, ask_of};
 use dex_ring::PendingFills;
-use dex_types::{Address, MarketAccounts, Reply, Row, Seen};
+use dex_types::{Address, MarketAccounts, OrdersAccount, Reply, Row, Seen};
 
 /// The open-orders account that is named first.
 fn first_named(ask: &Ask<'_>) -> Address
@@ -70,6 +70,58 @@ pub fn apply_ask<O: StepsOrders>(
     }
 }
 
+/// The same on accounts that are lent one by one.
+#[inline]
+fn apply_apart(
+    address: Address,
+    authority: Address,
+    market: &mut [u8],
+    coin_vault: &mut [u8],
+    pc_vault: &mut [u8],
+    requests: &mut [u8],
+    events: &mut [u8],
+    bids: &mut [u8],
+    asks: &mut [u8],
+    orders: &mut [OrdersAccount],
+    row: &Row,
+    seen: &Seen,
+    plan: &Plan,
+    pending: &mut PendingFills,
+) -> Reply
+    requires sound { AreSound (accounts_with address authority market.old coin_vault.old pc_vault.old requests.old
+        events.old bids.old asks.old (map orders_account_of orders.old)) }
+    requires decided { Ok plan.now ≡ decided (request_of (row_of row.now)) seen.now (market_in (accounts_with address
+        authority market.old coin_vault.old pc_vault.old requests.old events.old bids.old asks.old
+        (map orders_account_of orders.old))) }
+    requires pending { pending.old ≡ pending_fills_of (market_in (accounts_with address authority market.old
+        coin_vault.old pc_vault.old requests.old events.old bids.old asks.old
+        (map orders_account_of orders.old))).events }
+    ensures { let old = accounts_with address authority market.old coin_vault.old pc_vault.old requests.old events.old
+        bids.old asks.old (map orders_account_of orders.old) in
+        let new = accounts_with address authority market.new coin_vault.new pc_vault.new requests.new events.new
+        bids.new asks.new (map orders_account_of orders.new) in
+        HasStepped old new result pending.new (row_step (row_of row.entry.now) seen.entry.now (market_in old)) }
+{
+    apply_ask(
+        &mut LentMarket {
+            address,
+            authority,
+            market,
+            coin_vault,
+            pc_vault,
+            requests,
+            events,
+            bids,
+            asks,
+            orders: &mut OwnedOrders { accounts: orders },
+        },
+        &ask_of(row),
+        seen,
+        plan,
+        pending,
+    )
+}
+
 /// Does on a market's accounts what was decided of a row, and answers its reply. The accounts are then those of the
 /// market that the row's step leaves, which is sound; and `pending`, what pending makers' fills are still to take off
 /// totals, is what it is there. Addresses and the authority stay, and accounts that were accepted are accepted still.
@@ -87,29 +139,20 @@ pub fn apply(
     ensures { HasStepped (market_accounts_of accounts.old) (market_accounts_of accounts.new) result pending.new
         (row_step (row_of row.entry.now) seen.entry.now (market_of accounts.old)) }
 {
-    let MarketAccounts {
-        address,
-        authority,
-        market,
-        coin_vault,
-        pc_vault,
-        requests,
-        events,
-        bids,
-        asks,
-        orders,
-    } = accounts;
-    let mut lent = LentMarket {
-        address: *address,
-        authority: *authority,
-        market,
-        coin_vault,
-        pc_vault,
-        requests,
-        events,
-        bids,
-        asks,
-        orders: OwnedOrders { accounts: orders },
-    };
-    apply_ask(&mut lent, &ask_of(row), seen, plan, pending)
+    apply_apart(
+        accounts.address,
+        accounts.authority,
+        &mut accounts.market,
+        &mut accounts.coin_vault,
+        &mut accounts.pc_vault,
+        &mut accounts.requests,
+        &mut accounts.events,
+        &mut accounts.bids,
+        &mut accounts.asks,
+        &mut accounts.orders,
+        row,
+        seen,
+        plan,
+        pending,
+    )
 }

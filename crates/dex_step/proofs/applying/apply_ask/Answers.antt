@@ -70,6 +70,10 @@ returns-in-Disable-clause-stepped g c =
     let of = planned-as (lent_of g.O.OrdersAccounts.held c.args.accounts.now) (asked_by c.args.ask.now) c.args.seen.now c.args.plan.now (plans.Disable) c.requires.sound (decoded-priced c.args.ask.now.data.now) c.requires.decided c.in-Disable.is in
     stepped-as _ _ _ _ _ _ _ c.disable_row.ensures.stepped of.1 c.requires.pending
 
+pub sweep_row-requires-clause-decided : goal.sweep_row-requires-clause-decided
+sweep_row-requires-clause-decided g c =
+    (planned-as (lent_of g.O.OrdersAccounts.held c.args.accounts.now) (asked_by c.args.ask.now) c.args.seen.now c.args.plan.now (plans.Sweep c.in-Sweep.fees) c.requires.sound (decoded-priced c.args.ask.now.data.now) c.requires.decided c.in-Sweep.is).0
+
 pub returns-in-Sweep-clause-stepped : goal.returns-in-Sweep-clause-stepped
 returns-in-Sweep-clause-stepped g c =
     let of = planned-as (lent_of g.O.OrdersAccounts.held c.args.accounts.now) (asked_by c.args.ask.now) c.args.seen.now c.args.plan.now (plans.Sweep c.in-Sweep.fees) c.requires.sound (decoded-priced c.args.ask.now.data.now) c.requires.decided c.in-Sweep.is in
