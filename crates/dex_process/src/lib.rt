@@ -2,6 +2,7 @@
 #![tactic(auto)]
 
 mod counting;
+mod laws;
 mod processing;
 
 pub use counting::pending;
@@ -9,4 +10,5 @@ pub use dex_lent::{FlatOrders, LentMarket, OwnedOrders};
 pub use dex_plan::Ask;
 pub use dex_purse::{LentWallets, Roles, Slot};
 pub use dex_ring::PendingFills;
+pub use laws::instructions_one_after_another_are_a_legal_history;
 pub use processing::{Terms, process};
