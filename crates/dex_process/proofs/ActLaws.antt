@@ -81,6 +81,7 @@ acted ask roles seen on plan t after purse pending reply told is stepped moves =
   sound = stepped.sound;
   wallets = moves ∙ ap (λ (u : Transfers). moved_by roles u on.wallets) (is ∙ planned-moves plan (asked_by ask) seen (market_in on.accounts) told);
   pending = stepped.pending_is;
+  kept = stepped.kept;
 }
 
 -- a plan is no refusal
@@ -137,6 +138,7 @@ refused-processed ask roles seen why on sound pending told =
         sound = sound;
         wallets = still roles on.wallets;
         pending = pending;
+        kept = record { address = refl; authority = refl; addresses = refl; accepted = λ accepted. accepted };
       };
       same = λ is. refl;
     })

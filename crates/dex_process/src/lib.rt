@@ -1,10 +1,12 @@
 //! One instruction on the account bytes of one market, in place, as a ledger's program does it.
 #![tactic(auto)]
 
+mod apart;
 mod counting;
 mod laws;
 mod processing;
 
+pub use apart::process_apart;
 pub use counting::pending;
 pub use dex_lent::{FlatOrders, LentMarket, OwnedOrders};
 pub use dex_plan::Ask;
