@@ -84,9 +84,28 @@ zero = record { low = 0; high = 0 }
 
 -- numbers that are all 0, which stand for no reply
 abbrev pub blank : ReplyNumbers
-blank = record { kind = 0; reason = 0; rule = 0; slot = 0; count = 0; room = 0; lots = 0; pc = 0; fee = 0; rested = 0; coin = 0
-    ; referrer = 0; amount = 0; balance = 0; clock = pos 0; latest = pos 0; order = zero; held = zero; pending = zero
-    ; address = replicate 32 0 }
+blank = record {
+  kind = 0;
+  reason = 0;
+  rule = 0;
+  slot = 0;
+  count = 0;
+  room = 0;
+  lots = 0;
+  pc = 0;
+  fee = 0;
+  rested = 0;
+  coin = 0;
+  referrer = 0;
+  amount = 0;
+  balance = 0;
+  clock = pos 0;
+  latest = pos 0;
+  order = zero;
+  held = zero;
+  pending = zero;
+  address = replicate 32 0;
+}
 
 -- a refusal without values
 abbrev pub bare : ℕ → ReplyNumbers

@@ -21,9 +21,9 @@ pub struct Wide {
 /// | 6 | `Swept` | `pc` |
 /// | 7 | `Done` | |
 ///
-/// Of refusals: `rule` (1); `address`, an owner's, an authority's, a mint's or an account's (5 to 8, 16); `count` slots and
-/// `held` funds (9); `clock` and `latest` (13); `order` (19); `amount`, what was got, needed or brought, and `balance` (20, 22,
-/// 23); `count` needed and `room` (21); `held` in the vault and `pending` (24).
+/// Of refusals: `rule` (1); `address`, an owner's, an authority's, a mint's or an account's (5 to 8, 16); `count` slots
+/// and `held` funds (9); `clock` and `latest` (13); `order` (19); `amount`, what was got, needed or brought, and
+/// `balance` (20, 22, 23); `count` needed and `room` (21); `held` in the vault and `pending` (24).
 #[repr(C)]
 #[derive(Clone, Copy)]
 pub struct ReplyNumbers {

@@ -3,9 +3,10 @@
 use crate::numbers::Wide;
 use dex_types::Address;
 
-/// All accounts of one market, lent: `address` is the market's own, `authority` the person who signs for it and stands in
-/// no account, `orders` the open-orders accounts one after another, each as 32 bytes of its address and 3,228 of its data.
-/// `pending_coin` and `pending_pc` are the native base and quote that pending makers' fills are still to take off totals.
+/// All accounts of one market, lent: `address` is the market's own, `authority` the person who signs for it and stands
+/// in no account, `orders` the open-orders accounts one after another, each as 32 bytes of its address and 3,228 of its
+/// data. `pending_coin` and `pending_pc` are the native base and quote that pending makers' fills are still to take off
+/// totals.
 #[repr(C)]
 pub struct MarketBytes<'a> {
     pub address: [u8; 32],

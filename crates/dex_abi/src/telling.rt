@@ -191,10 +191,7 @@ pub fn numbers_of(reply: Reply) -> ReplyNumbers
             pc,
             ..blank()
         },
-        Reply::Done => ReplyNumbers {
-            kind: 7,
-            ..blank()
-        },
+        Reply::Done => ReplyNumbers { kind: 7, ..blank() },
         Reply::Refused(why) => refused(why),
     }
 }

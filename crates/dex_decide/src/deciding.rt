@@ -67,7 +67,8 @@ pub fn decide_disable_row<M: ReadMarket>(accounts: &M, ask: &Ask<'_>) -> Result<
 #[inline(never)]
 pub fn decide_init_row<M: ReadMarket>(accounts: &M, ask: &Ask<'_>) -> Result<Plan, Refusal>
     requires { AreSound (M.held accounts.now) }
-    ensures { result ≡ answered (reasons.why_init (asked_by ask.entry.now) (market_in (M.held accounts.now))) plans.Init }
+    ensures { result ≡ answered (reasons.why_init (asked_by ask.entry.now) (market_in (M.held accounts.now)))
+        plans.Init }
 {
     let market = MarketRef {
         bytes: accounts.market(),
@@ -153,7 +154,8 @@ fn decide_cancel_of<M: ReadMarket>(
 ) -> Result<Plan, Refusal>
     requires sound { AreSound (M.held accounts.now) }
     requires acting { HasOpen acting.address acting.bytes.now (parts_of (M.held accounts.now)) }
-    ensures { result ≡ answered (reasons.why_cancelled (named_by what) acting.entry.address (market_in (M.held accounts.now)))
+    ensures { result ≡ answered
+        (reasons.why_cancelled (named_by what) acting.entry.address (market_in (M.held accounts.now)))
         (plans.Cancel what) }
 {
     let owner = Owner {

@@ -1,5 +1,5 @@
 -- Accounts one after another in one list of bytes: the one at a place, and what other data in it leave.
-use Rattle.std.proofs.Common.{◌≡◌, ℕ, zero, suc, ◌+◌, ◌-◌, ◌*◌, ◌/◌, ◌<◌, ◌≤◌, List, [], ◌∷◌, ◌++◌, take, drop, length, set, get_or, Some, true, false, ⊎_elim, refl, sym, ap, ◌∙◌, arith}
+use Rattle.std.proofs.Common.{◌≡◌, ℕ, zero, suc, ◌+◌, ◌*◌, ◌/◌, ◌<◌, ◌≤◌, List, [], ◌∷◌, ◌++◌, take, drop, length, set, get_or, Some, true, false, ⊎_elim, refl, sym, ap, ◌∙◌, arith}
 use Rattle.std.proofs.lemmas.List.{append_assoc, drop_at, length-append, length-drop, drop-drop, length-take-le, take-append-drop, take-take, take_at}
 use Rattle.std.proofs.lemmas.Bool.{cases_Bool, cond-false, cond-true}
 use Rattle.std.proofs.Math.Seq.{drop-append-add, take-append-add}
@@ -198,3 +198,37 @@ changed-as address change (first ∷ others) bytes found =
     let written : changed_at address (λ old. change bytes) (first ∷ others) ≡ first ∷ changed_at address (λ old. change bytes) others = cond-false _ _ _ apart in
     written ∙ ap (λ (l : List PlainAccount). first ∷ l) (changed-as address change others bytes (sym past ∙ found)) ∙ sym now)
     (cases_Bool (is_same address first.address))
+
+-- ---- records tell their bytes
+
+no-bytes : (bytes : List ℕ) → length bytes ≡ 0 → bytes ≡ []
+no-bytes [] none = refl
+no-bytes (byte ∷ bytes) none = absurd (omega arith)
+
+same-record : (front other : List ℕ) → account_in front ≡ account_in other → front ≡ other
+same-record front other same =
+    let address : take 32 front ≡ take 32 other = ap (λ (a : PlainAccount). a.address.0) same in
+    let written : drop 32 front ≡ drop 32 other = ap (λ (a : PlainAccount). a.bytes) same in
+    sym (take-append-drop 32 front) ∙ ap (λ (l : List ℕ). l ++ drop 32 front) address ∙ ap (λ (l : List ℕ). take 32 other ++ l) written ∙ take-append-drop 32 other
+
+same-first : (x y : PlainAccount) (xs ys : List PlainAccount) → x ∷ xs ≡ y ∷ ys → x ≡ y
+same-first x y xs ys same = cc
+
+same-others : (x y : PlainAccount) (xs ys : List PlainAccount) → x ∷ xs ≡ y ∷ ys → xs ≡ ys
+same-others x y xs ys same = cc
+
+told-from : (count : ℕ) (bytes other : List ℕ) → length bytes ≡ 3260 * count → length other ≡ 3260 * count → accounts_from count bytes ≡ accounts_from count other → bytes ≡ other
+told-from zero bytes other all every same = no-bytes bytes (omega arith) ∙ sym (no-bytes other (omega arith))
+told-from (suc count) bytes other all every same =
+    let first = same-record (take 3260 bytes) (take 3260 other) (same-first _ _ _ _ same) in
+    let others =
+    told-from count (drop 3260 bytes) (drop 3260 other) (omega (arith, length-drop 3260 bytes)) (omega (arith, length-drop 3260 other)) (same-others _ _ _ _ same) in
+    sym (take-append-drop 3260 bytes) ∙ ap (λ (l : List ℕ). l ++ drop 3260 bytes) first ∙ ap (λ (l : List ℕ). take 3260 other ++ l) others ∙ take-append-drop 3260 other
+
+pub told-in : (count : ℕ) (bytes other : List ℕ) → length bytes ≡ 3260 * count → length other ≡ 3260 * count → accounts_in bytes ≡ accounts_in other → bytes ≡ other
+unfolding accounts_in
+told-in count bytes other all every same =
+    let n : length bytes / 3260 ≡ count = omega arith in
+    let k : length other / 3260 ≡ count = omega arith in
+    told-from count bytes other all every
+    (ap (λ (n : ℕ). accounts_from n bytes) (sym n) ∙ same ∙ ap (λ (n : ℕ). accounts_from n other) k)

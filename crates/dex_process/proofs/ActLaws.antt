@@ -51,9 +51,15 @@ asked_for ask roles purse = record {
 pub sees-once : (ask : Ask) (roles : Roles) (terms : Terms) (purse : Purse) → AreApart roles purse → SeesEachOnce (seen_by roles terms purse)
 sees-once ask roles terms purse apart =
     let sees = seen-by (asked_for ask roles purse) roles purse (seen_by roles terms purse) (record { coin = refl; pc = refl; discount = refl; referrer = refl })
-        (record { coin = refl; pc = refl; discount = refl; referrer = refl }) apart in
-    record { coin_pc = sees.coin_pc; coin_discount = sees.coin_discount; coin_referrer = sees.coin_referrer; pc_discount = sees.pc_discount
-        ; pc_referrer = sees.pc_referrer; discount_referrer = sees.discount_referrer }
+    (record { coin = refl; pc = refl; discount = refl; referrer = refl }) apart in
+    record {
+      coin_pc = sees.coin_pc;
+      coin_discount = sees.coin_discount;
+      coin_referrer = sees.coin_referrer;
+      pc_discount = sees.pc_discount;
+      pc_referrer = sees.pc_referrer;
+      discount_referrer = sees.discount_referrer;
+    }
 
 -- what was decided can move each wallet
 pub can-move-each : (ask : Ask) (roles : Roles) (seen : Seen) (on : Acting) (plan : Plan) (t : Transfers) → CanAct roles seen on
@@ -61,9 +67,9 @@ pub can-move-each : (ask : Ask) (roles : Roles) (seen : Seen) (on : Acting) (pla
 can-move-each ask roles seen on plan t can told is =
     subst (λ (u : Transfers). CanMoveEach roles u on.wallets) (sym (is ∙ planned-moves plan (asked_by ask) seen (market_in on.accounts) told))
     (λ (at : Slot). can-each roles on.wallets seen (step_of ask seen on.accounts).transfers can.sees can.apart can.wallets
-        (λ wallet. row-moves (asked_for ask roles on.wallets) seen (market_in on.accounts) wallet can.sound.sound
-            (seen-by (asked_for ask roles on.wallets) roles on.wallets seen (record { coin = refl; pc = refl; discount = refl; referrer = refl }) can.sees can.apart))
-        at)
+    (λ wallet. row-moves (asked_for ask roles on.wallets) seen (market_in on.accounts) wallet can.sound.sound
+    (seen-by (asked_for ask roles on.wallets) roles on.wallets seen (record { coin = refl; pc = refl; discount = refl; referrer = refl }) can.sees can.apart))
+    at)
 
 pub acted : (ask : Ask) (roles : Roles) (seen : Seen) (on : Acting) (plan : Plan) (t : Transfers) (after : PlainMarketAccounts) (purse : Purse) (pending : PendingFills)
     (reply : Reply) → Ok plan ≡ decided (asked_by ask) seen (market_in on.accounts) → t ≡ plan_transfers plan
@@ -75,6 +81,7 @@ acted ask roles seen on plan t after purse pending reply told is stepped moves =
   sound = stepped.sound;
   wallets = moves ∙ ap (λ (u : Transfers). moved_by roles u on.wallets) (is ∙ planned-moves plan (asked_by ask) seen (market_in on.accounts) told);
   pending = stepped.pending_is;
+  kept = stepped.kept;
 }
 
 -- a plan is no refusal
@@ -131,6 +138,7 @@ refused-processed ask roles seen why on sound pending told =
         sound = sound;
         wallets = still roles on.wallets;
         pending = pending;
+        kept = record { address = refl; authority = refl; addresses = refl; accepted = λ accepted. accepted };
       };
       same = λ is. refl;
     })

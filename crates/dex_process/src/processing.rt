@@ -69,8 +69,8 @@ fn carry_out<O: StepsOrders>(
 /// Does an instruction on the accounts of one market and on the wallets that it names, in place, and answers its reply;
 /// or refuses it, by the first reason that holds against it and with what was read for it, and changes nothing. The
 /// accounts are then those of the market that the instruction's step leaves, which is sound; each wallet has moved by
-/// what the step takes from it and brings to it; and `pending`, what pending makers' fills are still to take off totals,
-/// is what it is there. It takes no memory.
+/// what the step takes from it and brings to it; and `pending`, what pending makers' fills are still to take off
+/// totals, is what it is there. It takes no memory.
 pub fn process<O: StepsOrders>(
     market: &mut LentMarket<'_, O>,
     wallets: &mut LentWallets<'_>,

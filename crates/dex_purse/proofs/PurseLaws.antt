@@ -95,7 +95,7 @@ module _ (roles : Roles) (purse : Purse) (seen : Seen) (t : Transfers) (sees : S
   here None others owns is = absurd (false≢true is)
   here (Some other) others owns is =
       ap (λ (b : Bool). if b then (wallet_words (wallet_at other purse).bytes).amount else balance_in address others)
-          (apart slot other mine (owns other (is_slot-refl other)) ∙ is)
+      (apart slot other mine (owns other (is_slot-refl other)) ∙ is)
       ∙ ap (λ (s : Slot). (wallet_words (wallet_at s purse).bytes).amount) (sym (is_slot-true slot other is))
 
   passed : (role : Option Slot) (others : List (Option WalletSeen)) → own roles role → balance_in address others ≡ amount
@@ -103,7 +103,7 @@ module _ (roles : Roles) (purse : Purse) (seen : Seen) (t : Transfers) (sees : S
   passed None others owns rest not = rest
   passed (Some other) others owns rest not =
       ap (λ (b : Bool). if b then (wallet_words (wallet_at other purse).bytes).amount else balance_in address others)
-          (apart slot other mine (owns other (is_slot-refl other)) ∙ not)
+      (apart slot other mine (owns other (is_slot-refl other)) ∙ not)
       ∙ rest
 
   there : (role : Option Slot) (others : List (Option WalletSeen)) → own roles role → balance_in address others ≡ amount
@@ -190,8 +190,8 @@ module _ (roles : Roles) (purse : Purse) (seen : Seen) (t : Transfers) (sees : S
       let takes : taken_from seen t at ≡ taken_at slot roles t = taken roles purse seen t sees apart slot mine in
       let brings : brought_to seen t at ≡ brought_at slot roles t = brought roles purse seen t sees apart slot mine in
       let can : ((taken_from seen t at ≡ 0) × (brought_to seen t at ≡ 0))
-          ⊎ ((taken_from seen t at ≤ balance_seen seen at) × ((brought_to seen t at ≡ 0) ⊎ (balance_seen seen at + brought_to seen t at < 2 ^ 64)))
-          = can-move at (balance_seen seen at) (taken_from seen t at) (brought_to seen t at) (moves at).one_way (moves at).possible in
+      ⊎ ((taken_from seen t at ≤ balance_seen seen at) × ((brought_to seen t at ≡ 0) ⊎ (balance_seen seen at + brought_to seen t at < 2 ^ 64)))
+      = can-move at (balance_seen seen at) (taken_from seen t at) (brought_to seen t at) (moves at).one_way (moves at).possible in
       tied (taken_from seen t at) (brought_to seen t at) (balance_seen seen at) takes brings held (wallets slot mine) can
     where
       tied : (takes brings held : ℕ) → takes ≡ taken_at slot roles t → brings ≡ brought_at slot roles t
@@ -201,8 +201,11 @@ module _ (roles : Roles) (purse : Purse) (seen : Seen) (t : Transfers) (sees : S
       tied takes brings held is_takes is_brings is_held wallet (inr (covered, inl none)) =
           inr (wallet, subst (λ (n : ℕ). n ≤ (wallet_words (wallet_at slot purse).bytes).amount) is_takes (subst (λ (n : ℕ). takes ≤ n) is_held covered), inl (sym is_brings ∙ none))
       tied takes brings held is_takes is_brings is_held wallet (inr (covered, inr fits)) =
-          inr (wallet, subst (λ (n : ℕ). n ≤ (wallet_words (wallet_at slot purse).bytes).amount) is_takes (subst (λ (n : ℕ). takes ≤ n) is_held covered),
-              inr (subst (λ (n : ℕ). (wallet_words (wallet_at slot purse).bytes).amount + n < 2 ^ 64) is_brings (subst (λ (n : ℕ). n + brings < 2 ^ 64) is_held fits)))
+          inr (
+            wallet,
+            subst (λ (n : ℕ). n ≤ (wallet_words (wallet_at slot purse).bytes).amount) is_takes (subst (λ (n : ℕ). takes ≤ n) is_held covered),
+            inr (subst (λ (n : ℕ). (wallet_words (wallet_at slot purse).bytes).amount + n < 2 ^ 64) is_brings (subst (λ (n : ℕ). n + brings < 2 ^ 64) is_held fits)),
+          )
 
   not_named : names slot roles.coin ≡ false → names slot roles.pc ≡ false → names slot roles.referrer ≡ false → Goal
   not_named coin pc referrer =
@@ -238,7 +241,7 @@ agree (Some slot) None roles purse owns owns_other apart = tt
 agree (Some slot) (Some another) roles purse owns owns_other apart =
     λ (same : (wallet_at slot purse).address ≡ (wallet_at another purse).address).
     let alike : is_same (wallet_at slot purse).address (wallet_at another purse).address ≡ true
-        = subst (λ (a : Address). is_same (wallet_at slot purse).address a ≡ true) same (is_same-refl (wallet_at slot purse).address) in
+    = subst (λ (a : Address). is_same (wallet_at slot purse).address a ≡ true) same (is_same-refl (wallet_at slot purse).address) in
     let one : is_slot slot another ≡ true = sym (apart slot another (owns slot (is_slot-refl slot)) (owns_other another (is_slot-refl another))) ∙ alike in
     ap (λ (s : Slot). seen_in (wallet_at s purse)) (is_slot-true slot another one)
 

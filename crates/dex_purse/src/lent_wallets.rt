@@ -2,8 +2,8 @@
 
 use dex_types::Address;
 
-/// The wallets that an instruction names, each once, in any order: their addresses and their bytes. A place that no role
-/// names may have no bytes.
+/// The wallets that an instruction names, each once, in any order: their addresses and their bytes. A place that no
+/// role names may have no bytes.
 #[derive(Drop)]
 pub struct LentWallets<'a> {
     pub first_address: Address,

@@ -71,11 +71,27 @@ pub fn move_wallets(wallets: &mut LentWallets<'_>, roles: &Roles, amounts: &Amou
     ensures kept { purse.AreSameLoans wallets.old wallets.new }
 {
     let taken = taken_at(Slot::First, roles, amounts);
-    move_wallet(wallets.first, taken, brought_at(Slot::First, roles, amounts));
+    move_wallet(
+        wallets.first,
+        taken,
+        brought_at(Slot::First, roles, amounts),
+    );
     let taken = taken_at(Slot::Second, roles, amounts);
-    move_wallet(wallets.second, taken, brought_at(Slot::Second, roles, amounts));
+    move_wallet(
+        wallets.second,
+        taken,
+        brought_at(Slot::Second, roles, amounts),
+    );
     let taken = taken_at(Slot::Third, roles, amounts);
-    move_wallet(wallets.third, taken, brought_at(Slot::Third, roles, amounts));
+    move_wallet(
+        wallets.third,
+        taken,
+        brought_at(Slot::Third, roles, amounts),
+    );
     let taken = taken_at(Slot::Fourth, roles, amounts);
-    move_wallet(wallets.fourth, taken, brought_at(Slot::Fourth, roles, amounts));
+    move_wallet(
+        wallets.fourth,
+        taken,
+        brought_at(Slot::Fourth, roles, amounts),
+    );
 }

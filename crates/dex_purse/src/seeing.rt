@@ -25,7 +25,8 @@ fn seen_in(address: Address, bytes: &[u8]) -> WalletSeen
 
 /// What an instruction sees under a role.
 pub fn seen_as(wallets: &LentWallets<'_>, role: Option<Slot>) -> Option<WalletSeen>
-    requires { purse.IfNamed role (λ (slot : purse.TheSlot). IsWallet (purse.wallet_at slot (purse.purse_of wallets.now)).bytes) }
+    requires { purse.IfNamed role (λ (slot : purse.TheSlot).
+        IsWallet (purse.wallet_at slot (purse.purse_of wallets.now)).bytes) }
     ensures { result ≡ purse.seen_as role (purse.purse_of wallets.now) }
 {
     match role {

@@ -1,7 +1,7 @@
-use Rattle.std.proofs.Common.{◌≡◌, ℕ, List, ◌∷◌, map, sym, ap, ◌∙◌}
+use Rattle.std.proofs.Common.{◌≡◌, ℕ, List, ◌∷◌, sym, ap, ◌∙◌}
 use Rattle.dex_ring.specs.Ring.{events_of, popped}
 use Rattle.dex_ring.proofs.PopLaw.{events_of-first}
-use Rattle.dex_types.specs.Accounts.{PlainAccount, orders_account_of}
+use Rattle.dex_types.specs.Accounts.{PlainAccount}
 use Rattle.dex_types.specs.QueuedEvent.{QueuedEvent, decoded_event}
 use Rattle.dex_accounts.specs.Owners.{changed_at}
 use Rattle.dex_crank.specs.PaidBytes.{CrankBytes, crank_of, paid_first, paid_in}

@@ -7,7 +7,6 @@ use Rattle.dex_types.specs.Why.{why_cancelled}
 use Rattle.dex_cancel.specs.Cancelling.{decided, named_by}
 use Rattle.dex_slab.specs.Slab.{resting}
 use Rattle.dex_plan.specs.declared.plan.Plan.TheVariants as plans
-use Rattle.dex_plan.specs.Given.{market_of}
 use Rattle.dex_accounts.specs.Decoded.{market_in}
 use Rattle.dex_decide.proofs.PartLaws.{cancel-given, cancel-told}
 use Rattle.dex_decide.proofs.Planning.{err-planned, ok-planned}

@@ -1,12 +1,10 @@
 use Rattle.std.proofs.Common.{rules, is_some, sym, ap, ◌∙◌, Option}
 use Rattle.dex_types.specs.declared.refusals.Refusal.{Refusal}
 use Rattle.dex_types.specs.Reasons.{answered}
-use Rattle.dex_types.specs.Rows.{row_of}
 use Rattle.dex_types.specs.Settle.{settlement}
 use Rattle.dex_types.specs.Why.{why_settle}
 use Rattle.dex_settle.specs.declared.plan.SettlePlan.{SettlePlan}
 use Rattle.dex_settle.specs.PayingOut.{plan_of}
-use Rattle.dex_history.specs.Journal.{asked_of}
 use Rattle.dex_plan.specs.declared.plan.Plan.TheVariants as plans
 use Rattle.dex_plan.specs.Given.{asked_by}
 use Rattle.dex_plan.specs.Plans.{by_party, settle_plan}

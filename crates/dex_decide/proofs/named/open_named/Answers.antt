@@ -1,4 +1,4 @@
-use Rattle.std.proofs.Common.{map, ⊎_elim}
+use Rattle.std.proofs.Common.{⊎_elim}
 use Rattle.dex_decide.specs.Named.{account_by}
 use Rattle.dex_decide.proofs.NamedLaws.{accepted-named, acts-open, no-account, not-open}
 use Rattle.dex_decide.proofs.named.open_named.Goals as goal

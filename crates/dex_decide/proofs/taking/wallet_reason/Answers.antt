@@ -2,7 +2,6 @@ use Rattle.std.proofs.Common.{rules, ◌∙◌, ◌≡◌, ◌∷◌, []}
 use Rattle.dex_types.specs.Reasons.{disabled, missing, not_signed_by, other_discount_mint, other_mint}
 use Rattle.dex_types.specs.Why.{payer}
 use Rattle.dex_reasons.proofs.FirstReasons.{joined, joined-first}
-use Rattle.dex_plan.specs.Given.{market_of}
 use Rattle.dex_accounts.specs.Decoded.{market_in}
 use Rattle.dex_decide.proofs.taking.wallet_reason.Goals as goal
 

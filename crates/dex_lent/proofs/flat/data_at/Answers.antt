@@ -1,4 +1,4 @@
-use Rattle.std.proofs.Common.{ℕ, [], sym, subst, rules, arith}
+use Rattle.std.proofs.Common.{ℕ, [], sym, subst}
 use Rattle.dex_lent.specs.Flat.{IsDataAt}
 use Rattle.dex_lent.proofs.FlatLaws.{found-in, lies-in}
 use Rattle.dex_lent.proofs.flat.data_at.Goals as goal

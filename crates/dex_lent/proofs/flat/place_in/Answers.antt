@@ -1,4 +1,4 @@
-use Rattle.std.proofs.Common.{◌≡◌, ℕ, ◌+◌, ◌-◌, ◌*◌, ◌<◌, ◌≤◌, true, false, drop, length, take, sym, ap, ◌∙◌, arith, below_more}
+use Rattle.std.proofs.Common.{◌*◌, drop, length, sym, ap, ◌∙◌, arith, below_more}
 use Rattle.std.proofs.lemmas.List.{length-drop, length-take-le}
 use Rattle.dex_accounts.proofs.OwnerLaws.{bytes_at-none}
 use Rattle.dex_lent.specs.Flat.{accounts_in}

@@ -20,11 +20,11 @@ returns-in-Ok-clause-processed g c =
     let after : Acting = acting (lent_of g.O.OrdersAccounts.held c.carry_out.new.market) (purse_of c.carry_out.new.wallets) c.carry_out.new.pending in
     subst (λ (s : Seen). HasProcessed c.args.roles.now c.carry_out.result on after (step_of c.args.ask.now s on.accounts)) c.see-seen.ensures
     (laws.processed c.args.ask.now c.args.roles.now c.see-seen.result c.in-Ok.plan c.carry_out.result on after (sym c.in-Ok.is ∙ c.decide_ask.ensures)
-        c.carry_out.ensures.acted)
+    c.carry_out.ensures.acted)
 
 pub returns-in-Err-clause-processed : goal.returns-in-Err-clause-processed
 returns-in-Err-clause-processed g c =
     let on : Acting = acting (lent_of g.O.OrdersAccounts.held c.args.market.now) (purse_of c.args.wallets.now) c.args.pending.now in
     subst (λ (s : Seen). HasProcessed c.args.roles.now (Refused c.in-Err.why) on on (step_of c.args.ask.now s on.accounts)) c.see-seen.ensures
     (laws.refused-processed c.args.ask.now c.args.roles.now c.see-seen.result c.in-Err.why on c.requires.sound c.requires.pending
-        (sym c.decide_ask.ensures ∙ c.in-Err.is))
+    (sym c.decide_ask.ensures ∙ c.in-Err.is))

@@ -1,7 +1,5 @@
-use Rattle.std.proofs.Common.{ap, arith, map, refl, rules, sym}
-use Rattle.std.proofs.lemmas.List.{with_items_is}
+use Rattle.std.proofs.Common.{refl, rules}
 use Rattle.dex_lent.specs.Lent.{lent_of}
-use Rattle.dex_step.proofs.ActLaws.{consumed-same, crank-bytes-same}
 use Rattle.dex_step.proofs.ConsumeRowLaws.{consume-can, consume-stepped}
 use Rattle.dex_step.proofs.SoundParts.{vaults-kept}
 use Rattle.dex_step.proofs.acting_events.consume_row.Goals as goal

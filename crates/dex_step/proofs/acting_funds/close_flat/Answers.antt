@@ -1,4 +1,4 @@
-use Rattle.std.proofs.Common.{◌≡◌, ℕ, ◌+◌, ◌-◌, List, sym, subst, rules, arith}
+use Rattle.std.proofs.Common.{◌≡◌, ◌+◌, ◌-◌, subst, rules, arith}
 use Rattle.dex_lent.proofs.FlatLaws.{here-data, here-written}
 use Rattle.dex_step.specs.FundBytes.{CanClose}
 use Rattle.dex_step.proofs.acting_funds.close_flat.Goals as goal

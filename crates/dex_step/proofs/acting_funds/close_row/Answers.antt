@@ -1,8 +1,6 @@
-use Rattle.std.proofs.Common.{ap, arith, map, refl, rules, sym}
-use Rattle.std.proofs.lemmas.List.{with_items_is}
+use Rattle.std.proofs.Common.{refl, rules}
 use Rattle.dex_lent.specs.Lent.{lent_of}
-use Rattle.dex_step.specs.FundBytes.{HasClosed}
-use Rattle.dex_step.proofs.FundLaws.{changed-same, close-can, close-stepped}
+use Rattle.dex_step.proofs.FundLaws.{close-can, close-stepped}
 use Rattle.dex_step.proofs.SoundParts.{vaults-kept}
 use Rattle.dex_step.proofs.acting_funds.close_row.Goals as goal
 

@@ -1,5 +1,4 @@
-use Rattle.std.proofs.Common.{arith, refl, rules, ◌∙◌}
-use Rattle.std.proofs.lemmas.List.{with_items_is}
+use Rattle.std.proofs.Common.{refl}
 use Rattle.dex_lent.specs.Lent.{lent_of}
 use Rattle.dex_step.proofs.FundLaws.{disable-stepped}
 use Rattle.dex_step.proofs.SoundParts.{vaults-kept}

@@ -1,8 +1,6 @@
-use Rattle.std.proofs.Common.{ap, arith, map, refl, rules, sym}
-use Rattle.std.proofs.lemmas.List.{with_items_is}
+use Rattle.std.proofs.Common.{refl, rules}
 use Rattle.dex_lent.specs.Lent.{lent_of}
-use Rattle.dex_step.specs.FundBytes.{HasOpened}
-use Rattle.dex_step.proofs.FundLaws.{changed-same, init-can, init-stepped}
+use Rattle.dex_step.proofs.FundLaws.{init-can, init-stepped}
 use Rattle.dex_step.proofs.SoundParts.{vaults-kept}
 use Rattle.dex_step.proofs.acting_funds.init_row.Goals as goal
 

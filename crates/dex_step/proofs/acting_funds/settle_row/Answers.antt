@@ -1,7 +1,6 @@
-use Rattle.std.proofs.Common.{◌+◌, ap, arith, map, refl, rules, sym}
-use Rattle.std.proofs.lemmas.List.{with_items_is}
+use Rattle.std.proofs.Common.{◌+◌, refl, rules}
 use Rattle.dex_lent.specs.Lent.{lent_of}
-use Rattle.dex_step.proofs.FundLaws.{holds-less, settle-can, settle-coin, settle-fits, settle-pc, settle-stepped, settled-same}
+use Rattle.dex_step.proofs.FundLaws.{holds-less, settle-can, settle-coin, settle-fits, settle-pc, settle-stepped}
 use Rattle.dex_step.proofs.acting_funds.settle_row.Goals as goal
 
 pub settle-requires : goal.settle-requires

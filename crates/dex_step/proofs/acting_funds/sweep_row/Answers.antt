@@ -1,5 +1,4 @@
-use Rattle.std.proofs.Common.{arith, refl, rules, sym, ◌∙◌}
-use Rattle.std.proofs.lemmas.List.{with_items_is}
+use Rattle.std.proofs.Common.{refl, rules}
 use Rattle.dex_lent.specs.Lent.{lent_of}
 use Rattle.dex_step.proofs.FundLaws.{holds-less, sweep-held, sweep-stepped}
 use Rattle.dex_step.proofs.SoundParts.{held-same}

@@ -1,4 +1,4 @@
-use Rattle.std.proofs.Common.{◌≡◌, ℕ, ◌+◌, ◌-◌, List, take, drop, refl, sym, subst, rules, arith}
+use Rattle.std.proofs.Common.{◌≡◌, ℕ, ◌+◌, ◌-◌, List, refl, sym, subst, rules, arith}
 use Rattle.dex_lent.proofs.FlatLaws.{here-data, here-written}
 use Rattle.dex_step.specs.OrderActs.{CanOrder, order_bytes}
 use Rattle.dex_step.proofs.ActLaws.{order-bytes-same, ordered-same}

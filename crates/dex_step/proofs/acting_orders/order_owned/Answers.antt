@@ -1,4 +1,4 @@
-use Rattle.std.proofs.Common.{get_or, ◌≡◌, ◌<◌, List, ℕ, length, map, refl, rules, sym, ap, ◌∙◌, subst, arith}
+use Rattle.std.proofs.Common.{get_or, ◌≡◌, ◌<◌, List, ℕ, length, map, refl, rules, ap, ◌∙◌, subst, arith}
 use Rattle.std.proofs.lemmas.List.{length-map, map-set, with_items_is}
 use Rattle.dex_types.specs.Accounts.{orders_account_of}
 use Rattle.dex_accounts.specs.Owners.{changed_at}

@@ -1,11 +1,8 @@
-use Rattle.std.proofs.Common.{◌∙◌, List, ap, refl, sym}
-use Rattle.dex_types.specs.declared.addresses.Address.{Address}
-use Rattle.dex_accounts.specs.Decoded.{market_in}
+use Rattle.std.proofs.Common.{refl}
 use Rattle.dex_history.proofs.PriceLaws.{decoded-priced}
 use Rattle.dex_lent.specs.Lent.{lent_of}
 use Rattle.dex_plan.specs.Given.{asked_by}
 use Rattle.dex_plan.specs.declared.plan.Plan.TheVariants as plans
-use Rattle.dex_step.specs.ConsumeActs.{consume_step}
 use Rattle.dex_step.proofs.ApplyLaws.{first-holds, planned-as, stepped-as}
 use Rattle.dex_step.proofs.applying.apply_ask.Goals as goal
 
