@@ -149,17 +149,7 @@ all-seen : (P : Address → Type 0) (seen : Seen) → IfSeen P seen.coin → IfS
 all-seen P seen coin pc discount referrer =
     all-with_role P seen.coin _ coin (all-with_role P seen.pc _ pc (all-with_role P seen.discount _ discount (all-with_role P seen.referrer [] referrer (All-nil P))))
 
--- they are among these cells, where those of its roles are
-pub seen-home : (cells : List CellState) (seen : Seen) → All (IsHome cells) (roles_of seen) → All (λ (a : Address). is_among a cells ≡ true) (seen_wallets seen)
-seen-home cells seen home =
-    all-seen (λ (a : Address). is_among a cells ≡ true) seen (is-seen seen.coin (home 0 None (omega arith))) (is-seen seen.pc (home 1 None (omega arith)))
-    (is-seen seen.discount (home 2 None (omega arith))) (is-seen seen.referrer (home 3 None (omega arith)))
-  where
-    is-seen : (role : Option WalletSeen) → IsHome cells role → IfSeen (λ (a : Address). is_among a cells ≡ true) role
-    is-seen None here = tt
-    is-seen (Some wallet) here = here
-
--- and its roles hit them
+-- its roles hit them
 pub seen-hit : (seen : Seen) → All (λ (a : Address). any_hit a (roles_of seen) ≡ true) (seen_wallets seen)
 seen-hit seen =
     all-seen (λ (a : Address). any_hit a (roles_of seen) ≡ true) seen

@@ -18,7 +18,7 @@ use Rattle.dex_act.specs.declared.places.WalletPlaces.{WalletPlaces}
 use Rattle.dex_world.specs.World.{WalletState, World, role_at, seen_by, wallet_at}
 use Rattle.dex_wallet.specs.CellState.{CellState, HasSpare, IsWalletCell, seen_of}
 use Rattle.dex_act.specs.Wallets.{AreApart, ArePlacesAmong, Fits, IsHome, IsNamed, IsRight, IsRoleAt, SeesCells, any_hit, is_among, roles_of, wallet_state_of}
-use Rattle.dex_act.proofs.Seeing.{among-at, any-seen, seen-home, role_at-home, role_at-right, wallet_at-address}
+use Rattle.dex_act.proofs.Seeing.{among-at, any-seen, role_at-home, role_at-right, wallet_at-address}
 
 -- ---- one role
 
@@ -153,12 +153,6 @@ row-sees row world cells are named =
 -- the wallets that a row names are those that one of its roles sees
 pub named-hit : (row : PlainRow) (seen : Seen) (address : Address) → Sees (asked_of row) seen → names row address ≡ any_hit address (roles_of seen)
 named-hit row seen address sees = ap (list_any (is_same address)) (sym (seen-wallets row seen sees)) ∙ any-seen address seen
-
--- and those that it names are among the cells that it sees
-pub sees-named : (row : PlainRow) (seen : Seen) (cells : List CellState) → Sees (asked_of row) seen → SeesCells seen cells
-    → All (λ (address : Address). is_among address cells ≡ true) (row_wallets row)
-sees-named row seen cells sees sees_cells =
-    subst (All (λ (address : Address). is_among address cells ≡ true)) (seen-wallets row seen sees) (seen-home cells seen sees_cells.home)
 
 -- ---- the cells
 

@@ -14,7 +14,7 @@ use Rattle.dex_types.specs.Why.{why}
 use Rattle.dex_history.specs.Journal.{Call, Sees, asked_of, is_take, request_of}
 use Rattle.dex_movements.specs.Entries.{entry_by}
 use Rattle.dex_wallet.specs.CellState.{CellState}
-use Rattle.dex_cell.specs.CellState.{CanHold, HasActed, MarketCellState, call_on, entries_of, held_made, held_on, market_at, step_on}
+use Rattle.dex_cell.specs.CellState.{CanHold, HasActed, IsFor, MarketCellState, call_on, entries_of, held_made, held_on, market_at, step_on}
 use Rattle.dex_world.specs.Fold.{market_acted}
 use Rattle.dex_world.specs.Items.{idle_row}
 use Rattle.dex_world.specs.World.{MarketState, seen_by}
@@ -22,8 +22,9 @@ use Rattle.dex_world.proofs.ItemLaws.{idle-step, not-refused}
 use Rattle.dex_act.specs.declared.places.WalletPlaces.{WalletPlaces}
 use Rattle.dex_act.specs.declared.sight.Terms.{Terms}
 use Rattle.dex_act.specs.Opened.{market_state_of}
-use Rattle.dex_act.specs.Steps.{CanActOn, CanStep, IsTakeOrRefused, made_by, world_in_hand}
-use Rattle.dex_act.specs.Wallets.{Fits, SeesCells, roles_of}
+use Rattle.dex_act.specs.Steps.{CanStep, IsTakeOrRefused, made_by, world_in_hand}
+use Rattle.dex_act.specs.Wallets.{CanActAt, Fits, SeesCells, roles_of}
+use Rattle.dex_act.proofs.Rowing.{seen-at}
 use Rattle.dex_act.proofs.Sights.{placed-named, row-sees, sees-cells}
 
 -- ---- its market's cell
@@ -62,15 +63,19 @@ module _ (terms : Terms) (row : Row) (places : WalletPlaces) (seen : Seen) (mark
       subst (Sees (asked_of (row_of row))) (sym seen_is)
       (row-sees (row_of row) (world_in_hand terms cells) cells refl (placed-named cells (row_of row) places can.wallets.at))
 
-  pub can-act : All Fits (roles_of seen) → CanActOn row seen market cells
+  for : IsFor row seen market
+  for = record { market = can.on; sees = sees-row }
+
+  pub can-act : All Fits (roles_of seen) → CanActAt row seen places market cells
   can-act fits = record {
-    for = record { market = can.on; sees = sees-row };
+    row = for;
     market = can.market;
     spare = can.spare;
-    sees =
+    wallets =
         subst (λ (s : Seen). SeesCells s cells) (sym seen_is)
         (sees-cells (row_of row) (world_in_hand terms cells) cells refl can.wallets.apart can.wallets.kept (placed-named cells (row_of row) places can.wallets.at)
         can.wallets.spare (subst (λ (s : Seen). All Fits (roles_of s)) seen_is fits));
+    places = seen-at row seen market cells places for can.wallets.at;
   }
 
 -- a leg that waits is a take that would not be refused

@@ -2,13 +2,12 @@
 use Rattle.std.specs.Prelude.{◌≡◌, ◌++◌, ◌∷◌, ◌||◌, ◌&&◌, Bool, true, false, not, List, [], None, is_some, map}
 use Rattle.std.specs.List.{All}
 use Rattle.dex_types.specs.declared.replies.Reply.{Reply}
-use Rattle.dex_types.specs.declared.rows.Row.{Row}
 use Rattle.dex_types.specs.declared.rows.Seen.{Seen}
 use Rattle.dex_types.specs.Market.{Market}
 use Rattle.dex_types.specs.Rows.{PlainRow, row_of}
 use Rattle.dex_types.specs.Why.{why}
 use Rattle.dex_history.specs.Journal.{Call, Sees, asked_of, is_refusal, is_take, request_of, row_step}
-use Rattle.dex_cell.specs.CellState.{HasSpare, IsFor, IsMarketCell, MarketCellState, call_made, market_at}
+use Rattle.dex_cell.specs.CellState.{HasSpare, IsMarketCell, MarketCellState, call_made, market_at}
 use Rattle.dex_wallet.specs.CellState as wallet
 use Rattle.dex_wallet.specs.CellState.{CellState, IsWalletCell}
 use Rattle.dex_world.specs.Fold.{market_acted, names}
@@ -20,7 +19,7 @@ use Rattle.dex_act.specs.declared.steps.Legs.{Legs}
 use Rattle.dex_act.specs.declared.steps.RowDone.{RowDone}
 use Rattle.dex_act.specs.Acted.{HaveActed}
 use Rattle.dex_act.specs.Opened.{market_state_of}
-use Rattle.dex_act.specs.Wallets.{AreApart, ArePlacesAmong, SeesCells, wallet_state_of}
+use Rattle.dex_act.specs.Wallets.{AreApart, ArePlacesAmong, wallet_state_of}
 
 -- ---- what a row sees
 
@@ -61,13 +60,6 @@ pub record CanStep (row : PlainRow) (places : WalletPlaces) (cell : MarketCellSt
   pub market : IsMarketCell cell
   pub spare : HasSpare cell
   pub wallets : HasWallets row places cells
-
--- a row that sees so much can act on this market and on these wallets
-pub record CanActOn (row : Row) (seen : Seen) (cell : MarketCellState) (wallets : List CellState) : Type 0 where
-  pub for : IsFor row seen cell
-  pub market : IsMarketCell cell
-  pub spare : HasSpare cell
-  pub sees : SeesCells seen wallets
 
 -- what is no take is refused by the market
 abbrev pub IsTakeOrRefused : Terms → PlainRow → MarketCellState → List CellState → Type 0

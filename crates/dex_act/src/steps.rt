@@ -5,10 +5,10 @@ ghost use Rattle.dex_types.specs.Rows.{row_of};
 ghost use Rattle.dex_types.specs.Why.{why};
 ghost use Rattle.dex_history.specs.Journal.{request_of};
 ghost use Rattle.dex_cell.specs.CellState.{CanHold, IsFor, market_at};
-ghost use Rattle.dex_act.specs.Steps.{CanActOn, CanStep, CanStepBoth, HasDone, IsStepOn, AreStepsOn, IsRecorded};
-ghost use Rattle.dex_act.specs.Wallets.{ArePlacesAmong};
+ghost use Rattle.dex_act.specs.Steps.{CanStep, CanStepBoth, HasDone, IsStepOn, AreStepsOn, IsRecorded};
+ghost use Rattle.dex_act.specs.Wallets.{CanActAt};
 
-use crate::places::WalletPlaces;
+use crate::places::{Asked, WalletPlaces};
 use crate::rows::{act, hold};
 use crate::sight::{Terms, see};
 use dex_cell::MarketCell;
@@ -43,20 +43,18 @@ pub struct RowDone {
 fn act_or_hold(
     market: &mut MarketCell,
     wallets: &mut [WalletCell],
-    asking: &RowAt<'_>,
-    seen: &Seen,
+    asked: &Asked,
     waits: bool,
 ) -> Reply
-    requires row { CanActOn asking.now.row.now seen.now market.old wallets.old }
-    requires at { ArePlacesAmong wallets.old (row_of asking.now.row.now) asking.now.places }
-    requires held { waits ≡ true → CanHold asking.now.row.now seen.now market.old }
-    ensures { HasDone (row_of asking.now.row.now) waits seen.now result market.old market.new wallets.old wallets.new }
+    requires can { CanActAt asked.now.row.now asked.now.seen.now asked.now.places.now market.old wallets.old }
+    requires held { waits ≡ true → CanHold asked.now.row.now asked.now.seen.now market.old }
+    ensures { HasDone (row_of asked.now.row.now) waits asked.now.seen.now result market.old market.new
+        wallets.old wallets.new }
 {
-    let RowAt { row, places } = asking;
     if waits {
-        hold(market, wallets, row, seen, places)
+        hold(market, wallets, asked)
     } else {
-        act(market, wallets, row, seen, places)
+        act(market, wallets, asked)
     }
 }
 
@@ -68,15 +66,19 @@ fn done(
     seen: &Seen,
     waits: bool,
 ) -> RowDone
-    requires row { CanActOn asking.now.row.now seen.now market.old wallets.old }
-    requires at { ArePlacesAmong wallets.old (row_of asking.now.row.now) asking.now.places }
+    requires can { CanActAt asking.now.row.now seen.now asking.now.places market.old wallets.old }
     requires held { waits ≡ true → CanHold asking.now.row.now seen.now market.old }
     ensures seen { result.seen.value ≡ seen.now }
     ensures recorded { IsRecorded (row_of asking.now.row.now) waits (market_at market.old) result }
     ensures done { HasDone (row_of asking.now.row.now) waits result.seen.value result.reply market.old market.new
         wallets.old wallets.new }
 {
-    let reply = act_or_hold(market, wallets, asking, seen, waits);
+    let asked = Asked {
+        row: asking.row,
+        seen,
+        places: &asking.places,
+    };
+    let reply = act_or_hold(market, wallets, &asked, waits);
     RowDone {
         seen: Kept::of(seen),
         entry: Kept::of(market.last()),

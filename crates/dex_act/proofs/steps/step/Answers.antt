@@ -2,8 +2,8 @@ use Rattle.std.proofs.Common.{◌∙◌}
 use Rattle.dex_act.proofs.StepLaws.{can-act, sees-row}
 use Rattle.dex_act.proofs.steps.step.Goals as goal
 
-pub done-requires-clause-row : goal.done-requires-clause-row
-done-requires-clause-row c =
+pub done-requires-clause-can : goal.done-requires-clause-can
+done-requires-clause-can c =
     can-act c.args.terms.now c.args.asking.now.row.now c.args.asking.now.places c.see.new.seen c.args.market.now c.args.wallets.now c.see.ensures.seen c.requires c.see.ensures.fits
 
 pub returns : goal.returns

@@ -27,8 +27,8 @@ is_refused-two_refused-requires c = record {
 
 -- ---- the first acts or waits
 
-pub done-one-requires-clause-row : goal.done-one-requires-clause-row
-done-one-requires-clause-row c =
+pub done-one-requires-clause-can : goal.done-one-requires-clause-can
+done-one-requires-clause-can c =
     can-act c.args.terms.now c.args.legs.now.first.row.now c.args.legs.now.first.places c.see.new.seen c.args.first.now c.args.wallets.now c.see.ensures.seen c.requires.first_can
     c.see.ensures.fits
 
@@ -63,13 +63,10 @@ can c =
     can-behind (first c) (second c) c.requires.share c.waits-one_waits.result c.see.new.seen (market_at c.args.first.now) c.args.wallets.now c.done-one.new.wallets
     (moved c) c.args.legs.now.second.places c.args.second.now c.requires.second_can
 
-pub done-two-requires-clause-row : goal.done-two-requires-clause-row
-done-two-requires-clause-row c =
+pub done-two-requires-clause-can : goal.done-two-requires-clause-can
+done-two-requires-clause-can c =
     can-act c.args.terms.now c.args.legs.now.second.row.now c.args.legs.now.second.places c.see-2.new.seen c.args.second.now c.done-one.new.wallets
-    (c.see-2.ensures.seen ∙ sym (same (goal.at.done-two-requires-clause-row c).After-done-one)) (can (goal.at.done-two-requires-clause-row c).After-done-one) c.see-2.ensures.fits
-
-pub done-two-requires-clause-at : goal.done-two-requires-clause-at
-done-two-requires-clause-at c = (can (goal.at.done-two-requires-clause-at c).After-done-one).wallets.at
+    (c.see-2.ensures.seen ∙ sym (same (goal.at.done-two-requires-clause-can c).After-done-one)) (can (goal.at.done-two-requires-clause-can c).After-done-one) c.see-2.ensures.fits
 
 pub done-two-requires-clause-held : goal.done-two-requires-clause-held
 done-two-requires-clause-held c =
