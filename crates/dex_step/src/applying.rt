@@ -70,7 +70,8 @@ pub fn apply_ask<O: StepsOrders>(
     }
 }
 
-/// The same on accounts that are lent one by one.
+/// Does what was decided on accounts that are lent one by one: as many parameters as a market has accounts, since the
+/// checker ties no borrow that a record takes from a field of a record.
 #[inline]
 fn apply_apart(
     address: Address,
