@@ -70,7 +70,8 @@ pub fn apply_ask<O: StepsOrders>(
     }
 }
 
-/// The same on accounts that are lent one by one.
+/// Lends the accounts in one record. It takes them one by one, since the checker follows a record of loans only where
+/// they are loans of a call.
 #[inline]
 fn apply_apart(
     address: Address,
