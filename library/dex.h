@@ -84,10 +84,11 @@ uint8_t dex_chained_wide(uint32_t rows, const uint8_t *script, size_t length, ui
 
 /* ---- one instruction on the account bytes of one market, in place, as a ledger's program does it
  *
- * What the caller is trusted with beside the points above: the accounts were found sound by an audit (of a dump that has them), or left by
- * dex_process, and nobody else changed them; each wallet is a token account of 165 bytes that stands in no other place of the call, and
- * what it holds and what the vault of its mint holds are below 2^64 together. None of these calls takes memory but dex_reply_text, and
- * none costs by the sizes of accounts but dex_pending, which reads the events that are pending. */
+ * What the caller is trusted with beside the points above: the accounts were found sound by an audit (of a dump that has
+ * them), or left by dex_process, and nobody else changed them; `orders` has whole accounts; each wallet that is named is a
+ * token account of 165 bytes, no two have one address, and none lies in another place of the call; the sums are those of
+ * dex_pending, or left by dex_process. None of these calls takes memory but dex_reply_text. dex_pending reads the events
+ * that are pending; dex_process looks for an open-orders account from the first on. */
 
 typedef struct {
   uint8_t bytes[32];

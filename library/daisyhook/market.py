@@ -77,8 +77,8 @@ class Market:
     50
 
     `parts` are the accounts by name, `orders` all open-orders accounts, `wallets` the token accounts by address: bytearrays, to be read
-    and not written. An instruction's cost does not hang on their sizes. What is proved is what `dex_process` does to the bytes; see
-    docs/LIBRARY.md.
+    and not written. An open-orders account is looked for from the first on. What is proved is what `dex_process` does to the bytes;
+    see docs/LIBRARY.md.
     """
 
     def __init__(self, dump: Text, address: str | None = None, *, program: str = 'serum', clock: int = 0,

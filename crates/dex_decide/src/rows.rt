@@ -90,7 +90,7 @@ pub fn taker_by(ask: &Ask<'_>, seen: &Seen, ix: &Ix) -> Taker
     }
 }
 
-/// The same of a row.
+/// The taker of the new order or of the take that a row's instruction states.
 pub fn taker_of(row: &Row, seen: &Seen, ix: &Ix) -> Taker
     requires { IsSome (taker_in ix.now (request_of (row_of row.now)) seen.now) }
     ensures { taker_in ix.entry.now (request_of (row_of row.entry.now)) seen.now ≡ Some result }

@@ -70,7 +70,8 @@ pub fn apply_ask<O: StepsOrders>(
     }
 }
 
-/// The same on accounts that are lent one by one.
+/// What `apply_ask` does, on accounts that are lent one by one. The arguments are many since the checker follows no
+/// record whose borrows are handed on from fields of a `Vec`.
 #[inline]
 fn apply_apart(
     address: Address,
