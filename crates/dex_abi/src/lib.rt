@@ -2,13 +2,15 @@
 #![tactic(auto)]
 
 mod numbers;
+mod processing;
 mod reading;
 mod records;
 mod telling;
 mod text;
 
 pub use numbers::{ReplyNumbers, Wide};
+pub use processing::{count_pending, process_in};
 pub use reading::reply_in;
-pub use records::{Instruction, MarketBytes, WalletBytes, WalletsBytes};
+pub use records::{Instruction, MarketBytes, WalletsBytes};
 pub use telling::numbers_of;
 pub use text::reply_text;

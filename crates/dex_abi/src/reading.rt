@@ -7,7 +7,7 @@ use crate::numbers::{ReplyNumbers, Wide};
 use dex_types::{Address, BadData, Refusal, Reply};
 
 /// The number of two halves.
-fn whole(wide: Wide) -> u128
+pub(crate) fn whole(wide: Wide) -> u128
     ensures { result ≡ spec.whole wide }
 {
     u128::from(wide.low) + 0x1_0000_0000_0000_0000 * u128::from(wide.high)

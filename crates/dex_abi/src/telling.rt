@@ -11,7 +11,7 @@ use dex_types::{Address, Refusal, Reply};
 const HALF: u128 = 0x1_0000_0000_0000_0000;
 
 /// A number by its halves.
-fn wide(number: u128) -> Wide
+pub(crate) fn wide(number: u128) -> Wide
     ensures { spec.whole result ≡ number }
 {
     Wide {
