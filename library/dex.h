@@ -60,8 +60,8 @@ uint8_t dex_make(uint64_t number, uint32_t rows, uint8_t *room, size_t room_size
 /* The summary of what that script leaves. */
 uint8_t dex_bulk(uint64_t number, uint32_t rows, uint8_t *room, size_t room_size, size_t *size);
 
-/* The same within the widest limits: 65,535 open-orders accounts of a market, 65,535 wallets, 256 mints, 256 markets and 2^32 - 1
- * instruction rows. */
+/* The same within the widest limits: 65,535 open-orders accounts of a market, 65,535 wallets, 256 mints, 256 markets
+ * and 2^32 - 1 instruction rows. */
 uint8_t dex_replay_wide(const uint8_t *script, size_t length, uint8_t *room, size_t room_size, size_t *size);
 uint8_t dex_dump_wide(const uint8_t *script, size_t length, uint8_t *room, size_t room_size, size_t *size);
 uint8_t dex_audit_wide(const uint8_t *dump, size_t length, uint8_t *room, size_t room_size, size_t *size);
@@ -84,10 +84,11 @@ uint8_t dex_chained_wide(uint32_t rows, const uint8_t *script, size_t length, ui
 
 /* ---- one instruction on the account bytes of one market, in place, as a ledger's program does it
  *
- * What the caller is trusted with beside the points above: the accounts were found sound by an audit (of a dump that has them), or left by
- * dex_process, and nobody else changed them; each wallet is a token account of 165 bytes that stands in no other place of the call, and
- * what it holds and what the vault of its mint holds are below 2^64 together. None of these calls takes memory but dex_reply_text, and
- * none costs by the sizes of accounts but dex_pending, which reads the events that are pending. */
+ * What the caller is trusted with beside the points above: the accounts were found sound by an audit (of a dump that
+ * has them), or left by dex_process, and nobody else changed them; `orders` has whole accounts; each wallet that is
+ * named is a token account of 165 bytes, no two have one address, and none lies in another place of the call; the sums
+ * are those of dex_pending, or left by dex_process. None of these calls takes memory but dex_reply_text. dex_pending
+ * reads the events that are pending; dex_process looks for an open-orders account from the first on. */
 
 typedef struct {
   uint8_t bytes[32];
@@ -106,9 +107,10 @@ typedef struct {
 
 enum { DEX_WALLET_SIZE = 165, DEX_ORDERS_SIZE = 3228, DEX_ORDERS_RECORD = 32 + DEX_ORDERS_SIZE };
 
-/* All accounts of one market. `authority` is the person who signs for it and stands in no account. `orders` are the open-orders accounts
- * one after another, each as its address and its 3,228 bytes. `pending_coin` and `pending_pc`, what makers' fills in the event queue are
- * still to take off totals, are set by dex_pending and kept by dex_process. */
+/* All accounts of one market. `authority` is the person who signs for it and stands in no account. `orders` are the
+ * open-orders accounts one after another, each as its address and its 3,228 bytes. `pending_coin` and `pending_pc`,
+ * what makers' fills in the event queue are still to take off totals, are set by dex_pending and kept by
+ * dex_process. */
 typedef struct {
   dex_address address, authority;
   dex_bytes market, coin_vault, pc_vault, requests, events, bids, asks, orders;
@@ -128,9 +130,9 @@ typedef struct {
 
 enum { DEX_NO_WALLET = 255, DEX_SERUM = 0, DEX_OPENBOOK = 1 };
 
-/* An instruction: who signs it, the open-orders accounts that it names, its data (docs/FORMATS.md), the clock, and which of the wallets it
- * names under each role: 0 to 3, or DEX_NO_WALLET; two roles may name one. `srm` and `msrm` are the mints of discounts, where
- * `has_srm` and `has_msrm` are not 0. */
+/* An instruction: who signs it, the open-orders accounts that it names, its data (docs/FORMATS.md), the clock, and
+ * which of the wallets it names under each role: 0 to 3, or DEX_NO_WALLET; two roles may name one. `srm` and `msrm` are
+ * the mints of discounts, where `has_srm` and `has_msrm` are not 0. */
 typedef struct {
   dex_address signer;
   const dex_address *named;
@@ -155,10 +157,11 @@ enum {
   DEX_DONE = 7
 };
 
-/* A reply. Of a refusal `reason` is its number, 1 to 24 (docs/REFUSED.md), and its values are: `rule` (1); `address`, an owner's, an
- * authority's, a mint's or an account's (5 to 8 and 16); `count` slots and `held` funds (9); `clock` and `latest` (13); `order` (19);
- * `amount`, what was got, is needed or would be brought, and `balance` (20, 22, 23; of 20 the amount alone); `count` needed and `room`
- * (21); `held` in the vault and `pending` (24). A field that is not named for its kind is 0. */
+/* A reply. Of a refusal `reason` is its number, 1 to 24 (docs/REFUSED.md), and its values are: `rule` (1); `address`,
+ * an owner's, an authority's, a mint's or an account's (5 to 8 and 16); `count` slots and `held` funds (9); `clock` and
+ * `latest` (13); `order` (19); `amount`, what was got, is needed or would be brought, and `balance` (20, 22, 23; of 20
+ * the amount alone); `count` needed and `room` (21); `held` in the vault and `pending` (24). A field that is not named
+ * for its kind is 0. */
 typedef struct {
   uint8_t kind, reason, rule, slot;
   uint32_t count, room;
@@ -179,7 +182,8 @@ uint8_t dex_reply_text(const dex_reply *reply, uint8_t *room, size_t room_size, 
 
 /* ---- with memory from malloc: nothing below is proved */
 
-/* A function of bytes alone: dex_replay, dex_dump, dex_audit, dex_worth or dex_shards, or one of them within the widest limits. */
+/* A function of bytes alone: dex_replay, dex_dump, dex_audit, dex_worth or dex_shards, or one of them within the widest
+ * limits. */
 typedef uint8_t dex_command(const uint8_t *bytes, size_t length, uint8_t *room, size_t room_size, size_t *size);
 
 /* Room that is enough for most texts of so many bytes of input. */

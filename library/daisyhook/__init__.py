@@ -12,7 +12,8 @@ parsed right is tested. All amounts are native units of a token (the smallest th
 base that an order can move, `Market.coin_lot` native units of it, and a price is in pc lots a coin lot, of `Market.pc_lot` native units of
 quote. Text may be given in place of bytes.
 
-What reads a dump or a script takes `limits`: `STANDARD`, those of the program, or `WIDE`, for markets of a ledger's size.
+What reads a dump or a script takes `limits`: `STANDARD`, those of the program, or `WIDE`, for markets of a ledger's
+size.
 
 The commands `run` and `batch` need threads of their own and are not here: they are the program's alone.
 

@@ -1,6 +1,6 @@
-"""The commands as a command: python3 -m daisyhook WORDS < SCRIPT. Words, streams and exit status are those of the program `dex`, which
-docs/FORMATS.md tells. With `--wide` in front of the words a dump and a script are read within the widest limits. `run` and `batch` need
-threads that the library has not: status 70, and nothing is run."""
+"""The commands as a command: python3 -m daisyhook WORDS < SCRIPT. Words, streams and exit status are those of the
+program `dex`, which docs/FORMATS.md tells. With `--wide` in front of the words a dump and a script are read within the
+widest limits. `run` and `batch` need threads that the library has not: status 70, and nothing is run."""
 
 from __future__ import annotations
 

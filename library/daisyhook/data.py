@@ -1,4 +1,5 @@
-"""Instruction data: what an instruction of `Market.process` says. docs/FORMATS.md has the grammar; amounts are as in `rows`."""
+"""Instruction data: what an instruction of `Market.process` says. docs/FORMATS.md has the grammar; amounts are as in
+`rows`."""
 
 from __future__ import annotations
 
@@ -14,7 +15,8 @@ SELF_TRADE_NUMBERS, ORDER_TYPE_NUMBERS = ({word: at for at, word in enumerate(wo
 
 
 def data_of(tag: int, *fields: tuple[int, int]) -> bytes:
-    """The data of a tag, and numbers of so many bytes each. Raises ValueError where a number has no place in its field."""
+    """The data of a tag, and numbers of so many bytes each. Raises ValueError where a number has no place in its
+    field."""
     return b'\0' + b''.join(number(value, 'a number', 0, 256**length - 1).to_bytes(length, 'little') for value, length in ((tag, 4), *fields))
 
 

@@ -63,8 +63,9 @@ def level_of(line: bytes) -> Level:
 class Desk:
     """A live exchange. `do` lets a row act and gives its entry; `book` and `dump` show what stands now.
 
-    `script` is set-up rows, a whole script or a dump, or any text that `replay` takes; it must be no longer than 2^40 bytes. What it
-    is refused for is raised, as `replay` raises it. `timeout` is how many seconds each call waits for its answers, None as long as it takes.
+    `script` is set-up rows, a whole script or a dump, or any text that `replay` takes; it must be no longer than 2^40
+    bytes. What it is refused for is raised, as `replay` raises it. `timeout` is how many seconds each call waits for
+    its answers, None as long as it takes.
 
     A row with a fault raises ScriptRefused, changes nothing, and the session goes on. DeskGone is raised where there is no session any
     more: the program is missing, it ended or was killed, or it did not answer in time (then it is killed); and by each call from then on.

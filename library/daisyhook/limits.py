@@ -7,7 +7,8 @@ from dataclasses import dataclass
 
 @dataclass(frozen=True)
 class Limits:
-    """The most that is read: mints, wallets, markets, open-orders accounts of a market, instruction rows, bytes of input.
+    """The most that is read: mints, wallets, markets, open-orders accounts of a market, instruction rows, bytes of
+    input.
 
     There are two, `STANDARD` and `WIDE`; `suffix` ends the names of the library's functions that keep to them.
     """

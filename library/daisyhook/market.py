@@ -68,7 +68,8 @@ def reply_of(told: tuple) -> Reply:
 
 
 class Market:
-    """One market's accounts and the wallets that its traders use, as bytes in memory. An instruction acts on them in place.
+    """One market's accounts and the wallets that its traders use, as bytes in memory. An instruction acts on them in
+    place.
 
     >>> market = Market(daisyhook.dump(script))
     >>> market.process('ann', data.new_order(side='ask', price=50, lots=4, client=7), named=('amy',), coin='ann_coin').lots_resting
@@ -76,15 +77,16 @@ class Market:
     >>> market.depth(5).asks[0].price
     50
 
-    `parts` are the accounts by name, `orders` all open-orders accounts, `wallets` the token accounts by address: bytearrays, to be read
-    and not written. An instruction's cost does not hang on their sizes. What is proved is what `dex_process` does to the bytes; see
-    docs/LIBRARY.md.
+    `parts` are the accounts by name, `orders` all open-orders accounts, `wallets` the token accounts by address:
+    bytearrays, to be read and not written. An open-orders account is looked for from the first on. What is proved is
+    what `dex_process` does to the bytes; see docs/LIBRARY.md.
     """
 
     def __init__(self, dump: Text, address: str | None = None, *, program: str = 'serum', clock: int = 0,
                  wallets: dict[str, bytearray] | None = None) -> None:
-        """Takes the accounts of a market from a dump, which is audited first; `address` may be left out where it has one market. Markets
-        of one dump whose traders have wallets in common share them: `wallets` are those of the first.
+        """Takes the accounts of a market from a dump, which is audited first; `address` may be left out where it has
+        one market. Markets of one dump whose traders have wallets in common share them: `wallets` are those of the
+        first.
 
         Raises DumpRefused, or AuditFailed where there are findings.
         """
@@ -157,8 +159,8 @@ class Market:
                 discount: str | None = None, referrer: str | None = None) -> Reply:
         """Does an instruction on the accounts, or refuses it and changes nothing.
 
-        `signer` signs it, `named` are the open-orders accounts that it names, in their order, and the roles are wallets. `data` is
-        what it says (module `data`). KeyError where a role names no wallet of this market's dump.
+        `signer` signs it, `named` are the open-orders accounts that it names, in their order, and the roles are
+        wallets. `data` is what it says (module `data`). KeyError where a role names no wallet of this market's dump.
         """
         roles, words, size = (coin, pc, discount, referrer), tuple(named), len(data)
         _, wallets, numbers = self._roles.get(roles) or self._roles_of(roles)
@@ -223,7 +225,8 @@ def text_of(data: bytes | bytearray) -> str:
 
 
 def market_row(rows: dict[str, list[list[str]]], address: str | None) -> tuple[str, list[str]]:
-    """The address and the row of the market of this address, or of the one that there is. KeyError where there is none."""
+    """The address and the row of the market of this address, or of the one that there is. KeyError where there is
+    none."""
     found = {address_of(row[0]): row for row in rows['market']}
     if address is None and len(found) == 1:
         return next(iter(found.items()))

@@ -1,5 +1,5 @@
-/* An instruction on account bytes: reads the dump of one market from standard input, lets the person `ann` ask for 4 lots at 50 with her
- * account `amy` and her wallet `ann_coin`, and prints what it is answered and how many orders rest.
+/* An instruction on account bytes: reads the dump of one market from standard input, lets the person `ann` ask for 4
+ * lots at 50 with her account `amy` and her wallet `ann_coin`, and prints what it is answered and how many orders rest.
  *
  *     cc -o market library/examples/market.c library/out/libdex.a && ./dex dump < SCRIPT | ./market */
 #include "../dex.h"

@@ -1,4 +1,5 @@
-"""Instructions on a market's account bytes, in this process' memory: Ann asks, Bob buys, a crank pays both, and they settle.
+"""Instructions on a market's account bytes, in this process' memory: Ann asks, Bob buys, a crank pays both, and they
+settle.
 
 From the top of the repository: PYTHONPATH=library python3 library/examples/market.py
 """

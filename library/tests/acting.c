@@ -1,5 +1,6 @@
-/* Rows of one market by dex_process: acting FILE.. reads files that acting.py wrote, lets each row act on blocks of just the accounts' sizes,
- * and compares what it is answered, that a refusal changes nothing, and the last accounts. Prints 'N passed, M failed'. */
+/* Rows of one market by dex_process: acting FILE.. reads files that acting.py wrote, lets each row act on blocks of
+ * just the accounts' sizes, and compares what it is answered, that a refusal changes nothing, and the last accounts.
+ * Prints 'N passed, M failed'. */
 #include "../dex.h"
 #include <stdio.h>
 #include <string.h>

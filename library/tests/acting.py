@@ -1,9 +1,9 @@
 """Rows by `Market.process`, beside a replay of the same rows.
 
-acting.py ROOT [FOLDER] plays each script of examples/ and tests/cases that is a script without swaps, row by row, on the bytes of its markets: the
-replies, the accounts and the wallets are those of the replay, byte by byte, and a refusal changes nothing. Then made scripts, and random rows
-with all instructions. Where a FOLDER is named, the rows of each market that is alone are written there for acting.c. Prints
-'N passed, M failed'.
+acting.py ROOT [FOLDER] plays each script of examples/ and tests/cases that is a script without swaps, row by row, on
+the bytes of its markets: the replies, the accounts and the wallets are those of the replay, byte by byte, and a refusal
+changes nothing. Then made scripts, and random rows with all instructions. Where a FOLDER is named, the rows of each
+market that is alone are written there for acting.c. Prints 'N passed, M failed'.
 """
 
 import random
@@ -41,7 +41,8 @@ def sized(data: bytes) -> bytes:
 
 
 class Steps:
-    """The accounts of a market, its rows with what each is answered, and the accounts that they leave, as acting.c reads them."""
+    """The accounts of a market, its rows with what each is answered, and the accounts that they leave, as acting.c
+    reads them."""
 
     def __init__(self, market: daisyhook.Market) -> None:
         self.market, self.steps = market, []

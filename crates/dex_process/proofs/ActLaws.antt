@@ -1,5 +1,5 @@
 -- What is decided of an instruction, on a market and on lent wallets.
-use Rattle.std.proofs.Common.{◌≡◌, ℕ, ◌+◌, ⊎_elim, List, Bool, true, false, Option, Some, None, Result, Ok, Err, refl, sym, ap, subst, ◌∙◌}
+use Rattle.std.proofs.Common.{◌≡◌, ℕ, ⊎_elim, List, Bool, true, false, Option, Some, None, Result, Ok, Err, refl, sym, ap, subst, ◌∙◌}
 use Rattle.std.specs.Prelude.{is_some, if◌then◌else◌}
 use Rattle.std.specs.Result.{is_err}
 use Rattle.std.proofs.lemmas.Bool.{cases_Bool, false≢true}
@@ -18,7 +18,7 @@ use Rattle.dex_process.specs.Process.{Acting, CanAct, HasActed, HasProcessed, ac
 use Rattle.dex_purse.specs.declared.lent_wallets.Roles.{Roles}
 use Rattle.dex_purse.specs.declared.lent_wallets.Slot.{Slot}
 use Rattle.dex_purse.specs.declared.lent_wallets.Slot.TheVariants.{First, Second, Third, Fourth}
-use Rattle.dex_purse.specs.Purse.{AreApart, AreWallets, CanMoveEach, Purse, Sees, address_as, amount_for, brought_at, is_slot, moved, moved_by, taken_at, wallet_at}
+use Rattle.dex_purse.specs.Purse.{AreApart, CanMoveEach, Purse, address_as, amount_for, brought_at, is_slot, moved, moved_by, taken_at, wallet_at}
 use Rattle.dex_purse.proofs.PurseLaws.{can-each, seen-by}
 use Rattle.dex_ring.specs.declared.pending_fills.PendingFills.{PendingFills}
 use Rattle.dex_ring.specs.PendingFills.{pending_fills_of}

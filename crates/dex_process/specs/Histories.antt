@@ -1,6 +1,12 @@
 -- Instructions that are processed one after the other on one market.
-use Rattle.std.specs.Prelude.{◌≡◌, List, [], ◌∷◌, map}
+use Rattle.std.specs.Prelude.{◌≡◌, List, [], ◌∷◌}
+use Rattle.dex_accounts.specs.Decoded.{market_in}
 use Rattle.dex_history.specs.Journal.{Asked, Call, Sees, asked_step, places}
+use Rattle.dex_plan.specs.declared.ask.Ask.{Ask}
+use Rattle.dex_plan.specs.Given.{asked_by}
+use Rattle.dex_process.specs.Process.{Acting}
+use Rattle.dex_purse.specs.declared.lent_wallets.Roles.{Roles}
+use Rattle.dex_purse.specs.Purse.{Names}
 use Rattle.dex_types.specs.declared.replies.Reply.{Reply}
 use Rattle.dex_types.specs.declared.rows.Seen.{Seen}
 use Rattle.dex_types.specs.Market.{Market}
@@ -23,6 +29,18 @@ pub record IsProcessed (one : Processed) (m : Market) : Type 0 where
   pub sees : Sees one.asked one.seen
   pub reply : one.reply ≡ (asked_step one.asked one.seen m).reply
   pub left : one.left ≡ (asked_step one.asked one.seen m).market
+
+-- an instruction that is done on lent accounts and wallets, as a journal tells it: a row of this market that asks for
+-- it and names the wallets of its roles
+pub record IsAskedBy (asked : Asked) (ask : Ask) (roles : Roles) (before : Acting) : Type 0 where
+  pub market : asked.market ≡ (market_in before.accounts).listing.address
+  pub request : asked.request ≡ asked_by ask
+  pub names : Names asked roles before.wallets
+
+-- what `process` did, as one of a sequence
+abbrev pub processed_as : Asked → Seen → Reply → Acting → Processed
+processed_as asked seen reply after =
+    record { asked = asked; seen = seen; reply = reply; left = market_in after.accounts }
 
 -- these were, one after the other: each on what the last one left
 abbrev pub AreProcessed : Market → List Processed → Type 0

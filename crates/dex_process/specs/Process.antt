@@ -1,5 +1,5 @@
 -- What an instruction does to the accounts of a market and to the wallets that it names.
-use Rattle.std.specs.Prelude.{ℕ, List, ◌≡◌, Bool, true}
+use Rattle.std.specs.Prelude.{ℕ, List, ◌≡◌, true}
 use Rattle.dex_accounts.specs.Decoded.{AreSound, market_in}
 use Rattle.dex_history.specs.Journal.{is_refusal}
 use Rattle.dex_plan.specs.declared.ask.Ask.{Ask}

@@ -1,4 +1,4 @@
-//! The same on accounts that lie apart, as C hands them in.
+//! One instruction on accounts that lie apart, as C hands them in.
 
 ghost use Rattle.std.specs.Prelude.{◌≡◌};
 ghost use Rattle.dex_accounts.specs.Decoded.{AreSound, market_in};
@@ -16,7 +16,8 @@ use dex_ring::PendingFills;
 use dex_types::{Address, Reply};
 
 /// What `process` does, on the pieces of a market and of four wallets; `orders` are the open-orders accounts one after
-/// another, each as 32 bytes of its address and 3,228 of its data.
+/// another, each as 32 bytes of its address and 3,228 of its data. The arguments are many since the checker follows no
+/// record whose borrows are handed on from fields of another.
 pub fn process_apart(
     address: Address,
     authority: Address,

@@ -1,5 +1,8 @@
-use Rattle.dex_process.proofs.HistoryLaws.{history-left, history-replies, legal-history}
+use Rattle.dex_process.proofs.HistoryLaws.{history-left, history-replies, legal-history, was-processed}
 use Rattle.dex_process.proofs.laws.instructions_one_after_another_are_a_legal_history.Goals as goal
+
+pub returns-clause-done : goal.returns-clause-done
+returns-clause-done c = was-processed
 
 pub returns-clause-legal : goal.returns-clause-legal
 returns-clause-legal c = legal-history

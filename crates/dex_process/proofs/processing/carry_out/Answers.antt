@@ -1,4 +1,3 @@
-use Rattle.std.proofs.Common.{sym}
 use Rattle.dex_lent.specs.Lent.{lent_of}
 use Rattle.dex_movements.specs.Amounts.{transfers_of}
 use Rattle.dex_process.proofs.ActLaws as laws

@@ -1,5 +1,4 @@
-use Rattle.std.proofs.Common.{◌≡◌, ◌∙◌, refl, sym, ap, subst, Ok, Err}
-use Rattle.dex_accounts.specs.Decoded.{market_in}
+use Rattle.std.proofs.Common.{◌∙◌, sym, subst}
 use Rattle.dex_lent.specs.Lent.{lent_of}
 use Rattle.dex_plan.specs.Given.{SeesEachOnce}
 use Rattle.dex_process.proofs.ActLaws as laws
