@@ -1,5 +1,6 @@
 -- What the calls of a session tell, as talk.
 use Rattle.std.proofs.Common.{◌≡◌, ◌∙◌, ◌+◌, ◌<◌, ◌≤◌, ℕ, true, false, List, [], ◌∷◌, ◌++◌, IfErr, IfOk, Option, Some, None, Result, Ok, Err, ap, append_assoc, drop, is_some, length, inl, inr, refl, subst, sym, take}
+use Rattle.dex_types.specs.declared.limits.TheConstants.{STANDARD, WIDE}
 use Rattle.dex_desk.specs.declared.ends.Over.{Over}
 use Rattle.dex_desk.specs.declared.ends.Over.TheVariants as over
 use Rattle.dex_desk.specs.declared.ends.Stop.{Stop}
@@ -32,20 +33,20 @@ IsCleanFrom a b before = (at : Talk) × Talked a b before at × IsClean at
 -- ---- what was heard
 
 pub more-of-set-up : (a b : Told) (kept before inbox after : List ℕ) → TellsEar ear.More a b before after → before ≡ inbox → HasNoEnd inbox
-    → length (kept ++ inbox) ≤ 1099511627776 → Talked a b (talk (Sets kept inbox) []) (talk (Sets kept after) [])
+    → length (kept ++ inbox) ≤ WIDE.bytes → Talked a b (talk (Sets kept inbox) []) (talk (Sets kept after) [])
 more-of-set-up a b kept before inbox after told same whole few =
     let is : inbox ++ told.0 ∷ told.1 ≡ after = ap (λ (l : List ℕ). l ++ told.0 ∷ told.1) (sym same) ∙ sym told.3 in
     subst (λ (l : List ℕ). Talked a b (talk (Sets kept inbox) []) (talk (Sets kept l) [])) is
     (talked-heard a b (told.0 ∷ told.1) (Sets kept inbox) told.2 whole few)
 
 pub more-of-rows : (a b : Told) (block : PlainBlock) (before inbox after : List ℕ) → TellsEar ear.More a b before after → before ≡ inbox
-    → IsListening (Serves block inbox) → length inbox ≤ 1099511627776 → Talked a b (talk (Serves block inbox) []) (talk (Serves block after) [])
+    → IsListening (Serves block inbox) → length inbox ≤ STANDARD.bytes → Talked a b (talk (Serves block inbox) []) (talk (Serves block after) [])
 more-of-rows a b block before inbox after told same listens few =
     let is : inbox ++ told.0 ∷ told.1 ≡ after = ap (λ (l : List ℕ). l ++ told.0 ∷ told.1) (sym same) ∙ sym told.3 in
     subst (λ (l : List ℕ). Talked a b (talk (Serves block inbox) []) (talk (Serves block l) [])) is
     (talked-heard a b (told.0 ∷ told.1) (Serves block inbox) told.2 listens few)
 
-pub vain-set-up : (a b : Told) (kept inbox : List ℕ) → HeardInVain a b → HasNoEnd inbox → length (kept ++ inbox) ≤ 1099511627776
+pub vain-set-up : (a b : Told) (kept inbox : List ℕ) → HeardInVain a b → HasNoEnd inbox → length (kept ++ inbox) ≤ WIDE.bytes
     → IsCleanFrom a b (talk (Sets kept inbox) [])
 vain-set-up a b kept inbox vain whole few = (
   talk (Sets kept (inbox ++ vain.0 ∷ vain.1)) [],
@@ -54,7 +55,7 @@ vain-set-up a b kept inbox vain whole few = (
 )
 
 pub vain-rows : (a b : Told) (block : PlainBlock) (inbox : List ℕ) → HeardInVain a b → IsListening (Serves block inbox)
-    → length inbox ≤ 1099511627776 → IsCleanFrom a b (talk (Serves block inbox) [])
+    → length inbox ≤ STANDARD.bytes → IsCleanFrom a b (talk (Serves block inbox) [])
 vain-rows a b block inbox vain listens few = (
   talk (Serves block (inbox ++ vain.0 ∷ vain.1)) [],
   talked-heard a b (vain.0 ∷ vain.1) (Serves block inbox) vain.2 listens few,
@@ -62,11 +63,11 @@ vain-rows a b block inbox vain listens few = (
 )
 
 pub set-up-ended : (a b : Told) (kept before inbox after : List ℕ) → TellsEar ear.Ended a b before after → HasNoEnd inbox
-    → length (kept ++ inbox) ≤ 1099511627776 → Talked a b (talk (Sets kept inbox) []) (talk (Ended over.Input) [])
+    → length (kept ++ inbox) ≤ WIDE.bytes → Talked a b (talk (Sets kept inbox) []) (talk (Ended over.Input) [])
 set-up-ended a b kept before inbox after told whole few = talked-heard a b [] (Sets kept inbox) told.0 whole few
 
 pub rows-ended : (a b : Told) (block : PlainBlock) (before inbox after : List ℕ) → TellsEar ear.Ended a b before after
-    → IsListening (Serves block inbox) → length inbox ≤ 1099511627776 → Talked a b (talk (Serves block inbox) []) (talk (Closes block inbox) [])
+    → IsListening (Serves block inbox) → length inbox ≤ STANDARD.bytes → Talked a b (talk (Serves block inbox) []) (talk (Closes block inbox) [])
 rows-ended a b block before inbox after told listens few = talked-heard a b [] (Serves block inbox) told.0 listens few
 
 -- ---- a session that is over while it is set up

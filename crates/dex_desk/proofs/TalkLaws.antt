@@ -3,7 +3,7 @@ use Rattle.std.proofs.Common.{◌≡◌, ◌∙◌, ◌+◌, ◌≤◌, ℕ, Lis
 use Rattle.std.proofs.lemmas.List.{append-nil, take-append-drop}
 use Rattle.dex_desk.specs.declared.ends.Over.TheVariants as over
 use Rattle.dex_desk.specs.Serving.{AreLater, IsClean}
-use Rattle.dex_desk.specs.Talks.{Does, DoesAll, IsListening, IsTurn, Session, Talk, Talked, Talks, WentOn, heard, heard_so_far, last_line, talk}
+use Rattle.dex_desk.specs.Talks.{Does, DoesAll, IsListening, IsTurn, Session, Talk, Talked, Talks, WentOn, heard, heard_so_far, last_line, most_of, talk}
 use Rattle.dex_desk.specs.Talks.Session.{Ended}
 use Rattle.dex_desk.specs.Turns.{Turn, and_then}
 use Rattle.dex_desk.specs.Turns.Turn.{Heard, Said}
@@ -69,7 +69,7 @@ talked-turn (Some old) new turn x y is told = (turn ∷ [], is, (x, y, went-stil
 
 -- what was heard
 pub talked-heard : (old new : Option (List Turn)) (bytes : List ℕ) (session : Session) → new ≡ and_then old (Heard bytes) → IsListening session
-    → length (heard_so_far session) ≤ 1099511627776 → Talked old new (talk session []) (talk (heard bytes session) [])
+    → length (heard_so_far session) ≤ most_of session → Talked old new (talk session []) (talk (heard bytes session) [])
 talked-heard old new bytes session is listens few =
     talked-turn old new (Heard bytes) (talk session []) (talk (heard bytes session) []) is (refl, listens, refl, few)
 

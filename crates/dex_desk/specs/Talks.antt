@@ -1,7 +1,7 @@
 -- How a session goes: what is heard and said, call by call, and what the desk does between the calls.
 use Rattle.std.specs.Prelude.{◌≡◌, ◌≢◌, ◌⊎◌, ◌||◌, ◌<◌, ◌≤◌, ℕ, Bool, true, false, List, [], ◌∷◌, ◌++◌, All}
 use Rattle.std.specs.Prelude.{Option, Some, None, bytes_eq, codes, length}
-use Rattle.dex_types.specs.declared.limits.TheConstants.{WIDE}
+use Rattle.dex_types.specs.declared.limits.TheConstants.{STANDARD, WIDE}
 use Rattle.dex_answers.specs.Answers.{IsNoScript}
 use Rattle.dex_answers.specs.declared.status.Status.{Status}
 use Rattle.dex_answers.specs.declared.status.Status.TheVariants as status
@@ -140,6 +140,11 @@ heard_so_far (Serves block text) = text
 heard_so_far (Closes block text) = text
 heard_so_far (Ended why) = []
 
+-- how many bytes that may be: a set-up may be as long as the widest script, a line behind it may not
+abbrev pub most_of : Session → ℕ
+most_of (Sets kept text) = WIDE.bytes
+most_of _ = STANDARD.bytes
+
 -- the accounts are written where there are any
 abbrev pub Leaves : Session → List ℕ → Type 0
 Leaves (Serves block text) said = (left : PlainBlock) × SaysDump block left [] said
@@ -151,7 +156,7 @@ abbrev pub StopsBy : Over → Session → List ℕ → Type 0
 StopsBy over.Input session said = ⊥
 StopsBy over.ReadFault session said = IsListening session × Leaves session said
 StopsBy over.TooLong session said =
-    IsListening session × (1099511627776 < length (heard_so_far session)) × Leaves session said
+    IsListening session × (most_of session < length (heard_so_far session)) × Leaves session said
 StopsBy over.NoMemory session said = IsGoingOn session × (said ≡ [])
 
 pub record Stops (before after : Talk) : Type 0 where
@@ -197,7 +202,7 @@ heard bytes session = session
 abbrev pub IsTurn : Turn → Talk → Talk → Type 0
 IsTurn (Heard bytes) before after =
     (before.owed ≡ []) × IsListening before.session × (after ≡ talk (heard bytes before.session) [])
-    × (length (heard_so_far before.session) ≤ 1099511627776)
+    × (length (heard_so_far before.session) ≤ most_of before.session)
 IsTurn (Said bytes) before after = (before.owed ≡ bytes ++ after.owed) × (after.session ≡ before.session)
 
 -- calls, one after the other, and what the desk does between them

@@ -17,11 +17,8 @@ use crate::set_up::{Opened, open_desk};
 use crate::speaking::{CHUNK, Ear, hear_more, say_text};
 use dex_dump::Piece;
 use dex_report::write_head;
-use dex_types::NoMemory;
+use dex_types::{NoMemory, WIDE};
 use std::alloc::Global;
-
-/// The most bytes that a set-up may have, and a line behind it.
-pub const MOST: usize = 1_099_511_627_776;
 
 /// What set-ups come to.
 #[derive(Drop)]
@@ -112,7 +109,7 @@ fn go_on<D: Desk>(
     }
 }
 
-/// Hears more of a set-up, of which no whole line is left.
+/// Hears more of a set-up, of which no whole line is left, unless it is too long.
 fn listen<D: Desk>(
     desk: &mut D,
     kept: &mut Vec<u8>,
@@ -130,7 +127,7 @@ fn listen<D: Desk>(
     ensures later { AreLater (D.deaf desk.old) (D.mute desk.old) (D.deaf desk.new) (D.mute desk.new) }
 {
     inbox.close_up();
-    if MOST < kept.len().saturating_add(inbox.len()) {
+    if WIDE.bytes < kept.len().saturating_add(inbox.len()) {
         return over(text, Over::TooLong);
     }
     match hear_more(desk, inbox, chunk) {

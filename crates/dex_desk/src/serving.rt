@@ -14,13 +14,13 @@ use crate::block::Block;
 use crate::desk::Desk;
 use crate::ends::{Over, Stop};
 use crate::inbox::Inbox;
-use crate::opening::{MOST, SetUp, append, set_up};
+use crate::opening::{SetUp, append, set_up};
 use crate::speaking::{CHUNK, Ear, hear_more, say_all, say_text};
 use dex_answers::Status;
 use dex_io::Failed;
 use dex_report::LINE;
 use dex_statement::InstructionWords;
-use dex_types::NoMemory;
+use dex_types::{NoMemory, STANDARD};
 use std::alloc::Global;
 
 /// Serves a session. What it hears and says is a talk, which ends as the status says. Where the desk tells its turns,
@@ -221,7 +221,7 @@ fn is_listening(inbox: &Inbox, block: &Block) -> bool
     block.len() == 0 && inbox.line_end().is_none()
 }
 
-/// Hears more, where all that was heard is answered.
+/// Hears more, where all that was heard is answered, unless the line of which no end was heard is too long.
 fn listen<D: Desk>(
     alloc: Global,
     desk: &mut D,
@@ -240,7 +240,7 @@ fn listen<D: Desk>(
     ensures later { AreLater (D.deaf desk.old) (D.mute desk.old) (D.deaf desk.new) (D.mute desk.new) }
 {
     inbox.close_up();
-    if MOST < inbox.len() {
+    if STANDARD.bytes < inbox.len() {
         return cut_off(alloc, block, buffers, Over::TooLong);
     }
     match hear_more(desk, inbox, chunk) {
