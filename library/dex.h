@@ -72,9 +72,10 @@ uint8_t dex_chained(uint32_t rows, const uint8_t *script, size_t length, uint8_t
 /* ---- one instruction on the account bytes of one market, in place, as a ledger's program does it
  *
  * What the caller is trusted with beside the points above: the accounts were found sound by an audit (of a dump that has them), or left by
- * dex_process, and nobody else changed them; each wallet is a token account of 165 bytes that stands in no other place of the call, and
- * what it holds and what the vault of its mint holds are below 2^64 together. None of these calls takes memory but dex_reply_text, and
- * none costs by the sizes of accounts but dex_pending, which reads the events that are pending. */
+ * dex_process, and nobody else changed them; `pending_coin` and `pending_pc` were set by dex_pending, or left by dex_process; each wallet
+ * that a role names is a token account of 165 bytes (state 1, no delegate, not native, no close authority), no two have one address,
+ * and no bytes of the call overlap. None of these calls takes memory but dex_reply_text. An instruction's cost does not hang on the sizes of
+ * sides and queues; open-orders accounts are looked up from the first on. */
 
 typedef struct {
   uint8_t bytes[32];
@@ -89,17 +90,18 @@ typedef struct {
 /* A number of 128 bits: low + 2^64 * high. */
 typedef struct {
   uint64_t low, high;
-} dex_wide;
+} dex_u128;
 
 enum { DEX_WALLET_SIZE = 165, DEX_ORDERS_SIZE = 3228, DEX_ORDERS_RECORD = 32 + DEX_ORDERS_SIZE };
 
 /* All accounts of one market. `authority` is the person who signs for it and stands in no account. `orders` are the open-orders accounts
- * one after another, each as its address and its 3,228 bytes. `pending_coin` and `pending_pc`, what makers' fills in the event queue are
+ * one after another, each as its address and its 3,228 bytes (bytes behind the last whole account are none's, and may be
+ * written). `pending_coin` and `pending_pc`, what makers' fills in the event queue are
  * still to take off totals, are set by dex_pending and kept by dex_process. */
 typedef struct {
   dex_address address, authority;
   dex_bytes market, coin_vault, pc_vault, requests, events, bids, asks, orders;
-  dex_wide pending_coin, pending_pc;
+  dex_u128 pending_coin, pending_pc;
 } dex_market;
 
 /* A token account that an instruction names, by its address; of length 0 where there is none. */
@@ -113,20 +115,17 @@ typedef struct {
   dex_wallet wallets[4];
 } dex_wallets;
 
-enum { DEX_NO_WALLET = 255, DEX_SERUM = 0, DEX_OPENBOOK = 1 };
+enum { DEX_NO_WALLET = 255, DEX_SERUM = 0, DEX_OPENBOOK = 1, DEX_MOST_NAMED = 16 };
 
-/* An instruction: who signs it, the open-orders accounts that it names, its data (docs/FORMATS.md), the clock, and which of the wallets it
- * names under each role: 0 to 3, or DEX_NO_WALLET; two roles may name one. `srm` and `msrm` are the mints of discounts, where
- * `has_srm` and `has_msrm` are not 0. */
+/* An instruction: who signs it, the open-orders accounts that it names, 16 at most, its data (docs/FORMATS.md), the clock, and which of the
+ * wallets it names under each role: 0 to 3, or DEX_NO_WALLET; two roles may name one. `srm` and `msrm` are the mints of discounts,
+ * where `has_srm` and `has_msrm` are not 0. */
 typedef struct {
-  dex_address signer;
-  const dex_address *named;
-  size_t named_count;
+  dex_address signer, named[DEX_MOST_NAMED];
   const uint8_t *data;
   size_t data_length;
   int64_t clock;
-  uint8_t coin, pc, discount, referrer;
-  uint8_t program, has_srm, has_msrm;
+  uint8_t named_count, coin, pc, discount, referrer, program, has_srm, has_msrm;
   dex_address srm, msrm;
 } dex_instruction;
 
@@ -139,7 +138,8 @@ enum {
   DEX_CONSUMED = 4,  /* `count` events were paid */
   DEX_SETTLED = 5,   /* `coin`, `pc`, `referrer`: what the wallets got */
   DEX_SWEPT = 6,     /* `pc`: what the wallet got */
-  DEX_DONE = 7
+  DEX_DONE = 7,
+  DEX_TOO_MANY_NAMED = 255 /* `named_count` is above 16: nothing was done */
 };
 
 /* A reply. Of a refusal `reason` is its number, 1 to 24 (docs/REFUSED.md), and its values are: `rule` (1); `address`, an owner's, an
@@ -151,7 +151,7 @@ typedef struct {
   uint32_t count, room;
   uint64_t lots, pc, fee, rested, coin, referrer, amount, balance;
   int64_t clock, latest;
-  dex_wide order, held, pending;
+  dex_u128 order, held, pending;
   dex_address address;
 } dex_reply;
 

@@ -67,7 +67,7 @@ static dex_bytes *part_of(dex_market *market, int number) { return &market->mark
 
 /* All bytes of a market and of the wallets, one after another. */
 static uint8_t *all_of(dex_market *market, const dex_bytes *wallets, size_t *size) {
-  *size = wallets->length + sizeof(dex_wide) * 2;
+  *size = wallets->length + sizeof(dex_u128) * 2;
   for (int at = 0; at < PARTS - 1; at++) *size += part_of(market, at)->length;
   uint8_t *all = malloc(*size), *end = all;
   for (int at = 0; at < PARTS - 1; at++) {
@@ -75,7 +75,7 @@ static uint8_t *all_of(dex_market *market, const dex_bytes *wallets, size_t *siz
     end += part_of(market, at)->length;
   }
   memcpy(end, wallets->at, wallets->length);
-  memcpy(end + wallets->length, &market->pending_coin, sizeof(dex_wide) * 2);
+  memcpy(end + wallets->length, &market->pending_coin, sizeof(dex_u128) * 2);
   return all;
 }
 
@@ -106,8 +106,8 @@ static dex_instruction take_instruction(void) {
   memset(&it, 0, sizeof it);
   it.signer = take_address();
   dex_bytes named = take_lent(), data = take_lent();
-  it.named = (const dex_address *)named.at;
-  it.named_count = named.length / 32;
+  memcpy(it.named, named.at, named.length);
+  it.named_count = (uint8_t)(named.length / 32);
   it.data = data.at;
   it.data_length = data.length;
   it.clock = (int64_t)take_number();
@@ -146,7 +146,7 @@ static void play(const char *name) {
     }
     free(before);
   }
-  dex_wide kept[2] = {market.pending_coin, market.pending_pc};
+  dex_u128 kept[2] = {market.pending_coin, market.pending_pc};
   dex_pending(&market);
   tell(name, rows, "what is pending", memcmp(kept, &market.pending_coin, sizeof kept) == 0);
   for (int at = 0; at < PARTS; at++) {

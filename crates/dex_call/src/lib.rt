@@ -5,7 +5,9 @@ mod calling;
 mod calls;
 mod cutting;
 mod parts;
+mod replies;
 mod writing;
 
 pub use calls::{audit, bulk, dump, make, migrate, replay, worth};
 pub use parts::{chained, shards};
+pub use replies::reply_text;
