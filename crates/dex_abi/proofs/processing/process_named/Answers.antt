@@ -25,6 +25,6 @@ returns-clause-processed c = record {
       subst (λ (roles : Roles). Says c roles (lent.terms_in c.args.instruction.now) (lent.request_in c.args.instruction.now)) c.roles_in-roles.ensures
       (subst (λ (terms : Terms). Says c c.roles_in-roles.result terms (lent.request_in c.args.instruction.now)) c.terms_in-terms.ensures
       (subst (λ (request : Request). Says c c.roles_in-roles.result c.terms_in-terms.result request)
-          (c.ask_in-ask.ensures ∙ ap (λ (names : List Address). lent.request_by c.args.instruction.now (take c.args.instruction.now.named_count names)) c.names_in-names.ensures)
-          c.reply_on.ensures.answered));
+      (c.ask_in-ask.ensures ∙ ap (λ (names : List Address). lent.request_by c.args.instruction.now (take c.args.instruction.now.named_count names)) c.names_in-names.ensures)
+      c.reply_on.ensures.answered));
 }
