@@ -108,9 +108,9 @@ typedef struct {
 enum { DEX_WALLET_SIZE = 165, DEX_ORDERS_SIZE = 3228, DEX_ORDERS_RECORD = 32 + DEX_ORDERS_SIZE };
 
 /* All accounts of one market. `authority` is the person who signs for it and stands in no account. `orders` are the
- * open-orders accounts one after another, each as its address and its 3,228 bytes. `pending_coin` and `pending_pc`,
- * what makers' fills in the event queue are still to take off totals, are set by dex_pending and kept by
- * dex_process. */
+ * open-orders accounts one after another, each as its address and its 3,228 bytes; bytes behind the last whole account
+ * are none's, and may be written. `pending_coin` and `pending_pc`, what makers' fills in the event queue are still to
+ * take off totals, are set by dex_pending and kept by dex_process. */
 typedef struct {
   dex_address address, authority;
   dex_bytes market, coin_vault, pc_vault, requests, events, bids, asks, orders;
@@ -128,20 +128,17 @@ typedef struct {
   dex_wallet wallets[4];
 } dex_wallets;
 
-enum { DEX_NO_WALLET = 255, DEX_SERUM = 0, DEX_OPENBOOK = 1 };
+enum { DEX_NO_WALLET = 255, DEX_SERUM = 0, DEX_OPENBOOK = 1, DEX_MOST_NAMED = 16 };
 
-/* An instruction: who signs it, the open-orders accounts that it names, its data (docs/FORMATS.md), the clock, and
- * which of the wallets it names under each role: 0 to 3, or DEX_NO_WALLET; two roles may name one. `srm` and `msrm` are
- * the mints of discounts, where `has_srm` and `has_msrm` are not 0. */
+/* An instruction: who signs it, the open-orders accounts that it names, 16 at most, its data (docs/FORMATS.md), the
+ * clock, and which of the wallets it names under each role: 0 to 3, or DEX_NO_WALLET; two roles may name one. `srm` and
+ * `msrm` are the mints of discounts, where `has_srm` and `has_msrm` are not 0. */
 typedef struct {
-  dex_address signer;
-  const dex_address *named;
-  size_t named_count;
+  dex_address signer, named[DEX_MOST_NAMED];
   const uint8_t *data;
   size_t data_length;
   int64_t clock;
-  uint8_t coin, pc, discount, referrer;
-  uint8_t program, has_srm, has_msrm;
+  uint8_t named_count, coin, pc, discount, referrer, program, has_srm, has_msrm;
   dex_address srm, msrm;
 } dex_instruction;
 
@@ -154,7 +151,8 @@ enum {
   DEX_CONSUMED = 4,  /* `count` events were paid */
   DEX_SETTLED = 5,   /* `coin`, `pc`, `referrer`: what the wallets got */
   DEX_SWEPT = 6,     /* `pc`: what the wallet got */
-  DEX_DONE = 7
+  DEX_DONE = 7,
+  DEX_TOO_MANY_NAMED = 255 /* `named_count` is above 16: nothing was done */
 };
 
 /* A reply. Of a refusal `reason` is its number, 1 to 24 (docs/REFUSED.md), and its values are: `rule` (1); `address`,

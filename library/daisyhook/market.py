@@ -16,11 +16,11 @@ from .tables import REFUSAL_VALUES, SIZES
 
 # The structs of library/dex.h: dex_market, dex_wallets, dex_instruction, dex_reply.
 MARKET, WALLETS = struct.Struct('<32s32s20Q'), struct.Struct('<' + '32sQQ' * 4)
-INSTRUCTION, REPLY = struct.Struct('<32s4Qq7B32s32sx'), struct.Struct('<4B2I4x8Q2q6Q32s')
+INSTRUCTION, REPLY = struct.Struct('<32s512s2Qq8B32s32s'), struct.Struct('<4B2I4x8Q2q6Q32s')
 ACCOUNT = SIZES['open_orders']
 RECORD = 32 + ACCOUNT
 PARTS = 'market', 'coin_vault', 'pc_vault', 'requests', 'events', 'bids', 'asks'
-NONE, NOBODY = 255, bytes(32)
+NONE, NOBODY, MOST_NAMED = 255, bytes(32), 16
 # How many combinations of names are kept.
 KEPT = 4096
 REASONS = {
@@ -87,6 +87,7 @@ class Market:
         """Takes the accounts of a market from a dump, which is audited first; `address` may be left out where it has
         one market. Markets of one dump whose traders have wallets in common share them: `wallets` are those of the
         first.
+        An audit takes at most 64 open-orders accounts a market.
 
         Raises DumpRefused, or AuditFailed where there are findings.
         """
@@ -100,7 +101,7 @@ class Market:
         rows = [(address_of(row[1]), b64decode(row[2])) for row in checked['orders'] if address_of(row[0]) == self.address]
         self.orders = bytearray(b''.join(address_bytes(word) + data for word, data in rows))
         self._places = {word: place for place, (word, _) in enumerate(rows)}
-        self.wallets = wallets or {address_of(word): bytearray(b64decode(data)) for word, data, *_ in checked['wallet']}
+        self.wallets = wallets if wallets is not None else {address_of(word): bytearray(b64decode(data)) for word, data, *_ in checked['wallet']}
         self._mints = [address_bytes(address_of(checked[name][0][0])) if checked[name] else None for name in ('srm', 'msrm')]
         self._lend()
 
@@ -142,11 +143,12 @@ class Market:
         return found
 
     def _named(self, words: tuple[str, ...]) -> tuple:
-        """The addresses of open-orders accounts one after another, where they are, and how many."""
-        made = bytearray(b''.join(map(address_bytes, words)) or 1)
+        """The addresses of open-orders accounts one after another, and how many. ValueError where they are more than 16."""
+        if len(words) > MOST_NAMED:
+            raise ValueError(f'{len(words)} accounts are named, and {MOST_NAMED} at most is wanted')
         if len(self._names) == KEPT:
             self._names.clear()
-        self._names[words] = found = (made, ctypes.addressof(ctypes.c_char.from_buffer(made)), len(words))
+        self._names[words] = found = (b''.join(map(address_bytes, words)), len(words))
         return found
 
     def _signer(self, word: str) -> bytes:
@@ -164,14 +166,14 @@ class Market:
         """
         roles, words, size = (coin, pc, discount, referrer), tuple(named), len(data)
         _, wallets, numbers = self._roles.get(roles) or self._roles_of(roles)
-        _, names, count = self._names.get(words) or self._named(words)
+        names, count = self._names.get(words) or self._named(words)
         if size > len(self._data):
             self._data = bytearray(size)
             self._pointers[3] = self._place(self._data)
         self._data[:size] = data
         market, instruction, reply, place = self._pointers
-        INSTRUCTION.pack_into(self._instruction, 0, self._addresses.get(signer) or self._signer(signer), names, count, place, size, self.clock,
-                              *numbers, *self._end)
+        INSTRUCTION.pack_into(self._instruction, 0, self._addresses.get(signer) or self._signer(signer), names, place, size, self.clock,
+                              count, *numbers, *self._end)
         self._act(market, wallets, instruction, reply)
         return reply_of(REPLY.unpack_from(self._reply))
 
@@ -204,7 +206,8 @@ class Market:
         return number_at(self.wallets[wallet], WALLET['amount'])
 
     def dump(self) -> bytes:
-        """The dump that the market was made from, with its accounts and its wallets as they are now."""
+        """The dump that the market was made from, with its accounts and its wallets as they are now. Other markets of the dump stand in it as
+        they were: where they acted on the same wallets, an audit of it finds their mints off."""
         return '\n'.join(','.join(self._as_now(row)) for row in rows_of(self._dump)).encode() + b'\n'
 
     def _as_now(self, row: list[str]) -> list[str]:

@@ -53,8 +53,9 @@ def library() -> ctypes.CDLL:
         function.restype = ctypes.c_uint8
         function.argtypes = front + ROOM
     for name, (taken, given) in IN_PLACE.items():
-        function = getattr(loaded, name)
-        function.argtypes, function.restype = taken, given
+        if hasattr(loaded, name):
+            function = getattr(loaded, name)
+            function.argtypes, function.restype = taken, given
     return loaded
 
 

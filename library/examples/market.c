@@ -66,7 +66,7 @@ int main(void) {
     }
   }
   dex_pending(&market);
-  dex_instruction ask = {.signer = address_of("ann"), .named = &amy, .named_count = 1, .data = data, .data_length = sizeof data, .coin = 0,
+  dex_instruction ask = {.signer = address_of("ann"), .named = {amy}, .named_count = 1, .data = data, .data_length = sizeof data, .coin = 0,
                          .pc = DEX_NO_WALLET, .discount = DEX_NO_WALLET, .referrer = DEX_NO_WALLET};
   if (dex_process(&market, &wallets, &ask, &reply) == DEX_REFUSED) printf("refused for reason %d\n", reply.reason);
   if (dex_reply_text(&reply, text, sizeof text, &size) == DEX_OK) printf("%.*s\n", (int)size, (char *)text);

@@ -107,8 +107,8 @@ static dex_instruction take_instruction(void) {
   memset(&it, 0, sizeof it);
   it.signer = take_address();
   dex_bytes named = take_lent(), data = take_lent();
-  it.named = (const dex_address *)named.at;
-  it.named_count = named.length / 32;
+  memcpy(it.named, named.at, named.length);
+  it.named_count = (uint8_t)(named.length / 32);
   it.data = data.at;
   it.data_length = data.length;
   it.clock = (int64_t)take_number();

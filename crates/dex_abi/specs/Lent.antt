@@ -1,11 +1,11 @@
 -- What a caller in C lends, and what an instruction does to it.
-use Rattle.std.specs.Prelude.{ℕ, ◌≡◌, ◌==◌, if◌then◌else◌, List, Option, Some, None, [], ◌∷◌, slice_index_or, take}
+use Rattle.std.specs.Prelude.{ℕ, ◌≡◌, ◌<◌, ◌≤◌, ◌⊎◌, ◌==◌, if◌then◌else◌, List, Option, Some, None, [], ◌∷◌, slice_index_or, take}
 use Rattle.dex_abi.specs.declared.numbers.ReplyNumbers.{ReplyNumbers}
 use Rattle.dex_abi.specs.declared.numbers.Wide.{Wide}
 use Rattle.dex_abi.specs.declared.records.Instruction.{Instruction}
 use Rattle.dex_abi.specs.declared.records.MarketBytes.{MarketBytes}
 use Rattle.dex_abi.specs.declared.records.WalletsBytes.{WalletsBytes}
-use Rattle.dex_abi.specs.Numbers.{reply_in, whole}
+use Rattle.dex_abi.specs.Numbers.{reply_in, too_many, whole}
 use Rattle.dex_accounts.specs.Decoded.{AreSound, market_in}
 use Rattle.dex_instruction.specs.Reading.{decoded}
 use Rattle.dex_lent.specs.Flat.{accounts_in}
@@ -109,3 +109,28 @@ pub record HasProcessedIn (i : Instruction) (numbers : ReplyNumbers) (m : Market
   pub told : reply_in numbers ≡ Some reply
   pub processed : HasProcessed (roles_in i) reply (acting_on m w) (acting_on after moved)
       (step (request_in i) (seen_by (roles_in i) (terms_in i) (purse_of w)) (market_in (accounts_of m)))
+
+-- how an instruction ends: it was done or refused; or it names too many accounts, and nothing was changed
+abbrev pub EndsIn : Instruction → ReplyNumbers → MarketBytes → WalletsBytes → MarketBytes → WalletsBytes → Type 0
+EndsIn i numbers m w after moved =
+    ((i.named_count ≤ 16) × HasProcessedIn i numbers m w after moved)
+    ⊎ ((16 < i.named_count) × (numbers ≡ too_many) × (acting_on after moved ≡ acting_on m w))
+
+-- each of a market's accounts lies where it did
+pub record KeepsMarketPlaces (m after : MarketBytes) : Type 0 where
+  pub market : after.market.ghost_name ≡ m.market.ghost_name
+  pub coin_vault : after.coin_vault.ghost_name ≡ m.coin_vault.ghost_name
+  pub pc_vault : after.pc_vault.ghost_name ≡ m.pc_vault.ghost_name
+  pub requests : after.requests.ghost_name ≡ m.requests.ghost_name
+  pub events : after.events.ghost_name ≡ m.events.ghost_name
+  pub bids : after.bids.ghost_name ≡ m.bids.ghost_name
+  pub asks : after.asks.ghost_name ≡ m.asks.ghost_name
+  pub orders : after.orders.ghost_name ≡ m.orders.ghost_name
+
+-- each account and each wallet lies where it did: what was written is seen by whoever lent it
+pub record KeepsPlaces (m : MarketBytes) (w : WalletsBytes) (after : MarketBytes) (moved : WalletsBytes) : Type 0 where
+  pub market : KeepsMarketPlaces m after
+  pub first : moved.first.ghost_name ≡ w.first.ghost_name
+  pub second : moved.second.ghost_name ≡ w.second.ghost_name
+  pub third : moved.third.ghost_name ≡ w.third.ghost_name
+  pub fourth : moved.fourth.ghost_name ≡ w.fourth.ghost_name

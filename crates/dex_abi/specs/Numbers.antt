@@ -1,5 +1,5 @@
 -- The reply that numbers stand for.
-use Rattle.std.specs.Prelude.{ℕ, pos, ◌+◌, ◌*◌, ◌^◌, ◌==◌, if◌then◌else◌, List, Option, Some, None, replicate}
+use Rattle.std.specs.Prelude.{ℕ, pos, ◌+◌, ◌*◌, ◌/◌, ◌%◌, ◌^◌, ◌==◌, if◌then◌else◌, List, Option, Some, None, replicate}
 use Rattle.std.specs.Option.{option_map, option_or}
 use Rattle.dex_types.specs.declared.addresses.Address.{Address}
 use Rattle.dex_types.specs.declared.instructions.BadData.{BadData}
@@ -8,6 +8,7 @@ use Rattle.dex_types.specs.declared.refusals.Refusal.{Refusal}
 use Rattle.dex_types.specs.declared.refusals.Refusal.TheVariants as refusal
 use Rattle.dex_types.specs.declared.replies.Reply.{Reply}
 use Rattle.dex_types.specs.declared.replies.Reply.TheVariants.{Ordered, Took, Cancelled, Consumed, Settled, Swept, Done, Refused}
+use Rattle.dex_types.specs.Text.{bad_data_number}
 use Rattle.dex_abi.specs.declared.numbers.Wide.{Wide}
 use Rattle.dex_abi.specs.declared.numbers.ReplyNumbers.{ReplyNumbers}
 
@@ -118,3 +119,50 @@ of_address reason address = record blank { reason = reason; address = address.0 
 -- a refusal with native amounts of a wallet
 abbrev pub of_amounts : ℕ → ℕ → ℕ → ReplyNumbers
 of_amounts reason amount balance = record blank { reason = reason; amount = amount; balance = balance }
+
+-- what is told of an instruction that names too many accounts
+abbrev pub too_many : ReplyNumbers
+too_many = record blank { kind = 255 }
+
+-- a number by its halves
+abbrev pub wide : ℕ → Wide
+wide number = record { low = number % 2 ^ 64; high = number / 2 ^ 64 }
+
+-- the numbers of a refusal; a field that it does not name is 0
+abbrev pub refused_numbers : Refusal → ReplyNumbers
+refused_numbers (refusal.BadData rule) = record blank { reason = 1; rule = bad_data_number rule }
+refused_numbers refusal.MarketDisabled = bare 2
+refused_numbers refusal.NoAccount = bare 3
+refused_numbers refusal.AccountExists = bare 4
+refused_numbers (refusal.NotOwner owner) = of_address 5 owner
+refused_numbers (refusal.NotAuthority authority) = of_address 6 authority
+refused_numbers (refusal.WrongMint mint) = of_address 7 mint
+refused_numbers (refusal.WalletNotSigned owner) = of_address 8 owner
+refused_numbers (refusal.NotEmpty slots funds) = record blank { reason = 9; count = slots; held = wide funds }
+refused_numbers refusal.TooManyOpenOrders = bare 10
+refused_numbers refusal.AskTooLarge = bare 11
+refused_numbers refusal.SequenceExhausted = bare 12
+refused_numbers (refusal.TimePast now max) = record blank { reason = 13; clock = now; latest = max }
+refused_numbers refusal.OrderNotFound = bare 14
+refused_numbers refusal.SideMismatch = bare 15
+refused_numbers (refusal.OrderNotYours owner) = of_address 16 owner
+refused_numbers refusal.ClientIdZero = bare 17
+refused_numbers refusal.ClientIdNotFound = bare 18
+refused_numbers (refusal.WouldSelfTrade order) = record blank { reason = 19; order = wide order }
+refused_numbers (refusal.BelowMinimum got) = of_amounts 20 got 0
+refused_numbers (refusal.EventQueueFull needed room) = record blank { reason = 21; count = needed; room = room }
+refused_numbers (refusal.InsufficientFunds needed balance) = of_amounts 22 needed balance
+refused_numbers (refusal.BalanceTooLarge balance amount) = of_amounts 23 amount balance
+refused_numbers (refusal.SumTooLarge vault pending) = record blank { reason = 24; held = wide vault; pending = wide pending }
+
+-- the numbers of a reply; a field that its kind does not name is 0
+abbrev pub numbers_of : Reply → ReplyNumbers
+numbers_of (Ordered slot id lots pc fee rested) =
+    record blank { kind = 1; order = wide id; slot = slot; lots = lots; pc = pc; fee = fee; rested = rested }
+numbers_of (Took lots pc fee) = record blank { kind = 2; lots = lots; pc = pc; fee = fee }
+numbers_of (Cancelled count) = record blank { kind = 3; count = count }
+numbers_of (Consumed count) = record blank { kind = 4; count = count }
+numbers_of (Settled coin pc referrer) = record blank { kind = 5; coin = coin; pc = pc; referrer = referrer }
+numbers_of (Swept pc) = record blank { kind = 6; pc = pc }
+numbers_of Done = record blank { kind = 7 }
+numbers_of (Refused why) = refused_numbers why

@@ -9,7 +9,7 @@ ghost use Rattle.dex_ring.specs.Ring.{IsEventQueue, ring_of};
 use crate::numbers::{ReplyNumbers, Wide};
 use crate::reading::whole;
 use crate::records::{Instruction, MarketBytes, WalletsBytes};
-use crate::telling::{numbers_of, wide};
+use crate::telling::{numbers_of, too_many, wide};
 use dex_process::{Ask, PendingFills, Roles, Slot, Terms, pending, process_apart};
 use dex_types::{Address, Program, Reply};
 
@@ -122,7 +122,9 @@ fn reply_on(
     terms: &Terms,
 ) -> Reply
     requires { lent.CanProcess roles.now market.old wallets.old }
-    ensures { lent.HasAnswered roles.now terms.now ask.entry.now result market.old wallets.old market.new wallets.new }
+    ensures answered { lent.HasAnswered roles.now terms.now ask.entry.now result market.old wallets.old
+        market.new wallets.new }
+    ensures places { lent.KeepsPlaces market.old wallets.old market.new wallets.new }
 {
     let address = market.address;
     let authority = market.authority;
@@ -173,15 +175,16 @@ fn ask_in<'a>(instruction: &'a Instruction<'_>, named: &'a [Address]) -> Ask<'a>
     }
 }
 
-/// What `process` does, on what a caller in C lends, with its reply as numbers.
-pub fn process_in(
+/// What `process` does, on what a caller in C lends, of an instruction that names no more accounts than there is room for.
+fn process_named(
     market: &mut MarketBytes<'_>,
     wallets: &mut WalletsBytes<'_>,
     instruction: &Instruction<'_>,
 ) -> ReplyNumbers
     requires named { instruction.now.named_count ≤ 16 }
     requires can { lent.CanProcess (lent.roles_in instruction.now) market.old wallets.old }
-    ensures { lent.HasProcessedIn instruction.entry.now result market.old wallets.old market.new wallets.new }
+    ensures processed { lent.HasProcessedIn instruction.entry.now result market.old wallets.old market.new wallets.new }
+    ensures places { lent.KeepsPlaces market.old wallets.old market.new wallets.new }
 {
     let names = names_in(&instruction.named);
     let ask = ask_in(instruction, &names[..instruction.named_count as usize]);
@@ -190,13 +193,41 @@ pub fn process_in(
     numbers_of(reply_on(market, wallets, &ask, &roles, &terms))
 }
 
+/// What `process` does, on what a caller in C lends, with its reply as numbers. An instruction that names more than 16
+/// accounts is not done: its `kind` is 255, and nothing is changed.
+pub fn process_in(
+    market: &mut MarketBytes<'_>,
+    wallets: &mut WalletsBytes<'_>,
+    instruction: &Instruction<'_>,
+) -> ReplyNumbers
+    requires { lent.CanProcess (lent.roles_in instruction.now) market.old wallets.old }
+    ensures ends { lent.EndsIn instruction.entry.now result market.old wallets.old market.new wallets.new }
+    ensures places { lent.KeepsPlaces market.old wallets.old market.new wallets.new }
+{
+    if instruction.named_count <= 16 {
+        process_named(market, wallets, instruction)
+    } else {
+        too_many()
+    }
+}
+
+/// What is pending in the market's event queue.
+fn pending_on(market: &MarketBytes<'_>) -> PendingFills
+    requires { IsEventQueue market.now.events.now }
+    ensures { result ≡ pending_fills_of (ring_of market.now.events.now).events }
+{
+    pending(market.events)
+}
+
 /// Counts what is pending from the market's event queue.
 pub fn count_pending(market: &mut MarketBytes<'_>)
     requires { IsEventQueue market.old.events.now }
-    ensures { lent.sums_of market.new.pending_coin market.new.pending_pc
+    ensures counted { lent.sums_of market.new.pending_coin market.new.pending_pc
         ≡ pending_fills_of (ring_of market.old.events.now).events }
+    ensures accounts { lent.accounts_of market.new ≡ lent.accounts_of market.old }
+    ensures places { lent.KeepsMarketPlaces market.old market.new }
 {
-    let sums = pending(market.events);
+    let sums = pending_on(market);
     market.pending_coin = wide(sums.coin);
     market.pending_pc = wide(sums.pc);
 }

@@ -12,7 +12,8 @@ const HALF: u128 = 0x1_0000_0000_0000_0000;
 
 /// A number by its halves.
 pub(crate) fn wide(number: u128) -> Wide
-    ensures { spec.whole result ≡ number }
+    ensures whole { spec.whole result ≡ number }
+    ensures halves { result ≡ spec.wide number }
 {
     Wide {
         low: (number % HALF) as u64,
@@ -49,6 +50,16 @@ fn blank() -> ReplyNumbers
     }
 }
 
+/// What is told of an instruction that names too many accounts.
+pub(crate) fn too_many() -> ReplyNumbers
+    ensures { result ≡ spec.too_many }
+{
+    ReplyNumbers {
+        kind: 255,
+        ..blank()
+    }
+}
+
 /// A refusal that has no values.
 fn bare(reason: u8) -> ReplyNumbers
     ensures { result ≡ spec.bare reason }
@@ -82,7 +93,8 @@ fn of_amounts(reason: u8, amount: u64, balance: u64) -> ReplyNumbers
 
 /// A refusal as numbers.
 fn refused(why: Refusal) -> ReplyNumbers
-    ensures { spec.reply_in result ≡ Some (Refused why) }
+    ensures stands { spec.reply_in result ≡ Some (Refused why) }
+    ensures exact { result ≡ spec.refused_numbers why }
 {
     match why {
         Refusal::BadData(rule) => ReplyNumbers {
@@ -140,9 +152,10 @@ fn refused(why: Refusal) -> ReplyNumbers
     }
 }
 
-/// A reply as numbers: those that stand for it.
+/// A reply as numbers, which stand for it. A field that its kind does not name is 0.
 pub fn numbers_of(reply: Reply) -> ReplyNumbers
-    ensures { spec.reply_in result ≡ Some reply }
+    ensures stands { spec.reply_in result ≡ Some reply }
+    ensures exact { result ≡ spec.numbers_of reply }
 {
     match reply {
         Reply::Ordered {

@@ -7,8 +7,13 @@ ghost use Rattle.dex_words.specs.declared.command.PlainCommand.TheVariants.{Audi
 ghost use Rattle.dex_answers.specs.declared.status.Status.TheVariants as status;
 ghost use Rattle.dex_types.specs.declared.limits.TheConstants.{STANDARD, WIDE};
 ghost use Rattle.dex_call.specs.Calls.{Ends, EndsWith, EndsWithin, HasStopped, done};
+ghost use Rattle.dex_abi.specs.Lent.{CanProcess, EndsIn, KeepsMarketPlaces, KeepsPlaces, accounts_of, roles_in, sums_of};
 ghost use Rattle.dex_call.specs.PartsTexts.{SaysParts, SaysShards};
+ghost use Rattle.dex_call.specs.ReplyTexts.{SaysReply};
+ghost use Rattle.dex_ring.specs.PendingFills.{pending_fills_of};
+ghost use Rattle.dex_ring.specs.Ring.{IsEventQueue, ring_of};
 
+use dex_abi::{Instruction, MarketBytes, ReplyNumbers, WalletsBytes};
 use std::alloc::Global;
 
 /// The report of what is left when all rows of a script have acted, one after the other.
@@ -203,4 +208,47 @@ pub extern "C" fn dex_chained_wide(
         ⊎ ((rows ≡ 0) × HasStopped status.Usage (done room.old room.new result size.new)) }
 {
     dex_call::chained_wide(alloc, rows, script, room, size)
+}
+
+/// Counts what is pending from the market's event queue.
+#[unsafe(no_mangle)]
+pub extern "C" fn dex_pending(market: &mut MarketBytes<'_>)
+    requires { IsEventQueue market.old.events.now }
+    ensures counted { sums_of market.new.pending_coin market.new.pending_pc
+        ≡ pending_fills_of (ring_of market.old.events.now).events }
+    ensures accounts { accounts_of market.new ≡ accounts_of market.old }
+    ensures places { KeepsMarketPlaces market.old market.new }
+{
+    dex_abi::count_pending(market);
+}
+
+/// Does an instruction on the accounts and the wallets that are lent, in place, or refuses it.
+#[unsafe(no_mangle)]
+pub extern "C" fn dex_process(
+    market: &mut MarketBytes<'_>,
+    wallets: &mut WalletsBytes<'_>,
+    instruction: &Instruction<'_>,
+    reply: &mut ReplyNumbers,
+) -> u8
+    requires { CanProcess (roles_in instruction.now) market.old wallets.old }
+    ensures ends { EndsIn instruction.entry.now reply.new market.old wallets.old market.new wallets.new }
+    ensures places { KeepsPlaces market.old wallets.old market.new wallets.new }
+    ensures kind { result ≡ reply.new.kind }
+{
+    let told = dex_abi::process_in(market, wallets, instruction);
+    *reply = told;
+    told.kind
+}
+
+/// What a report says of the reply that numbers stand for.
+#[unsafe(no_mangle)]
+pub extern "C" fn dex_reply_text(
+    alloc: Global,
+    reply: &ReplyNumbers,
+    room: &mut [u8],
+    size: &mut usize,
+) -> u8
+    ensures { EndsWith (SaysReply reply.now) (done room.old room.new result size.new) }
+{
+    dex_call::reply_text(alloc, reply, room, size)
 }

@@ -5,9 +5,11 @@ mod calling;
 mod calls;
 mod cutting;
 mod parts;
+mod replies;
 mod wide;
 mod writing;
 
 pub use calls::{audit, bulk, dump, make, migrate, replay, worth};
 pub use parts::{chained, chained_wide, shards, shards_wide};
+pub use replies::reply_text;
 pub use wide::{audit_wide, dump_wide, migrate_wide, replay_wide, worth_wide};
