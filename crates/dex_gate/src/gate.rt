@@ -13,7 +13,8 @@ use crate::plays::{Draw, HandOut, TakeIn};
 use crate::steps::{comes, look, pass_on, take_out};
 use crate::turn::Turn;
 use atomic_table::Table;
-use std::alloc::{AllocError, Global};
+use dex_types::NoMemory;
+use std::alloc::Global;
 use std::marker::Model;
 use std::snapshot::Snapshot;
 use std::sync::Wait;
@@ -56,7 +57,7 @@ impl<V: Journaled> Gate<V> {
 
     /// Opens a gate over a value. There may be as many passes as stated, of which this gives the first one, of number
     /// 0. On refusal the value is dropped.
-    pub fn open(alloc: Global, value: V, passes: u32) -> Result<(Gate<V>, Pass<V>), AllocError>
+    pub fn open(alloc: Global, value: V, passes: u32) -> Result<(Gate<V>, Pass<V>), NoMemory>
     where
         V: Drop,
         requires { (1 ≤ passes) × (passes ≤ PASSES) }
@@ -72,7 +73,7 @@ impl<V: Journaled> Gate<V> {
         let mut slots = Vec::with_capacity(alloc, 1)?;
         slots.push(Some(value))?;
         let Ok((table, seat)) = Table::new(alloc, &[count, count], slots, &opened) else {
-            return Err(AllocError);
+            return Err(NoMemory);
         };
         let gate = Gate {
             table,

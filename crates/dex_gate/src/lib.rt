@@ -17,6 +17,7 @@ mod stage;
 mod steps;
 mod turn;
 
+pub use dex_types::NoMemory;
 pub use door::Door;
 pub use gate::Gate;
 pub use journaled::Journaled;

@@ -11,6 +11,7 @@ mod reading;
 mod standard;
 mod writing;
 
+pub use dex_types::NoMemory;
 pub use failure::{Failed, ReadAll, WriteStop};
 pub use memory::listed_sink::MemSink;
 pub use memory::listed_source::MemSource;

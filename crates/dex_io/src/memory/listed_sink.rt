@@ -7,7 +7,8 @@ ghost use Rattle.dex_io.specs.Writing.{Writes};
 use super::plain_sink::SureSink;
 use super::schedule::Schedule;
 use crate::{Failed, Sink};
-use std::alloc::{AllocError, Global};
+use dex_types::NoMemory;
+use std::alloc::Global;
 use std::marker::Model;
 
 /// A sink with room that also fails at listed calls.
@@ -28,7 +29,7 @@ impl Model for MemSink {
 impl MemSink {
     /// An empty sink that takes `room` bytes in all, and fails at the calls whose number, counted from 0, stands in
     /// `fails`. From number 2^64 - 1 on each call has that number.
-    pub fn with_room(alloc: Global, room: usize, fails: Vec<u64>) -> Result<MemSink, AllocError>
+    pub fn with_room(alloc: Global, room: usize, fails: Vec<u64>) -> Result<MemSink, NoMemory>
         ensures { IfOk result (λ sink. sink ≡ record {
           sink = record { taken = []; room = room; faults = 0 };
           calls = 0;

@@ -6,7 +6,8 @@ ghost use Rattle.dex_io.specs.Writing.{Writes};
 
 use crate::failure::fault;
 use crate::{Failed, Sink};
-use std::alloc::{AllocError, Global};
+use dex_types::NoMemory;
+use std::alloc::Global;
 use std::marker::Model;
 
 /// Takes bytes until its room is used up, without taking memory for them.
@@ -30,7 +31,7 @@ impl Model for SureSink {
 
 impl SureSink {
     /// An empty sink that takes `room` bytes in all.
-    pub fn with_room(alloc: Global, room: usize) -> Result<SureSink, AllocError>
+    pub fn with_room(alloc: Global, room: usize) -> Result<SureSink, NoMemory>
         ensures { IfOk result (λ sink. sink ≡ record { taken = []; room = room; faults = 0 }) }
     {
         let bytes = Vec::with_capacity(alloc, room)?;
