@@ -18,7 +18,7 @@ pub const DATA: usize = 3_228;
 const ADDRESS: Field = Field { at: 0, len: 32 };
 
 /// Open-orders accounts that lie one after another, each as 32 bytes of its address and 3,228 of its data. Bytes behind
-/// the last whole account are none's, and nothing is said of them.
+/// the last whole account are none's.
 #[derive(Drop)]
 pub struct FlatOrders<'a> {
     pub bytes: &'a mut [u8],

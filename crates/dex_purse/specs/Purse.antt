@@ -87,8 +87,7 @@ abbrev pub brought_at : Slot → Roles → Transfers → ℕ
 brought_at slot roles t =
     amount_for slot roles.coin t.coin_out + amount_for slot roles.pc t.pc_out + amount_for slot roles.referrer t.referrer_out
 
--- nothing moves, or the bytes are a wallet that has what is taken, and its balance with what is brought stays below
--- 2^64
+-- nothing moves, or the bytes are a wallet that has what is taken, and its balance with what is brought stays below 2^64
 abbrev pub CanMove : ℕ → ℕ → List ℕ → Type 0
 CanMove taken brought bytes =
     ((taken ≡ 0) × (brought ≡ 0))
