@@ -7,7 +7,7 @@ use Rattle.dex_types.specs.declared.movements.MoveKind.{MoveKind}
 use Rattle.dex_types.specs.declared.movements.MoveKind.TheVariants.{Debit, Credit, Probe}
 use Rattle.dex_types.specs.declared.movements.Movement.{Movement}
 use Rattle.dex_types.specs.declared.rows.Row.{Row}
-use Rattle.dex_types.specs.declared.rows.RowPlaces.{RowPlaces}
+use Rattle.dex_world.specs.declared.places.RowPlaces.{RowPlaces}
 use Rattle.dex_types.specs.declared.rows.Seen.{Seen}
 use Rattle.dex_types.specs.declared.rows.WalletSeen.{WalletSeen}
 use Rattle.dex_types.specs.Addresses.{is_same}

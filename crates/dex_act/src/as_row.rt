@@ -2,9 +2,10 @@
 
 ghost use Rattle.std.specs.Prelude.{◌≡◌, Option, None, Some};
 ghost use Rattle.dex_types.specs.declared.rows.Row.{Row as OneRow};
-ghost use Rattle.dex_types.specs.declared.rows.RowPlaces.{RowPlaces as PlacesOf};
+ghost use Rattle.dex_world.specs.declared.places.RowPlaces.{RowPlaces as PlacesOf};
 
-use dex_types::{Row, RowPlaces};
+use dex_types::Row;
+use dex_world::RowPlaces;
 
 /// A row as it is handed in: by itself, and then it is looked up where its market and wallets stand; or with the places
 /// of these.

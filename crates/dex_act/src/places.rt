@@ -7,8 +7,9 @@ ghost use Rattle.dex_types.specs.Rows.{row_of};
 ghost use Rattle.dex_types.specs.Wallets.{row_wallets};
 ghost use Rattle.dex_act.specs.Wallets.{ArePlacesAmong, IsAt, IsNamed, IsRoleAt, is_among, wallet_places};
 
-use dex_types::{Address, Row, RowPlaces, Seen, is_same};
+use dex_types::{Address, Row, Seen, is_same};
 use dex_wallet::WalletCell;
+use dex_world::RowPlaces;
 
 /// Where the wallets that a row names stand among cells. The place of a role that names no wallet says nothing.
 #[derive(Clone, Copy, Debug, PartialEq, Eq)]

@@ -6,7 +6,7 @@ use Rattle.dex_bank.proofs.Common.{AreCells, CellState, CellsState, IsFirstAt, M
 use Rattle.std.specs.List.{All}
 use Rattle.std.proofs.lemmas.List.{get_or-map}
 use Rattle.std.proofs.lemmas.List.Quantifiers.{position-Some}
-use Rattle.dex_types.specs.declared.rows.RowPlaces.{RowPlaces}
+use Rattle.dex_world.specs.declared.places.RowPlaces.{RowPlaces}
 use Rattle.dex_types.specs.declared.terms.Program.{Program}
 use Rattle.dex_script_types.specs.Places.{ArePlaced, IsPlaced, IsRolePlaced, market_place}
 use Rattle.dex_act.specs.declared.places.WalletPlaces.{WalletPlaces}

@@ -12,8 +12,9 @@ use dex_act::{AsRow, Terms};
 use dex_cell::MarketCell;
 use dex_script_types::{RowList, Script};
 use dex_state::Outcome;
-use dex_types::{Named, NoMemory, Reply, RowPlaces};
+use dex_types::{Named, NoMemory, Reply};
 use dex_wallet::WalletCell;
+use dex_world::RowPlaces;
 use std::alloc::Global;
 use std::marker::Model;
 

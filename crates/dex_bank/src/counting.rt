@@ -11,7 +11,8 @@ ghost use Rattle.dex_bank.specs.Counts.{AreCounted, HaveSpare};
 ghost use Rattle.dex_bank.specs.Opened as first;
 
 use dex_script_types::RowList;
-use dex_types::{Accounts, NoMemory, RowPlaces};
+use dex_types::{Accounts, NoMemory};
+use dex_world::RowPlaces;
 use std::alloc::Global;
 
 /// Whether the place is one of these.

@@ -24,8 +24,9 @@ use dex_act::Terms;
 use dex_cell::MarketCell;
 use dex_script_types::RowList;
 use dex_token::WalletRef;
-use dex_types::{Accounts, MarketAccounts, Named, NoMemory, Program, RowPlaces, add};
+use dex_types::{Accounts, MarketAccounts, Named, NoMemory, Program, add};
 use dex_wallet::{Parcel, WalletCell};
+use dex_world::RowPlaces;
 use std::alloc::Global;
 
 /// The parcel that a token account's amount is. Where the accounts are conserved, the parcels of a mint are together

@@ -10,7 +10,8 @@ ghost use Rattle.dex_bank.specs.Stepping.{IsFirstAt};
 use crate::cells::Cells;
 use dex_act::{AsRow, WalletPlaces, places_in};
 use dex_cell::MarketCell;
-use dex_types::{Address, Row, RowPlaces, is_same};
+use dex_types::{Address, Row, is_same};
+use dex_world::RowPlaces;
 
 /// The place of the market of a row, and those of the wallets that it names.
 #[derive(Clone, Copy)]

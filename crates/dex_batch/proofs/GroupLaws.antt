@@ -3,7 +3,7 @@ use Rattle.std.proofs.Common.{◌≡◌, ℕ, zero, suc, ◌<◌, Bool, true, fa
 use Rattle.std.specs.List.{All, AllZip}
 use Rattle.std.proofs.lemmas.Bool.{cond-false, cond-true, cond_both, false≢true}
 use Rattle.dex_world.proofs.Common.{Address, All-cons, All-map, All-nil, All-weaker, Market, MarketState, PlainRow, WalletState, World, acted, alone, fold, fold_items, get_or-map, is_role, is_same, is_same-refl, is_same-sym, is_same-true, length-map, markets_acted, market_acted, names-roles, seen_by}
-use Rattle.dex_types.specs.declared.rows.RowPlaces.{RowPlaces}
+use Rattle.dex_world.specs.declared.places.RowPlaces.{RowPlaces}
 use Rattle.dex_types.specs.declared.rows.Seen.{Seen}
 use Rattle.dex_types.specs.declared.rows.WalletSeen.{WalletSeen}
 use Rattle.dex_cell.specs.CellState.{MarketCellState}

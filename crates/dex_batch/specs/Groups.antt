@@ -2,7 +2,7 @@
 use Rattle.std.specs.Prelude.{◌≡◌, ℕ, ◌<◌, List, [], ◌∷◌, length, if◌then◌else◌, slice_index_or}
 use Rattle.std.specs.List.{All}
 use Rattle.dex_types.specs.declared.addresses.Address.{Address}
-use Rattle.dex_types.specs.declared.rows.RowPlaces.{RowPlaces}
+use Rattle.dex_world.specs.declared.places.RowPlaces.{RowPlaces}
 use Rattle.dex_types.specs.Addresses.{is_same}
 use Rattle.dex_world.specs.World.{World}
 use Rattle.dex_parts.specs.Shards.{Sharding}

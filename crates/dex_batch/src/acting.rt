@@ -10,7 +10,8 @@ use crate::shares::Window;
 use dex_act::PlacedRow;
 use dex_bank::Cells;
 use dex_io::Pace;
-use dex_types::{Row, RowPlaces};
+use dex_types::Row;
+use dex_world::RowPlaces;
 
 /// All rows act in their order, each at its places.
 pub(crate) fn act_all<P: Pace>(cells: &mut Cells, rows: &[Row], places: &[RowPlaces], pace: &P)

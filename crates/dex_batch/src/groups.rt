@@ -5,7 +5,8 @@ ghost use Rattle.std.specs.List.{AllZip};
 ghost use Rattle.dex_batch.specs.Groups.{AreGroups, IsOfGroup, IsWalletOf};
 
 use crate::links::Links;
-use dex_types::{NoMemory, RowPlaces, add};
+use dex_types::{NoMemory, add};
+use dex_world::RowPlaces;
 use std::alloc::Global;
 
 /// The group of each market and of each wallet by its place, how many groups there are, and how many rows the largest

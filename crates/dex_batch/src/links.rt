@@ -1,6 +1,7 @@
 //! What the rows of a window link.
 
-use dex_types::{NoMemory, RowPlaces};
+use dex_types::NoMemory;
+use dex_world::RowPlaces;
 use std::alloc::Global;
 
 /// The place of no market.

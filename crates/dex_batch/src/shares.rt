@@ -2,7 +2,7 @@
 
 ghost use Rattle.std.specs.Prelude.{◌≡◌, IfOk, List, length, map};
 ghost use Rattle.std.specs.List.{All, AllZip};
-ghost use Rattle.dex_types.specs.declared.rows.RowPlaces.{RowPlaces as PlacesOf};
+ghost use Rattle.dex_world.specs.declared.places.RowPlaces.{RowPlaces as PlacesOf};
 ghost use Rattle.dex_types.specs.Rows.{row_of};
 ghost use Rattle.dex_bank.specs.Cells.{AreCells};
 ghost use Rattle.dex_batch.specs.Acting.{CanAllAct, HaveActed};

@@ -21,9 +21,8 @@ ghost use Rattle.dex_script.specs.Rows as rules;
 use dex_script::{Names, exceeds_row, is_bad_swap, make_room, push_placed};
 use dex_script_types::{RowList, Script};
 use dex_statement::{FaultKind, InstructionWords, RowError, SwapWords};
-use dex_types::{
-    Accounts, Address, MarketAccounts, NoMemory, Program, Row, RowPlaces, WIDE, is_same,
-};
+use dex_types::{Accounts, Address, MarketAccounts, NoMemory, Program, Row, WIDE, is_same};
+use dex_world::RowPlaces;
 use std::alloc::Global;
 use std::marker::Model;
 

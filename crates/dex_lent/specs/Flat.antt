@@ -29,4 +29,5 @@ with_data at written bytes = take at bytes ++ (written ++ drop (at + 3228) bytes
 pub record IsDataAt (address : Address) (bytes : List ℕ) (at : ℕ) : Type 0 where
   pub within : at + 3228 ≤ length bytes
   pub found : bytes_at address (accounts_in bytes) ≡ Some (take 3228 (drop at bytes))
-  pub changed : (written : List ℕ) → length written ≡ 3228 → accounts_in (with_data at written bytes) ≡ changed_at address (λ old. written) (accounts_in bytes)
+  pub changed : (written : List ℕ) → length written ≡ 3228
+      → accounts_in (with_data at written bytes) ≡ changed_at address (λ old. written) (accounts_in bytes)

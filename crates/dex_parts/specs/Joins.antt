@@ -1,6 +1,6 @@
 -- Labels of things that stand side by side, made one where rows join them.
 use Rattle.std.specs.Prelude.{◌==◌, ◌<◌, ◌+◌, ℕ, List, [], ◌∷◌, ◌++◌, if◌then◌else◌, map, nat_lt, slice_index}
-use Rattle.dex_types.specs.declared.rows.RowPlaces.{RowPlaces}
+use Rattle.dex_world.specs.declared.places.RowPlaces.{RowPlaces}
 
 -- two places that are joined
 abbrev pub Link : Type 0

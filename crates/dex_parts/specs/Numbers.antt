@@ -1,7 +1,7 @@
 -- The numbers of shards, by the labels that joins leave.
 use Rattle.std.specs.Prelude.{◌+◌, ℕ, zero, suc, List, [], ◌∷◌, ◌++◌, drop, if◌then◌else◌, map, nat_lt}
 use Rattle.std.specs.Prelude.{slice_index, take}
-use Rattle.dex_types.specs.declared.rows.RowPlaces.{RowPlaces}
+use Rattle.dex_world.specs.declared.places.RowPlaces.{RowPlaces}
 use Rattle.dex_parts.specs.Joins.{all_joined, links_of}
 
 -- the first so many numbers

@@ -1,11 +1,12 @@
 //! Where a script may be cut into parts that follow each other.
 
 ghost use Rattle.std.specs.Prelude.{◌≡◌, ◌<◌, ◌++◌, ◌∷◌, [], IfOk, OnOk, length, map};
-ghost use Rattle.dex_types.specs.declared.rows.RowPlaces.{RowPlaces as RowPlacesOf};
+ghost use Rattle.dex_world.specs.declared.places.RowPlaces.{RowPlaces as RowPlacesOf};
 ghost use Rattle.dex_parts.specs.Cuts.{AreCutBy, AreInOrder, IsPart, numbers_of};
 
 use dex_script_types::Script;
-use dex_types::{NoMemory, RowPlaces};
+use dex_types::NoMemory;
+use dex_world::RowPlaces;
 use std::alloc::Global;
 
 /// One count more.

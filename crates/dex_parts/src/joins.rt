@@ -4,7 +4,7 @@ ghost use Rattle.std.specs.Prelude.{◌≡◌, All, length, map};
 ghost use Rattle.dex_parts.specs.Joins.{IsWithin, all_joined, joined, leg_links, links_of, relabelled};
 ghost use Rattle.dex_parts.specs.Joins.{role_links, row_links};
 
-use dex_types::RowPlaces;
+use dex_world::RowPlaces;
 
 /// The place of a role that names no wallet.
 const NO_WALLET: u16 = u16::MAX;

@@ -1,14 +1,15 @@
 //! The shards into which a script falls.
 
 ghost use Rattle.std.specs.Prelude.{◌≡◌, ◌+◌, ◌<◌, ◌++◌, ◌∷◌, [], All, IfOk, OnOk, length, map};
-ghost use Rattle.dex_types.specs.declared.rows.RowPlaces.{RowPlaces as RowPlacesOf};
+ghost use Rattle.dex_world.specs.declared.places.RowPlaces.{RowPlaces as RowPlacesOf};
 ghost use Rattle.dex_parts.specs.Joins.{IsWithin, links_of};
 ghost use Rattle.dex_parts.specs.Numbers.{in_market, labels_of, market_shards, numbers_to, row_shards, wallet_shards};
 ghost use Rattle.dex_parts.specs.Sharded.{AreShardsOf};
 
 use crate::joins::join_rows;
 use dex_script_types::Script;
-use dex_types::{NoMemory, RowPlaces};
+use dex_types::NoMemory;
+use dex_world::RowPlaces;
 use std::alloc::Global;
 
 /// The shard of each market, wallet and row of a script. A shard is named by the place of its first market. Rows of

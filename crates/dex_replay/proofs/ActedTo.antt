@@ -10,7 +10,7 @@ use Rattle.std.proofs.Math.Seq.{drop-append_seam}
 use Rattle.dex_world.specs.Items.{Item, items_of, pair_of}
 use Rattle.dex_world.proofs.GroupLaws.{grouped-apart, grouped-pair}
 use Rattle.dex_world.proofs.ItemLaws.{alone-acts}
-use Rattle.dex_types.specs.declared.rows.RowPlaces.{RowPlaces}
+use Rattle.dex_world.specs.declared.places.RowPlaces.{RowPlaces}
 use Rattle.dex_bank.specs.Cells.{CanActBoth, IsTakeOrRefused}
 use Rattle.dex_bank.specs.Places.{ArePlacedIn, ArePlacesIn}
 use Rattle.dex_bank.proofs.Stands.{its-address, stand-still}

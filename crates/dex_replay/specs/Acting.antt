@@ -1,7 +1,7 @@
 -- Items that act one after the other, until no row is left.
 use Rattle.std.specs.Prelude.{◌≡◌, ℕ, ◌<◌, ◌≤◌, List, ◌∷◌, ◌++◌, All, Option, drop, get_or, length, slice_get}
 use Rattle.std.specs.List.{AllPairs, flat_map}
-use Rattle.dex_types.specs.declared.rows.RowPlaces.{RowPlaces}
+use Rattle.dex_world.specs.declared.places.RowPlaces.{RowPlaces}
 use Rattle.dex_types.specs.Rows.{PlainRow}
 use Rattle.dex_cell.specs.CellState.{MarketCellState}
 use Rattle.dex_world.specs.Groups.{members}

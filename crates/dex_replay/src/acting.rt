@@ -1,7 +1,7 @@
 //! All items of a script act on its cells, one after the other.
 
 ghost use Rattle.std.specs.Prelude.{◌≡◌, ◌∷◌, ◌-◌, List, length, map, option_copied, option_map, take};
-ghost use Rattle.dex_types.specs.declared.rows.RowPlaces.{RowPlaces as RowPlacesOf};
+ghost use Rattle.dex_world.specs.declared.places.RowPlaces.{RowPlaces as RowPlacesOf};
 ghost use Rattle.dex_types.specs.Rows.{PlainRow, row_of};
 ghost use Rattle.dex_world.specs.Items.{items_of};
 ghost use Rattle.dex_bank.specs.Cells.{opened_of, world_of};
@@ -14,7 +14,8 @@ ghost use Rattle.dex_replay.specs.Replays.{world_after};
 
 use dex_act::PlacedRow;
 use dex_bank::Cells;
-use dex_types::{Row, RowPlaces};
+use dex_types::Row;
+use dex_world::RowPlaces;
 
 /// The item that begins with a row acts: the row, or, where the one behind it has its number, both as the legs of a
 /// swap. The row stands among the cells at the places `at`, and the one behind it at `at_behind`. Says how many rows

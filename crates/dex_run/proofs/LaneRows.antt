@@ -5,7 +5,7 @@ use Rattle.dex_replay.proofs.Common.{AreLegs, AreRows, PlainScript, lanes_of}
 use Rattle.std.specs.List.{All}
 use Rattle.dex_world.proofs.MappedLists.{same-get}
 use Rattle.dex_run.proofs.Common.{AreNext, AreRowsOf, BankState, Begins, IsNext, SeatState}
-use Rattle.dex_types.specs.declared.rows.RowPlaces.{RowPlaces}
+use Rattle.dex_world.specs.declared.places.RowPlaces.{RowPlaces}
 use Rattle.dex_script_types.specs.Places.{AreBeside, IsBeside, IsPlaced}
 use Rattle.dex_script_types.proofs.PlacedLaws.{item-at, item_at, nowhere, placed-long, row-at}
 use Rattle.std.proofs.lemmas.Bool.{cases_lt}

@@ -1,7 +1,7 @@
 -- What a lane's job needs, and what it leaves of its seat.
 use Rattle.std.specs.Prelude.{◌≡◌, ◌<◌, List, [], length, map}
 use Rattle.dex_types.specs.declared.rows.Row.{Row}
-use Rattle.dex_types.specs.declared.rows.RowPlaces.{RowPlaces}
+use Rattle.dex_world.specs.declared.places.RowPlaces.{RowPlaces}
 use Rattle.dex_types.specs.Rows.{row_of}
 use Rattle.dex_script_types.specs.Facts.{IsScript}
 use Rattle.dex_script_types.specs.Places.{AreBeside, ArePlaced}

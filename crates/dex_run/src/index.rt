@@ -9,7 +9,8 @@ ghost use Rattle.dex_run.specs.LaneItems.{IsAlone, IsIndex, IsSwapAt, OfRows};
 
 use crate::columns::columns_for;
 use dex_script_types::RowList;
-use dex_types::{NoMemory, RowPlaces, add};
+use dex_types::{NoMemory, add};
+use dex_world::RowPlaces;
 use std::alloc::Global;
 
 /// Whether the row at a place and the one after it are the legs of one swap: they have one number, as what stands

@@ -14,7 +14,7 @@ use dex_lanes::Job;
 use dex_script_types::RowList;
 use dex_swap::swap_two;
 use dex_turns::{Bank, LaneSeat};
-use dex_types::RowPlaces;
+use dex_world::RowPlaces;
 use std::sync::Wait;
 
 /// What all lanes look at: the bank with a door for each of its markets, all rows with their places, and where the

@@ -11,7 +11,8 @@
 use crate::index::is_swap;
 use crate::lane::Lanes;
 use dex_gate::Door;
-use dex_types::{NoMemory, RowPlaces, add};
+use dex_types::{NoMemory, add};
+use dex_world::RowPlaces;
 use std::alloc::Global;
 use std::sync::Wait;
 

@@ -5,7 +5,7 @@ use Rattle.std.proofs.lemmas.Bool.{lt-leb}
 use Rattle.std.proofs.lemmas.Iterator.Adapters.{position_from-zero}
 use Rattle.std.proofs.lemmas.List.{length-map}
 use Rattle.dex_types.specs.declared.addresses.Address.{Address}
-use Rattle.dex_types.specs.declared.rows.RowPlaces.{RowPlaces}
+use Rattle.dex_world.specs.declared.places.RowPlaces.{RowPlaces}
 use Rattle.dex_types.specs.Accounts.{PlainAccount, PlainAccounts, PlainMarketAccounts}
 use Rattle.dex_types.specs.Addresses.{is_same}
 use Rattle.dex_types.specs.Rows.{PlainRow}

@@ -15,7 +15,8 @@ use crate::mints::Mints;
 use crate::taken::taken_addresses;
 use dex_dump::TakenAddresses;
 use dex_script_types::{RowList, Script};
-use dex_types::{Accounts, Address, Limits, Named, NoMemory, Program, Row, RowPlaces};
+use dex_types::{Accounts, Address, Limits, Named, NoMemory, Program, Row};
+use dex_world::RowPlaces;
 use std::alloc::Global;
 
 /// The accounts with which a script starts, as far as they are declared.

@@ -12,7 +12,8 @@ use crate::draft::Draft;
 use crate::names::Stand;
 use crate::swap::is_bad_swap;
 use dex_statement::{FaultKind, InstructionWords, RowError};
-use dex_types::{NoMemory, Row, RowPlaces};
+use dex_types::{NoMemory, Row};
+use dex_world::RowPlaces;
 
 impl Draft {
     /// Whether no instruction row of this number finds room.

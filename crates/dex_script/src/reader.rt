@@ -18,7 +18,8 @@ use dex_statement::{
     FaultKind, InstructionWords, Parties, RowError, Statement, SwapWords, read_instruction,
     statement_of,
 };
-use dex_types::{Limits, NoMemory, RowPlaces, STANDARD};
+use dex_types::{Limits, NoMemory, STANDARD};
+use dex_world::RowPlaces;
 use std::alloc::Global;
 use std::marker::Model;
 

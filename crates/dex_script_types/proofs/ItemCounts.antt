@@ -3,7 +3,7 @@ use Rattle.std.proofs.Common.{◌≡◌, ◌∙◌, ◌+◌, ◌<◌, ℕ, suc, 
 use Rattle.std.specs.Option.{option_eq}
 use Rattle.std.proofs.Math.Seq.{drop-cons}
 use Rattle.std.proofs.lemmas.List.{length-map}
-use Rattle.dex_types.specs.declared.rows.RowPlaces.{RowPlaces}
+use Rattle.dex_world.specs.declared.places.RowPlaces.{RowPlaces}
 use Rattle.dex_types.specs.Rows.{PlainRow}
 use Rattle.dex_world.specs.Groups.{Group, alone, grouped, joined, map_group, members}
 use Rattle.dex_world.specs.Items.{items_of}

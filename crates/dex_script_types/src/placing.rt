@@ -6,7 +6,8 @@ ghost use Rattle.dex_types.specs.Rows.{row_of};
 ghost use Rattle.dex_world.specs.Fold as fold;
 ghost use Rattle.dex_script_types.specs.Places.{IsPlaced, wallet_place};
 
-use dex_types::{Address, Row, RowPlaces, is_same};
+use dex_types::{Address, Row, is_same};
+use dex_world::RowPlaces;
 
 /// Whether a role names a wallet.
 pub fn is_role(role: Option<Address>, address: Address) -> bool

@@ -5,7 +5,8 @@ ghost use Rattle.dex_world.specs.Items.{items_of};
 ghost use Rattle.dex_script_types.specs.Places.{items_at};
 
 use crate::row_list::RowList;
-use dex_types::{Accounts, Limits, Program, RowPlaces};
+use dex_types::{Accounts, Limits, Program};
+use dex_world::RowPlaces;
 use std::marker::Model;
 
 /// A script: the accounts with which it starts, its instruction rows in their order, how many lanes it has (the highest

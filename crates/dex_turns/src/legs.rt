@@ -13,8 +13,9 @@ use dex_io::Pace;
 use dex_journals::BankMarket;
 use dex_script_types::place_in;
 use dex_stamps::Stamp;
-use dex_types::{Address, Row, RowPlaces};
+use dex_types::{Address, Row};
 use dex_wallet::WalletCell;
+use dex_world::RowPlaces;
 
 /// The markets of the legs.
 pub(crate) struct TwoMarkets {

@@ -11,7 +11,8 @@ ghost use Rattle.dex_script_types.specs.Places.{IsPlaced, IsRolePlaced, market_p
 use dex_act::{AsRow, Terms};
 use dex_script_types::{Script, addresses_of_markets, addresses_of_wallets};
 use dex_stamps::Kept;
-use dex_types::{Address, NoMemory, Row, RowPlaces, is_same};
+use dex_types::{Address, NoMemory, Row, is_same};
+use dex_world::RowPlaces;
 use std::alloc::Global;
 use std::marker::Model;
 

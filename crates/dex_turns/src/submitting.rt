@@ -14,7 +14,8 @@ use crate::seat::LaneSeat;
 use crate::stamped_record::StampedRecord;
 use dex_act::AsRow;
 use dex_io::Pace;
-use dex_types::{Reply, Row, RowPlaces};
+use dex_types::{Reply, Row};
+use dex_world::RowPlaces;
 use std::sync::Wait;
 
 impl Bank {

@@ -18,7 +18,7 @@ use crate::turns::take_market;
 use dex_gate::{Away, Gate, Pass};
 use dex_journals::BankMarket;
 use dex_stamps::Stamp;
-use dex_types::RowPlaces;
+use dex_world::RowPlaces;
 use std::sync::Wait;
 
 /// The markets of two legs, what stays behind of their turns, and a stamp that none of theirs is above.

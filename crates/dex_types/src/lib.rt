@@ -33,6 +33,6 @@ pub use movements::{Entry, MoveKind, Movement, WalletEntry};
 pub use orders::{Event, Order};
 pub use refusals::Refusal;
 pub use replies::Reply;
-pub use rows::{Row, RowPlaces, Seen, WalletSeen};
+pub use rows::{Row, Seen, WalletSeen};
 pub use sides::{SideBook, SideRead};
 pub use terms::{Lots, NoMemory, OrderType, Program, SelfTrade, Side, Tier};

@@ -21,20 +21,6 @@ pub struct Row {
     pub now: i64,
 }
 
-/// What a walk over all rows asks of each, kept beside it: its number, its lane, and where its market and its wallets
-/// stand in the lists of those with which its script starts. The place of a role that names no wallet is `u16::MAX`, at
-/// which none stands.
-#[derive(Clone, Copy, Debug, PartialEq, Eq)]
-pub struct RowPlaces {
-    pub number: u32,
-    pub lane: u32,
-    pub market: u16,
-    pub coin: u16,
-    pub pc: u16,
-    pub discount: u16,
-    pub referrer: u16,
-}
-
 /// A wallet as a row sees it: its address, the mint of its token, its owning person, and its native balance before the
 /// row.
 #[derive(Clone, Copy, Debug, PartialEq, Eq)]

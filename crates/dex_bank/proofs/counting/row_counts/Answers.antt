@@ -1,7 +1,7 @@
 use Rattle.std.proofs.Common.{◌≡◌, ◌+◌, ◌<◌, ◌≤◌, List, [], ◌∷◌, ℕ, arith, get_or, length, map, take, sym, subst, ◌∙◌}
 use Rattle.dex_world.proofs.Common.{PlainAccount, PlainAccounts, PlainMarketAccounts, Row, accounts_of, length-map, market_accounts_of, named_of, names, row_of, with_items_is}
 use Rattle.std.proofs.lemmas.List.{length-take-le}
-use Rattle.dex_types.specs.declared.rows.RowPlaces.{RowPlaces}
+use Rattle.dex_world.specs.declared.places.RowPlaces.{RowPlaces}
 use Rattle.dex_script_types.specs.Places.{ArePlaced, IsBeside, IsPlaced}
 use Rattle.dex_script_types.proofs.PlacedLaws.{item-at, item_at, nowhere, placed-long, row-at}
 use Rattle.dex_bank.specs.Counts.{HaveSpare, wallets_told}

@@ -1,7 +1,7 @@
 use Rattle.std.proofs.Common.{List, drop, length, map, sym, subst, ◌∙◌, arith}
 use Rattle.std.proofs.lemmas.List.{get_or_default}
 use Rattle.dex_world.proofs.Common.{Row, length-map, row_of}
-use Rattle.dex_types.specs.declared.rows.RowPlaces.{RowPlaces}
+use Rattle.dex_world.specs.declared.places.RowPlaces.{RowPlaces}
 use Rattle.dex_replay.specs.Acting.{AreLeft}
 use Rattle.dex_replay.proofs.ActedTo.{all-acted, all-left, as-many, behind-item, so-many, stands-second}
 use Rattle.dex_replay.proofs.Starts.{opened-opened}

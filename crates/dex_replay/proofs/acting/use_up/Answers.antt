@@ -2,7 +2,7 @@ use Rattle.std.proofs.Common.{◌≡◌, ◌-◌, ◌++◌, suc, List, [], ◌�
 use Rattle.dex_world.proofs.Common.{Row, length-map, row_of}
 use Rattle.std.proofs.lemmas.List.{length-reverse, length-take, reverse-append, reverse-reverse}
 use Rattle.dex_bank.specs.Places.{ArePlacedIn}
-use Rattle.dex_types.specs.declared.rows.RowPlaces.{RowPlaces}
+use Rattle.dex_world.specs.declared.places.RowPlaces.{RowPlaces}
 use Rattle.dex_replay.specs.Acting.{AreLeft}
 use Rattle.dex_replay.proofs.ActedTo.{all-acted, all-left, as-many, behind-item, is-next, last-first, reverse-take, so-many, stands-before, stands-last}
 use Rattle.dex_replay.proofs.Starts.{opened-opened}

@@ -1,7 +1,7 @@
 use Rattle.std.proofs.Common.{List, ap, arith, length, map, sym, subst, ◌∙◌}
 use Rattle.dex_world.proofs.Common.{range_with_len, row_of}
 use Rattle.dex_replay.proofs.Common.{IsOneOrder, IsRunOf, IsScript, PlainScript, outcome_of}
-use Rattle.dex_types.specs.declared.rows.RowPlaces.{RowPlaces}
+use Rattle.dex_world.specs.declared.places.RowPlaces.{RowPlaces}
 use Rattle.dex_script_types.specs.Places.{AreBeside, ArePlaced}
 use Rattle.dex_run.proofs.Common.{IsIndex}
 use Rattle.dex_run.proofs.Jobs.{after-done, after-lanes, after-of_bank, lane-below}

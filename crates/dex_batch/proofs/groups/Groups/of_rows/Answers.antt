@@ -1,7 +1,7 @@
 use Rattle.std.proofs.Common.{[], ◌∷◌, ◌++◌, List, arith, sym, subst, take}
 use Rattle.std.specs.List.{AllZip}
 use Rattle.std.proofs.lemmas.List.{take_more}
-use Rattle.dex_types.specs.declared.rows.RowPlaces.{RowPlaces}
+use Rattle.dex_world.specs.declared.places.RowPlaces.{RowPlaces}
 use Rattle.dex_batch.specs.Groups.{IsOfGroup}
 use Rattle.dex_batch.proofs.PartLaws.{zip-more}
 use Rattle.dex_batch.proofs.groups.Groups.of_rows.Goals as goal

@@ -1,7 +1,7 @@
 use Rattle.std.proofs.Common.{sym, subst, ◌∙◌}
 use Rattle.std.specs.Prelude.{IfSome}
 use Rattle.dex_types.specs.declared.rows.Row.{Row}
-use Rattle.dex_types.specs.declared.rows.RowPlaces.{RowPlaces}
+use Rattle.dex_world.specs.declared.places.RowPlaces.{RowPlaces}
 use Rattle.dex_world.proofs.Common.{row_of}
 use Rattle.dex_script_types.specs.Places.{IsPlaced}
 use Rattle.dex_turns.proofs.Common.{AreNext, BankState, HaveSubmitted, IsBank, IsRowOf}

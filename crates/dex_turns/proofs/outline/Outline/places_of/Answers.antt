@@ -1,7 +1,7 @@
 use Rattle.std.proofs.Common.{sym, subst, ◌∙◌, Option}
 use Rattle.std.specs.Prelude.{IfSome}
 use Rattle.dex_types.specs.declared.rows.Row.{Row}
-use Rattle.dex_types.specs.declared.rows.RowPlaces.{RowPlaces}
+use Rattle.dex_world.specs.declared.places.RowPlaces.{RowPlaces}
 use Rattle.dex_types.specs.Rows.{row_of}
 use Rattle.dex_script_types.specs.Facts.{IsRowOf}
 use Rattle.dex_script_types.specs.Places.{IsPlaced}
