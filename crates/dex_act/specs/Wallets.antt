@@ -1,7 +1,7 @@
 -- What a row does to the cells of wallets.
 use Rattle.std.specs.Prelude.{◌&&◌, ◌≡◌, ℕ, zero, suc, ◌+◌, ◌<◌, ◌≤◌, ◌^◌, ◌⊎◌, Bool, true, false, ◌||◌}
 use Rattle.std.specs.Prelude.{List, [], ◌∷◌, Option, Some, None, if◌then◌else◌, slice_index_or, length, map}
-use Rattle.std.specs.List.{All}
+use Rattle.std.specs.List.{All, position}
 use Rattle.dex_types.specs.declared.addresses.Address.{Address}
 use Rattle.dex_types.specs.declared.movements.MoveKind.{MoveKind}
 use Rattle.dex_types.specs.declared.movements.MoveKind.TheVariants.{Debit, Credit, Probe}
@@ -51,6 +51,10 @@ AreApart (cell ∷ cells) = (is_among cell.address cells ≡ false) × AreApart 
 pub record IsAt (address : Address) (cells : List CellState) (place : ℕ) : Type 0 where
   pub within : place < length cells
   pub here : (default : CellState) → is_same address (slice_index_or cells place default).address ≡ true
+
+-- the place of the first cell of an address
+abbrev pub cell_place : Address → List CellState → Option ℕ
+cell_place address cells = position (is_same address) (map (λ (cell : CellState). cell.address) cells)
 
 -- the wallet that a role names is among the cells
 abbrev pub IsNamed : List CellState → Option Address → Type 0

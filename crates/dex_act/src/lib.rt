@@ -11,5 +11,5 @@ mod wallets;
 
 pub use as_row::{AsRow, PlacedRow};
 pub use places::WalletPlaces;
-pub use sight::Terms;
+pub use dex_process::Terms;
 pub use steps::{Legs, RowAt, RowDone, step, step_two};
