@@ -9,16 +9,17 @@ use Rattle.std.proofs.lemmas.List.Quantifiers.{position-Some}
 use Rattle.dex_world.specs.declared.places.RowPlaces.{RowPlaces}
 use Rattle.dex_types.specs.declared.terms.Program.{Program}
 use Rattle.dex_types.specs.Wallets.{row_wallets}
-use Rattle.dex_world.specs.Places.{ArePlacesOf, AreWalletsAt}
+use Rattle.dex_world.specs.Places.{ArePlacesOf, AreWalletsAt, IsIndexOf, place_at}
 use Rattle.dex_script_types.specs.Places.{ArePlaced, IsPlaced, market_place, wallet_place}
+use Rattle.dex_script_types.proofs.FoundLaws.{found-at}
 use Rattle.dex_script_types.proofs.PlacedLaws.{position-map}
 use Rattle.dex_wallet.specs.CellState.{new_cell}
-use Rattle.dex_act.specs.Wallets.{cell_place, wallet_places}
+use Rattle.dex_act.specs.Wallets.{IsRoleAt, cell_place, wallet_places}
 use Rattle.dex_world.proofs.MappedLists.{map-agree, map-map}
 use Rattle.dex_bank.specs.Opened.{opened_with}
 use Rattle.dex_bank.specs.Places.{ArePlacedIn, ArePlacesIn, StandsAt}
 use Rattle.dex_act.proofs.BehindLaws.{same-at, some-of}
-use Rattle.dex_act.proofs.InHand.{wallets-stand}
+use Rattle.dex_act.proofs.InHand.{stands-at}
 use Rattle.dex_bank.proofs.StepWorld.{opened_market}
 
 -- ---- a script's rows among the cells with which it starts
@@ -56,10 +57,10 @@ module _ (rows : List PlainRow) where
       market = first-opened row.market start.markets places.market is.market;
       wallets = record {
         places = wallets-opened start.wallets (row_wallets row) places.wallets.places is.wallets.places;
-        coin = is.wallets.coin;
-        pc = is.wallets.pc;
-        discount = is.wallets.discount;
-        referrer = is.wallets.referrer;
+        of_coin = is.wallets.of_coin;
+        of_pc = is.wallets.of_pc;
+        of_discount = is.wallets.of_discount;
+        of_referrer = is.wallets.of_referrer;
       };
     }
 
@@ -72,7 +73,21 @@ module _ (rows : List PlainRow) where
 -- a row stands where the places beside it tell
 pub stands-told : (cells : CellsState) (row : PlainRow) (places : RowPlaces) → ArePlacesIn cells row places
     → StandsAt cells row places.market (wallet_places places.wallets)
-stands-told cells row places at = record { market = at.market; wallets = wallets-stand row places.wallets cells.wallets at.wallets }
+stands-told cells row places at = record {
+  market = at.market;
+  wallets = record {
+    coin = stands row.coin places.wallets.coin at.wallets.of_coin;
+    pc = stands row.pc places.wallets.pc at.wallets.of_pc;
+    discount = stands row.discount places.wallets.discount at.wallets.of_discount;
+    referrer = stands row.referrer places.wallets.referrer at.wallets.of_referrer;
+  };
+}
+  where
+    stands : (role : Option Address) (index : ℕ) → IsIndexOf (row_wallets row) role index → IsRoleAt cells.wallets role (place_at places.wallets index)
+    stands None index is = tt
+    stands (Some address) index is =
+        stands-at address cells.wallets (place_at places.wallets index)
+        (found-at (λ (a : Address). cell_place a cells.wallets) (row_wallets row) places.wallets.places index address at.wallets.places is)
 
 -- ---- no row moves a cell
 
