@@ -4,7 +4,7 @@ use Rattle.dex_types.specs.declared.account_bytes.Named.{Named}
 use Rattle.dex_world.proofs.Common.{PlainRow, Refusal, Seen, request_of, row_of, seen_by, why, why_in}
 use Rattle.dex_bank.proofs.Common.{AreCells, CellState, CellsState, IsFirstAt, MarketCellState, world_of}
 use Rattle.dex_cell.specs.CellState.{market_at}
-use Rattle.dex_act.specs.declared.sight.Terms.{Terms}
+use Rattle.dex_act.specs.Steps.{Terms}
 use Rattle.dex_act.specs.declared.steps.Legs.{Legs}
 use Rattle.dex_act.specs.declared.steps.RowDone.{RowDone}
 use Rattle.dex_act.specs.Steps.{AreStepsOn, CanStepBoth, HasDone}
