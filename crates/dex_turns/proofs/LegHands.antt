@@ -25,21 +25,21 @@ pub legs-at : (first second : PlainRow) → AreLegs first second → (wallets : 
     → ArePlacesAmong cells first (hand_places wallets)
     × ArePlacesAmong cells second (record { coin = wallets.discount; pc = wallets.referrer; discount = wallets.discount; referrer = wallets.referrer })
 legs-at first second legs wallets place_of cells are at =
-    let none : {role : Option Address} (place : ℕ) → role ≡ None → IsRoleAt cells role place =
-    λ place is. subst (λ (role : Option Address). IsRoleAt cells role place) (sym is) tt in
+    let none : (role : Option Address) (place : ℕ) → role ≡ None → IsRoleAt cells role place =
+    λ role place is. subst (λ (role : Option Address). IsRoleAt cells role place) (sym is) tt in
     let own : (role : Option Address) (index : ℕ) → IsIndexOf (leg_wallets first second) role index → IsRoleAt cells role index =
     λ role index is. role-in-hand cells (leg_wallets first second) role index are is in (
       record {
-        coin = own first.coin wallets.coin at.coin;
-        pc = own first.pc wallets.pc at.pc;
-        discount = none wallets.discount legs.first.discount;
-        referrer = none wallets.referrer legs.first.referrer;
+        coin = own first.coin wallets.coin at.of_coin;
+        pc = own first.pc wallets.pc at.of_pc;
+        discount = none first.discount wallets.discount legs.first.discount;
+        referrer = none first.referrer wallets.referrer legs.first.referrer;
       },
       record {
-        coin = own second.coin wallets.discount at.discount;
-        pc = own second.pc wallets.referrer at.referrer;
-        discount = none wallets.discount legs.second.discount;
-        referrer = none wallets.referrer legs.second.referrer;
+        coin = own second.coin wallets.discount at.of_discount;
+        pc = own second.pc wallets.referrer at.of_referrer;
+        discount = none second.discount wallets.discount legs.second.discount;
+        referrer = none second.referrer wallets.referrer legs.second.referrer;
       },
     )
 

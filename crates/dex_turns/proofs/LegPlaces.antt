@@ -51,7 +51,7 @@ IsFresh (Some new) others = list_any (is_same new) others ≡ false
 
 count-role : (address : Address) (role : Option Address) (others : List Address) → IsFresh role others
     → count address (with_role role others) ≡ below address role + count address others
-count-role address None others fresh = refl
+count-role address None others fresh = omega arith
 count-role address (Some new) others fresh = count-with address new others fresh
 
 is_less-back : (bytes others : List ℕ) → is_less bytes others ≡ true → is_less others bytes ≡ false
@@ -187,7 +187,7 @@ module _ (wallets : List PlainAccount) (named : List Address) (few : length name
   index-within address k is = (position-Some (is_same address) named k address is).0
 
   index-is : (address : Address) (k : ℕ) → position (is_same address) named ≡ Some k → (d : Address) → get_or named k d ≡ address
-  index-is address k is d = sym (is_same-true address (get_or named k d) (position-Some (is_same address) named k d is).1.0)
+  index-is address k is d = sym (is_same-true address (get_or named k d) (position-Some (is_same address) named k d is).1)
 
   stand-put : (role : Option Address) (index at : ℕ) (test : Address → Bool) (places : List ℕ) → length places ≡ 4 → IsIndexOf named role index → IsRolePlaced wallets role at
       → Stand test places → Stand (λ address. is_role role address || test address) (set places index at)
@@ -249,43 +249,37 @@ none-there (suc (suc (suc zero))) = refl
 none-there (suc (suc (suc (suc k)))) = refl
 
 -- the wallets of both legs stand together where those of each stand
-pub both-at : (script : PlainScript) (first second : PlainRow) (legs : AreLegs first second) (one two : RowPlaces) → IsPlaced script.start first one → IsPlaced script.start second two
-    → (places : List ℕ) → places ≡ set (set (set (set (65535 ∷ 65535 ∷ 65535 ∷ 65535 ∷ []) (index_among first second second.pc) (pc_at two)) (index_among first second second.coin) (coin_at two))
-    (index_among first second first.pc) (pc_at one)) (index_among first second first.coin) (coin_at one)
-    → AreLegsAt script first second (record {
-      places = places;
-      coin = index_among first second first.coin;
-      pc = index_among first second first.pc;
-      discount = index_among first second second.coin;
-      referrer = index_among first second second.pc;
-    })
+pub both-at : (script : PlainScript) (first second : PlainRow) → AreLegs first second → (one two : RowPlaces) → IsPlaced script.start first one → IsPlaced script.start second two
+    → (coin pc discount referrer : ℕ) → coin ≡ index_among first second first.coin → pc ≡ index_among first second first.pc → discount ≡ index_among first second second.coin
+    → referrer ≡ index_among first second second.pc → (places : List ℕ)
+    → places ≡ set (set (set (set (65535 ∷ 65535 ∷ 65535 ∷ 65535 ∷ []) referrer (pc_at two)) discount (coin_at two)) pc (pc_at one)) coin (coin_at one)
+    → AreLegsAt script first second (record { places = places; coin = coin; pc = pc; discount = discount; referrer = referrer })
 unfolding nones
-both-at script first second legs one two one_at two_at places places_are =
+both-at script first second legs one two one_at two_at coin pc discount referrer coin_is pc_is discount_is referrer_is places places_are =
     let wallets : List PlainAccount = script.start.wallets in
     let named : List Address = leg_wallets first second in
     let few : length named ≤ 4 = length-roles first.coin first.pc second.coin second.pc in
-    let coin = first-index first second legs first.coin (λ address is. coin-named first address is) in
-    let pc = first-index first second legs first.pc (λ address is. pc-named first address is) in
-    let coin_next = second-index first second legs second.coin (λ address is. coin-named second address is) in
-    let pc_next = second-index first second legs second.pc (λ address is. pc-named second address is) in
-    let index : Option Address → ℕ = index_among first second in
-    let p1 : List ℕ = set nones (index second.pc) (pc_at two) in
-    let p2 : List ℕ = set p1 (index second.coin) (coin_at two) in
-    let p3 : List ℕ = set p2 (index first.pc) (pc_at one) in
-    let p4 : List ℕ = set p3 (index first.coin) (coin_at one) in
-    let l1 : length p1 ≡ 4 = length-set nones (index second.pc) (pc_at two) in
-    let l2 : length p2 ≡ 4 = length-set p1 (index second.coin) (coin_at two) ∙ l1 in
-    let l3 : length p3 ≡ 4 = length-set p2 (index first.pc) (pc_at one) ∙ l2 in
-    let l4 : length p4 ≡ 4 = length-set p3 (index first.coin) (coin_at one) ∙ l3 in
-    let stand = stand-put wallets named few first.coin (index first.coin) (coin_at one) _ p3 l3 coin (coin-placed script.start first one one_at)
-    (stand-put wallets named few first.pc (index first.pc) (pc_at one) _ p2 l2 pc (pc-placed script.start first one one_at)
-    (stand-put wallets named few second.coin (index second.coin) (coin_at two) _ p1 l1 coin_next (coin-placed script.start second two two_at)
-    (stand-put wallets named few second.pc (index second.pc) (pc_at two) (λ address. false) nones refl pc_next (pc-placed script.start second two two_at)
+    let of_coin = subst (IsIndexOf named first.coin) (sym coin_is) (first-index first second legs first.coin (λ address is. coin-named first address is)) in
+    let of_pc = subst (IsIndexOf named first.pc) (sym pc_is) (first-index first second legs first.pc (λ address is. pc-named first address is)) in
+    let of_discount = subst (IsIndexOf named second.coin) (sym discount_is) (second-index first second legs second.coin (λ address is. coin-named second address is)) in
+    let of_referrer = subst (IsIndexOf named second.pc) (sym referrer_is) (second-index first second legs second.pc (λ address is. pc-named second address is)) in
+    let p1 : List ℕ = set nones referrer (pc_at two) in
+    let p2 : List ℕ = set p1 discount (coin_at two) in
+    let p3 : List ℕ = set p2 pc (pc_at one) in
+    let p4 : List ℕ = set p3 coin (coin_at one) in
+    let l1 : length p1 ≡ 4 = length-set nones referrer (pc_at two) in
+    let l2 : length p2 ≡ 4 = length-set p1 discount (coin_at two) ∙ l1 in
+    let l3 : length p3 ≡ 4 = length-set p2 pc (pc_at one) ∙ l2 in
+    let l4 : length p4 ≡ 4 = length-set p3 coin (coin_at one) ∙ l3 in
+    let stand = stand-put wallets named few first.coin coin (coin_at one) _ p3 l3 of_coin (coin-placed script.start first one one_at)
+    (stand-put wallets named few first.pc pc (pc_at one) _ p2 l2 of_pc (pc-placed script.start first one one_at)
+    (stand-put wallets named few second.coin discount (coin_at two) _ p1 l1 of_discount (coin-placed script.start second two two_at)
+    (stand-put wallets named few second.pc referrer (pc_at two) (λ address. false) nones refl of_referrer (pc-placed script.start second two two_at)
     (λ address k passes found. absurd (false≢true passes))))) in
-    let free = free-put wallets named few first.coin (index first.coin) (coin_at one) p3 coin
-    (free-put wallets named few first.pc (index first.pc) (pc_at one) p2 pc
-    (free-put wallets named few second.coin (index second.coin) (coin_at two) p1 coin_next
-    (free-put wallets named few second.pc (index second.pc) (pc_at two) nones pc_next (λ k behind within. none-there k)))) in
+    let free = free-put wallets named few first.coin coin (coin_at one) p3 of_coin
+    (free-put wallets named few first.pc pc (pc_at one) p2 of_pc
+    (free-put wallets named few second.coin discount (coin_at two) p1 of_discount
+    (free-put wallets named few second.pc referrer (pc_at two) nones of_referrer (λ k behind within. none-there k)))) in
     record {
       legs = legs;
       wallets = record {
@@ -294,14 +288,14 @@ both-at script first second legs one two one_at two_at places places_are =
             (stand-all wallets named few named p4 (omega (arith, few, l4))
             (λ k d within.
             let found : position (is_same (get_or named k d)) named ≡ Some k =
-            position_from-zero (is_same (get_or named k d)) named ∙ position-get 0 k d named (rising-once named (legs-rising first second)) within in
+            position_from-zero (is_same (get_or named k d)) named ∙ position-get 0 k d named (rising-once named (legs-rising first second)) within ∙ ap Some (omega arith) in
             stand (get_or named k d) k
             (sym (any-roles (get_or named k d) first.coin first.pc second.coin second.pc) ∙ sym (position-any (is_same (get_or named k d)) named) ∙ ap is_some found) found)
             (λ k behind within. free k behind (omega (arith, within, l4))));
-        coin = coin;
-        pc = pc;
-        discount = coin_next;
-        referrer = pc_next;
+        of_coin = of_coin;
+        of_pc = of_pc;
+        of_discount = of_discount;
+        of_referrer = of_referrer;
       };
     }
   where

@@ -281,7 +281,8 @@ module _ {bank : BankState} {named : List Address} {lane : ℕ} {hands : List Ce
 
       left-is : left_of named more ≡ c.others
       left-is =
-          ap (λ (n : ℕ). drop n named) (omega (arith, ap length pushed, length-append hands (cell ∷ [])))
+          let long : length more ≡ suc (length hands) = omega (arith, ap length pushed, length-append hands (cell ∷ [])) in
+          ap (λ (n : ℕ). drop n named) long
           ∙ drop-more (length hands) named c.address c.others c.left
 
       pub next-hand : AreInHand bank.script named (left_of named more) more

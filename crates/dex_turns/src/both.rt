@@ -1,6 +1,6 @@
 //! The wallets of the two legs of a swap, put together.
 
-ghost use Rattle.std.specs.Prelude.{◌≡◌, ◌≤◌, slice_set};
+ghost use Rattle.std.specs.Prelude.{◌≡◌, ◌≤◌, ◌+◌, slice_set};
 ghost use Rattle.dex_types.specs.Rows.{row_of};
 ghost use Rattle.dex_script_types.specs.Facts.{AreLegs};
 ghost use Rattle.dex_script_types.specs.Places.{IsPlaced};
@@ -83,7 +83,7 @@ fn below(address: Address, role: &Option<Address>) -> u8
 fn put(places: &mut [u16; 4], index: u8, place: u16)
     ensures { places.new ≡ slice_set places.old index place }
 {
-    if let Some(at) = places.get_mut(index as usize) {
-        *at = place;
+    if (index as usize) < places.len() {
+        places[index as usize] = place;
     }
 }

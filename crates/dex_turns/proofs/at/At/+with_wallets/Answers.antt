@@ -57,19 +57,43 @@ with_wallets-made-requires g t c κs within =
     let hands_long : length c.push_reserved.new.self.items ≡ length c.args.wallets.now.hands.items + 1 =
     ap length pushed ∙ length-append c.args.wallets.now.hands.items (c.take_wallet_at-cell.result.0 ∷ []) in (
       omega (arith, long),
-      within.0,
-      within.1.0,
-      within.1.1.0,
-      within.1.1.1,
-      c.requires.bank,
-      c.requires.placed,
-      c.requires.rising,
-      c.requires.ready,
-      omega (arith, c.requires.below, c.later-later.ensures, le-max_right c.take_wallet_at-cell.result.1.last c.args.stamp.now.number),
-      next-hand coming gate_is out cell_is pushed,
-      next-places coming gate_is out cell_is pushed,
-      next-ready coming gate_is out cell_is pushed,
-      omega (arith, long, hands_long, c.requires.room, c.push_reserved.ensures.capacity),
+      (
+        within.0,
+        (
+          within.1.0,
+          (
+            within.1.1.0,
+            (
+              within.1.1.1,
+              (
+                c.requires.bank,
+                (
+                  c.requires.placed,
+                  (
+                    c.requires.rising,
+                    (
+                      c.requires.ready,
+                      (
+                        omega (arith, c.requires.below, c.later-later.ensures, le-max_right c.take_wallet_at-cell.result.1.last c.args.stamp.now.number),
+                        (
+                          next-hand coming gate_is out cell_is pushed,
+                          (
+                            next-places coming gate_is out cell_is pushed,
+                            (
+                              next-ready coming gate_is out cell_is pushed,
+                              omega (arith, long, hands_long, c.requires.room, c.push_reserved.ensures.capacity),
+                            ),
+                          ),
+                        ),
+                      ),
+                    ),
+                  ),
+                ),
+              ),
+            ),
+          ),
+        ),
+      ),
     )
 
 pub take_from_hand-cell-requires : goal.take_from_hand-cell-requires
