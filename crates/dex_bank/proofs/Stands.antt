@@ -9,9 +9,9 @@ use Rattle.std.proofs.lemmas.List.Quantifiers.{position-Some}
 use Rattle.dex_world.specs.declared.places.RowPlaces.{RowPlaces}
 use Rattle.dex_types.specs.declared.terms.Program.{Program}
 use Rattle.dex_types.specs.Wallets.{row_wallets}
-use Rattle.dex_world.specs.Places.{ArePlacesOf, AreWalletsAt, IsIndexOf, place_at}
+use Rattle.dex_world.specs.Places.{AreWalletsAt, IsIndexOf, place_at}
 use Rattle.dex_script_types.specs.Places.{ArePlaced, IsPlaced, market_place, wallet_place}
-use Rattle.dex_script_types.proofs.FoundLaws.{found-at}
+use Rattle.dex_script_types.proofs.FoundLaws.{found-at, wallets-same}
 use Rattle.dex_script_types.proofs.PlacedLaws.{position-map}
 use Rattle.dex_wallet.specs.CellState.{new_cell}
 use Rattle.dex_act.specs.Wallets.{IsRoleAt, cell_place, wallet_places}
@@ -45,23 +45,13 @@ module _ (rows : List PlainRow) where
       ap (λ (addresses : List Address). position (is_same address) addresses) (map-map (wallet_opened rows) (λ (cell : CellState). cell.address) wallets)
       ∙ position-map (λ (wallet : PlainAccount). wallet.address) address wallets
 
-  wallets-opened : (wallets : List PlainAccount) (addresses : List Address) (places : List ℕ) → ArePlacesOf (λ (address : Address). wallet_place address wallets) addresses places
-      → ArePlacesOf (λ (address : Address). cell_place address (map (wallet_opened rows) wallets)) addresses places
-  wallets-opened wallets [] places are = are
-  wallets-opened wallets (address ∷ addresses) [] are = absurd are
-  wallets-opened wallets (address ∷ addresses) (place ∷ places) are = (opened-place wallets address ∙ are.0, wallets-opened wallets addresses places are.1)
-
   module _ (start : PlainAccounts) (program : Program) where
     placed-stands : (row : PlainRow) (places : RowPlaces) → IsPlaced start row places → ArePlacesIn (opened_with start rows program) row places
     placed-stands row places is = record {
       market = first-opened row.market start.markets places.market is.market;
-      wallets = record {
-        places = wallets-opened start.wallets (row_wallets row) places.wallets.places is.wallets.places;
-        of_coin = is.wallets.of_coin;
-        of_pc = is.wallets.of_pc;
-        of_discount = is.wallets.of_discount;
-        of_referrer = is.wallets.of_referrer;
-      };
+      wallets =
+          wallets-same (λ (address : Address). wallet_place address start.wallets) (λ (address : Address). cell_place address (map (wallet_opened rows) start.wallets))
+          (λ address. sym (opened-place start.wallets address)) row.coin row.pc row.discount row.referrer places.wallets is.wallets;
     }
 
     pub placed-stand : (some : List PlainRow) (places : List RowPlaces) → ArePlaced start some places → ArePlacedIn (opened_with start rows program) some places

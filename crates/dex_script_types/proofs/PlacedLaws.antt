@@ -105,29 +105,42 @@ wallet-here address wallets place default is =
 abbrev place_among : List PlainAccount → Address → Option ℕ
 place_among wallets address = wallet_place address wallets
 
-role-placed : (wallets : List PlainAccount) (addresses : List Address) (places : List ℕ) (role : Option Address) (index : ℕ)
-    → ArePlacesOf (place_among wallets) addresses places → IsIndexOf addresses role index → IsRolePlaced wallets role (get_or places index 65535)
+role-placed : (wallets : List PlainAccount) (addresses : List Address) (places : List ℕ)
+    (role : Option Address) (index : ℕ)
+    → ArePlacesOf (place_among wallets) addresses places → IsIndexOf addresses role index
+    → IsRolePlaced wallets role (get_or places index 65535)
 role-placed wallets addresses places None index are is = tt
-role-placed wallets addresses places (Some address) index are is = found-at (place_among wallets) addresses places index address are is
+role-placed wallets addresses places (Some address) index are is =
+    found-at (place_among wallets) addresses places index address are is
 
 module _ (start : PlainAccounts) (row : PlainRow) (at : RowPlaces) (is : IsPlaced start row at) where
   pub coin-placed : IsRolePlaced start.wallets row.coin (coin_at at)
-  coin-placed = role-placed start.wallets (row_wallets row) at.wallets.places row.coin at.wallets.coin is.wallets.places is.wallets.of_coin
+  coin-placed =
+      role-placed start.wallets (row_wallets row) at.wallets.places row.coin at.wallets.coin is.wallets.places
+      is.wallets.of_coin
 
   pub pc-placed : IsRolePlaced start.wallets row.pc (pc_at at)
-  pc-placed = role-placed start.wallets (row_wallets row) at.wallets.places row.pc at.wallets.pc is.wallets.places is.wallets.of_pc
+  pc-placed =
+      role-placed start.wallets (row_wallets row) at.wallets.places row.pc at.wallets.pc is.wallets.places
+      is.wallets.of_pc
 
   pub discount-placed : IsRolePlaced start.wallets row.discount (discount_at at)
-  discount-placed = role-placed start.wallets (row_wallets row) at.wallets.places row.discount at.wallets.discount is.wallets.places is.wallets.of_discount
+  discount-placed =
+      role-placed start.wallets (row_wallets row) at.wallets.places row.discount at.wallets.discount is.wallets.places
+      is.wallets.of_discount
 
   pub referrer-placed : IsRolePlaced start.wallets row.referrer (referrer_at at)
-  referrer-placed = role-placed start.wallets (row_wallets row) at.wallets.places row.referrer at.wallets.referrer is.wallets.places is.wallets.of_referrer
+  referrer-placed =
+      role-placed start.wallets (row_wallets row) at.wallets.places row.referrer at.wallets.referrer is.wallets.places
+      is.wallets.of_referrer
 
 -- what stands beside a row whose wallets stand somewhere
-pub stands-beside : (place_of : Address → Option ℕ) (row : PlainRow) (at : RowPlaces) → AreWalletsAt place_of row.coin row.pc row.discount row.referrer at.wallets
+pub stands-beside : (place_of : Address → Option ℕ) (row : PlainRow) (at : RowPlaces)
+    → AreWalletsAt place_of row.coin row.pc row.discount row.referrer at.wallets
     → at.number ≡ row.number → at.lane ≡ row.lane → IsBeside row at
 stands-beside place_of row at is number lane =
-    let marked : (role : Option Address) (index : ℕ) → IsIndexOf (row_wallets row) role index → IsMarked role (place_at at.wallets index) = λ role index of.
+    let marked : (role : Option Address) (index : ℕ) → IsIndexOf (row_wallets row) role index
+    → IsMarked role (place_at at.wallets index) = λ role index of.
     role-marked place_of row.coin row.pc row.discount row.referrer role at.wallets.places index is.places of in
     record {
       number = number;

@@ -9,7 +9,8 @@ is_found place_of None = true
 is_found place_of (Some address) = is_some (place_of address)
 
 -- the wallets of four roles are found
-abbrev pub are_found : (Address → Option ℕ) → Option Address → Option Address → Option Address → Option Address → Bool
+abbrev pub are_found :
+    (Address → Option ℕ) → Option Address → Option Address → Option Address → Option Address → Bool
 are_found place_of coin pc discount referrer =
     is_found place_of coin && is_found place_of pc && is_found place_of discount && is_found place_of referrer
 
@@ -30,4 +31,5 @@ places_by place_of (wallet ∷ wallets) = with_place (role_place place_of wallet
 
 -- four places, if all are there
 abbrev pub all_four : Option ℕ → Option ℕ → Option ℕ → Option ℕ → Option (List ℕ)
-all_four first second third fourth = with_place first (with_place second (with_place third (with_place fourth (Some []))))
+all_four first second third fourth =
+    with_place first (with_place second (with_place third (with_place fourth (Some []))))
