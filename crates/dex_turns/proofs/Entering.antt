@@ -1,7 +1,7 @@
 -- The turn of a row's market: what is known when it is taken, and when it is left.
 use Rattle.std.proofs.Common.{◌≡◌, ℕ, ◌==◌, List, ◌++◌, length, sym, ap, ◌∙◌, subst, arith}
 use Rattle.dex_world.proofs.Common.{Call, PlainMarketAccounts, PlainRow}
-use Rattle.dex_turns.proofs.Common.{AddsOne, BankMarketState, Extends, GateView, HasCall, HasCalled, Idle, MarketOrigin, MayEnter, PassView, PlainScript, Stamped, added, market_calls, of_lane, rows_of_market}
+use Rattle.dex_turns.proofs.Common.{AddsOne, BankMarketState, Extends, HasCall, HasCalled, Idle, MarketOrigin, MayEnter, PlainScript, Stamped, added, market_calls, of_lane, rows_of_market}
 use Rattle.dex_journals.specs.Journals.{calls_by, market_origin}
 use Rattle.dex_turns.specs.Bank.{MarketGate}
 use Rattle.dex_turns.specs.Seats.{MarketPass}

@@ -1,7 +1,7 @@
 -- Passes in declared order, one of which takes a turn.
 use Rattle.std.proofs.Common.{◌≡◌, ℕ, zero, suc, ◌<◌, ◌≤◌, Bool, true, false, ◌||◌, List, [], ◌∷◌, ◌++◌, length, set, get_or, Some, refl, sym, ap, ◌∙◌, subst, arith}
-use Rattle.dex_world.proofs.Common.{Address, All-tail, AllZip, PlainAccount, WalletEntry, false≢true, is_same, is_same-refl, is_same-sym, list_any, or_parts, or_right}
-use Rattle.dex_turns.proofs.Common.{AllThree, GateView, IsPass, MayDraw, OneGrows, PassView, PlainScript, Stamped, WalletOrigin, Where}
+use Rattle.dex_world.proofs.Common.{Address, All-tail, AllZip, PlainAccount, false≢true, is_same, is_same-refl, is_same-sym, list_any, or_parts, or_right}
+use Rattle.dex_turns.proofs.Common.{AllThree, GateView, IsPass, MayDraw, OneGrows, PassView, PlainScript, Where}
 use Rattle.std.specs.List.{All}
 use Rattle.dex_turns.proofs.Rising.{IsAbove, rising-once}
 use Rattle.dex_turns.specs.Bank.{WalletGate}

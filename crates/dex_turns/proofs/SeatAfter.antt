@@ -1,7 +1,7 @@
 -- A seat before and after a row.
 use Rattle.std.proofs.Common.{◌≡◌, ℕ, zero, suc, ◌<◌, ◌≤◌, ◌==◌, Bool, true, false, cond, List, [], ◌∷◌, ◌++◌, length, set, get_or, take, Some, refl, sym, ap, ◌∙◌, subst, arith}
 use Rattle.dex_world.proofs.Common.{Address, All-filter, All-push, All-tail, All-weaker, AllZip, AllZip-long, Asked, Call, IsLegal, IsWalletLegal, PlainAccount, PlainMarketAccounts, PlainRow, Reply, WalletEntry, asked_of, asked_wallets, eqb-true, filter-append, filter_passes, get_or-map, is_same, is_same-refl, is_same-sym, length-map, is_held, list_any, names, row_wallets, rows_of_lane}
-use Rattle.dex_turns.proofs.Common.{AllThree, AreNext, AreReady, BankState, GateView, HasCalled, HasSubmitted, HaveGrown, IsBank, IsMarketGate, IsMarketPass, IsNext, IsPlace, IsRowOf, IsScript, IsSeat, IsSeatOf, IsSight, IsWalletPass, MarketOrigin, MayDraw, MayEnter, MovesEach, PlainScript, SeatState, Stamped, Where, balance_of, calls_on, entries_in, entries_on, list_any-map, market_addresses, market_in, rows_of_market, rows_of_wallet}
+use Rattle.dex_turns.proofs.Common.{AllThree, AreNext, AreReady, BankState, GateView, HasCalled, HasSubmitted, HaveGrown, IsBank, IsMarketGate, IsMarketPass, IsNext, IsPlace, IsRowOf, IsScript, IsSeat, IsSeatOf, IsSight, IsWalletPass, MarketOrigin, MayDraw, MayEnter, MovesEach, PlainScript, SeatState, Stamped, Where, balance_of, calls_on, entries_in, entries_on, market_addresses, market_in, rows_of_market, rows_of_wallet}
 use Rattle.std.specs.List.{All}
 use Rattle.std.proofs.lemmas.List.{append-nil, append_assoc}
 use Rattle.dex_stamps.specs.Stamped.{items_of}
@@ -86,9 +86,6 @@ module _ (bank : BankState) (row : PlainRow) (before : SeatState) (ahead : IsAhe
       subst (λ (s : PlainScript). IsRowOf s.start row) of.script
       (all-ahead (IsRowOf before.script.start) lane_rows (length before.calls) row ahead
       (All-filter (λ (r : PlainRow). r.lane == before.lane) (IsRowOf before.script.start) before.script.rows script-kept.rows.each))
-
-  pub market-known : list_any (is_same row.market) (market_addresses bank.script) ≡ true
-  market-known = list_any-map (is_same row.market) (λ (accounts : PlainMarketAccounts). accounts.address) bank.script.start.markets ∙ row-fits.market
 
   module _ (kept : IsSeat before) where
     -- its lane has made fewer entries than it has rows, on each wallet that it names

@@ -68,13 +68,7 @@ fn below(address: Address, role: &Option<Address>) -> u8
     ensures few { result ≤ 1 }
 {
     match role {
-        Some(wallet) => {
-            if is_lower(*wallet, address) {
-                1
-            } else {
-                0
-            }
-        }
+        Some(wallet) => { if is_lower(*wallet, address) { 1 } else { 0 } }
         None => 0,
     }
 }

@@ -1,6 +1,6 @@
 //! The two legs of a swap, under the turns of all that they act on.
 
-ghost use Rattle.std.specs.Prelude.{◌≡◌, max};
+ghost use Rattle.std.specs.Prelude.{max};
 ghost use Rattle.dex_types.specs.Rows.{row_of};
 ghost use Rattle.dex_turns.specs.Legs.{legs_written, one_made, two_made};
 ghost use Rattle.dex_turns.specs.Turns.{AreLegsAt, HaveLegsActed, MayCallBoth, leg_wallets};

@@ -11,7 +11,9 @@ ghost use Rattle.dex_world.specs.Places.{AreWalletsAt};
 ghost use Rattle.dex_turns.specs.Turns.{place_of};
 
 use dex_act::{AsRow, Terms};
-use dex_script_types::{FindsWallets, Script, addresses_of_markets, addresses_of_wallets, wallets_at};
+use dex_script_types::{
+    FindsWallets, Script, addresses_of_markets, addresses_of_wallets, wallets_at,
+};
 use dex_stamps::Kept;
 use dex_types::{Address, NoMemory, Row, is_same};
 use dex_world::{RowPlaces, RowWallets};

@@ -1,4 +1,4 @@
-use Rattle.std.proofs.Common.{◌≡◌, false, List, sym, ap, ◌∙◌, subst, arith}
+use Rattle.std.proofs.Common.{false, List, sym, ap, ◌∙◌, subst, arith}
 use Rattle.dex_world.proofs.Common.{AllZip, false≢true, row_of, row_wallets, seen_by, with_items_is}
 use Rattle.dex_turns.proofs.Common.{CellState, HasCall, HasEntry, Stamped}
 use Rattle.dex_cell.specs.CellState.{market_at}

@@ -1,4 +1,4 @@
-use Rattle.std.proofs.Common.{◌≡◌, ℕ, ◌+◌, [], ◌∷◌, ◌++◌, List, None, Some, length, set, sym, ap, ◌∙◌, subst, arith}
+use Rattle.std.proofs.Common.{◌≡◌, ℕ, ◌+◌, [], ◌∷◌, ◌++◌, List, None, Some, length, sym, ap, ◌∙◌, subst, arith}
 use Rattle.dex_world.proofs.Common.{Address, AllZip, AllZip-long, le-max_left}
 use Rattle.dex_turns.proofs.Common.{AreInHand, CellState, HasEntry, HaveGrown, MayDraw, left_by, wallet_entries}
 use Rattle.std.proofs.lemmas.List.{length-append}
@@ -111,7 +111,7 @@ index_mut-requires g t c =
     omega (
       arith,
       (within-mid coming gate_is c.take_wallet_at-cell.ensures.out c.take_wallet_at-cell.ensures.cell c.push_reserved.ensures.items
-      (g.A.Acts.written c.args.item.now c.with_wallets-made.result) c.with_wallets-made.new.wallets.passes.items c.with_wallets-made.ensures.written.of_lane c.with_wallets-made.ensures.passes),
+          (g.A.Acts.written c.args.item.now c.with_wallets-made.result) c.with_wallets-made.new.wallets.passes.items c.with_wallets-made.ensures.written.of_lane c.with_wallets-made.ensures.passes),
     )
 
 -- the cells that were in hand before have their entries, and so has the one that was taken

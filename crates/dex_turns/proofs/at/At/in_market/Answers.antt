@@ -1,4 +1,4 @@
-use Rattle.std.proofs.Common.{refl, sym, ap, ◌∙◌, arith}
+use Rattle.std.proofs.Common.{refl}
 use Rattle.dex_world.proofs.Common.{row_of}
 use Rattle.dex_turns.proofs.Common.{call_made}
 use Rattle.dex_turns.proofs.Exchanging.{idle-below}

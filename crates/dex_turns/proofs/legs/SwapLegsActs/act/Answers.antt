@@ -1,4 +1,4 @@
-use Rattle.std.proofs.Common.{◌≡◌, ℕ, Bool, true, ◌&&◌, not, List, refl, sym, ap, ◌∙◌, subst, arith}
+use Rattle.std.proofs.Common.{◌≡◌, ℕ, Bool, ◌&&◌, not, List, refl, sym, ap, ◌∙◌, subst, arith}
 use Rattle.dex_world.proofs.Common.{AllZip, Call, Market, PlainRow, Seen, row_of, seen_by, with_items_is}
 use Rattle.dex_turns.proofs.Common.{CellState, HasCall, HasEntry, MarketCellState, PlainScript, Stamped, call_made, terms_of}
 use Rattle.dex_cell.specs.CellState.{market_at}

@@ -1,6 +1,6 @@
-use Rattle.std.proofs.Common.{◌≡◌, List, sym, ap, ◌∙◌}
+use Rattle.std.proofs.Common.{◌≡◌, sym, ap, ◌∙◌}
 use Rattle.std.specs.List.{position}
-use Rattle.dex_world.proofs.Common.{Address, PlainMarketAccounts, is_same}
+use Rattle.dex_world.proofs.Common.{PlainMarketAccounts, is_same}
 use Rattle.dex_turns.proofs.Common.{list_any-map}
 use Rattle.dex_script_types.specs.Places.{market_addresses}
 use Rattle.dex_script_types.proofs.PlacedLaws.{position-map}
@@ -18,9 +18,9 @@ unreachable-requires c =
     (list_any-map (is_same c.args.address) (λ (accounts : PlainMarketAccounts). accounts.address) c.args.self.now.start.markets ∙ c.requires)
     (ap (position (is_same c.args.address)) (sym (are (goal.at.unreachable-requires c).After-place_among)) ∙ sym c.place_among.ensures ∙ c.in-None.is)
 
-pub returns-in-Some : goal.returns-in-Some
-returns-in-Some c =
+pub returns : goal.returns
+returns c =
     sym (position-map (λ (accounts : PlainMarketAccounts). accounts.address) c.args.address c.args.self.now.start.markets)
-    ∙ ap (position (is_same c.args.address)) (sym (are (goal.at.returns-in-Some c).After-place_among))
+    ∙ ap (position (is_same c.args.address)) (sym (are (goal.at.returns c).After-place_among))
     ∙ sym c.place_among.ensures
     ∙ c.in-Some.is
