@@ -27,8 +27,8 @@ IsRolePlaced wallets (Some address) place = wallet_place address wallets ≡ Som
 pub record IsPlaced (start : PlainAccounts) (row : PlainRow) (places : RowPlaces) : Type 0 where
   pub market : market_place row.market start.markets ≡ Some places.market
   pub wallets :
-      AreWalletsAt (λ (address : Address). wallet_place address start.wallets) row.coin row.pc row.discount row.referrer
-      places.wallets
+      AreWalletsAt (λ (address : Address). wallet_place address start.wallets)
+      row.coin row.pc row.discount row.referrer places.wallets
 
 -- each row has its places beside it
 abbrev pub ArePlaced : PlainAccounts → List PlainRow → List RowPlaces → Type 0

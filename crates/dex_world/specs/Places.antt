@@ -26,13 +26,15 @@ referrer_at at = place_at at.wallets at.wallets.referrer
 
 -- the wallets that four roles name, by rising address, each once
 abbrev pub wallets_of_roles : Option Address → Option Address → Option Address → Option Address → List Address
-wallets_of_roles coin pc discount referrer = with_role coin (with_role pc (with_role discount (with_role referrer [])))
+wallets_of_roles coin pc discount referrer =
+    with_role coin (with_role pc (with_role discount (with_role referrer [])))
 
 -- of these addresses each stands at its place, from the front, and behind the last one stands 65535
 abbrev pub ArePlacesOf : (Address → Option ℕ) → List Address → List ℕ → Type 0
 ArePlacesOf place_of [] places = All (λ (place : ℕ). place ≡ 65535) places
 ArePlacesOf place_of (address ∷ addresses) [] = ⊥
-ArePlacesOf place_of (address ∷ addresses) (place ∷ places) = (place_of address ≡ Some place) × ArePlacesOf place_of addresses places
+ArePlacesOf place_of (address ∷ addresses) (place ∷ places) =
+    (place_of address ≡ Some place) × ArePlacesOf place_of addresses places
 
 -- a role names the address of this index among these; 4 is that of a role that names none
 abbrev pub IsIndexOf : List Address → Option Address → ℕ → Type 0
@@ -40,9 +42,10 @@ IsIndexOf addresses None index = index ≡ 4
 IsIndexOf addresses (Some address) index = position (is_same address) addresses ≡ Some index
 
 -- the wallets that four roles name stand there, as whoever finds a wallet by its address says
-pub record AreWalletsAt (place_of : Address → Option ℕ) (coin pc discount referrer : Option Address) (at : RowWallets) : Type 0 where
+pub record AreWalletsAt
+    (place_of : Address → Option ℕ) (coin pc discount referrer : Option Address) (at : RowWallets) : Type 0 where
   pub places : ArePlacesOf place_of (wallets_of_roles coin pc discount referrer) at.places
-  pub coin : IsIndexOf (wallets_of_roles coin pc discount referrer) coin at.coin
-  pub pc : IsIndexOf (wallets_of_roles coin pc discount referrer) pc at.pc
-  pub discount : IsIndexOf (wallets_of_roles coin pc discount referrer) discount at.discount
-  pub referrer : IsIndexOf (wallets_of_roles coin pc discount referrer) referrer at.referrer
+  pub of_coin : IsIndexOf (wallets_of_roles coin pc discount referrer) coin at.coin
+  pub of_pc : IsIndexOf (wallets_of_roles coin pc discount referrer) pc at.pc
+  pub of_discount : IsIndexOf (wallets_of_roles coin pc discount referrer) discount at.discount
+  pub of_referrer : IsIndexOf (wallets_of_roles coin pc discount referrer) referrer at.referrer
