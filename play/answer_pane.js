@@ -155,7 +155,8 @@ export class AnswerPane {
       if (round !== this.round) throw new Stopped();
       this.working.tell(line);
     };
-    const opened = await addTexts({}, texts, tell).catch((fault) => {
+    const before = frame.shown !== null && frame.shown.report.kind === 'report' ? frame.shown.report : null;
+    const opened = await addTexts({}, texts, tell, before).catch((fault) => {
       if (fault instanceof Stopped) return null;
       throw fault;
     });

@@ -3,7 +3,10 @@
  * turns, ROUNDS times. Prints the least nanoseconds of all rows, of the first of each three by a clock around it, and of
  * each script; then how many rows were refused. */
 #define _POSIX_C_SOURCE 199309L
-#include "../../library/tests/steps.h"
+/* What reads such a file and lends wallets; its own checks are not called. */
+#define main check_rows
+#include "../../library/tests/acting.c"
+#undef main
 #include <time.h>
 
 enum { MOST_SCRIPTS = 8, CYCLE = 3 };
@@ -41,7 +44,7 @@ static row *take_rows(const dex_bytes *wallets, size_t count) {
 }
 
 /* Plays all rows; how many were refused. */
-static size_t play(dex_market *market, row *rows, size_t count) {
+static size_t play_all(dex_market *market, row *rows, size_t count) {
   size_t refused = 0;
   dex_reply reply;
   for (size_t at = 0; at < count; at++) refused += dex_process(market, &rows[at].wallets, &rows[at].instruction, &reply) == DEX_REFUSED;
@@ -87,15 +90,19 @@ int main(int words, char **word) {
   int rounds = atoi(word[1]), count_of_scripts = words - 3;
   size_t refused = 0;
   for (int at = 0; at < count_of_scripts; at++) scripts[at] = read_script(word[3 + at]);
-  dex_bytes wallets;
+  dex_market market;
   here = read_file(word[2]);
-  dex_market market = take_market(&wallets);
+  memset(&market, 0, sizeof market);
+  market.address = take_address();
+  market.authority = take_address();
+  for (int at = 0; at < PARTS - 1; at++) *part_of(&market, at) = take_block();
+  dex_bytes wallets = take_block();
   size_t count = take_number();
   row *rows = take_rows(&wallets, count);
   dex_pending(&market);
   for (int round = 0; round < rounds; round++) {
     double from = now();
-    refused += play(&market, rows, count);
+    refused += play_all(&market, rows, count);
     keep_least(&least[0], now() - from);
     keep_least(&least[1], play_firsts(&market, rows, count));
     for (int at = 0; at < count_of_scripts; at++) keep_least(&worths[at], worth_of(scripts[at]));
