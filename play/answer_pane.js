@@ -205,8 +205,8 @@ export class AnswerPane {
   }
 
   // What was answered, in a line.
-  toldText({ name }, { status, text, milliseconds, isOfScript }) {
-    const of = isOfScript ? ' of the accounts that the script leaves' : '';
+  toldText({ name }, { status, text, milliseconds, isOfScript, isJoined }) {
+    const of = isOfScript ? ' of the accounts that the script leaves' : isJoined ? ' of the rows from a changed one on, joined' : '';
     return `${name}${of}: status ${status}, ${counted(text.length, 'byte')}, ${timeText(milliseconds)}`;
   }
 

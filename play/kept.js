@@ -1,6 +1,6 @@
 // The front of a long script, kept while rows behind it change: what its rows left, as a dump, and their journals. A key then replays the
-// rows behind it alone, on that dump, and the report of all rows is put together here. docs/LIBRARY.md: that steps one after the other
-// leave what all rows leave together is tested, and no clause says it.
+// rows behind it alone, on that dump, and the report of all rows is put together here. That steps one after the other leave what all rows
+// leave together is tested, and no clause says it.
 
 import { recordStarts } from '../page/script.js';
 import { MOST_BYTES } from './source.js';
