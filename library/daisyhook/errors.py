@@ -122,6 +122,40 @@ class MigrateRefused(DexError, ValueError):
         return f'MigrateRefused(market={self.market!r}, what={self.what!r}, needed={self.needed}, given={self.given})'
 
 
+class AccountsRefused(DexError, ValueError):
+    """Account JSON that is not taken: `text` says where, what is wrong with it, and what to do."""
+
+    def __init__(self, text: str) -> None:
+        super().__init__(2, text)
+
+    def __reduce__(self) -> tuple[type[AccountsRefused], tuple[str]]:
+        return AccountsRefused, (self.text,)
+
+
+@dataclass(frozen=True, slots=True)
+class Flaw:
+    """What is wrong with the accounts of a market. `what` is `fault`, where an account is not one of its kind (`kind` as of a dump's faults),
+    `finding`, where accounts disagree (`kind` as of an audit), or `twice`, where two have the address `account`."""
+
+    what: str
+    kind: int
+    account: str
+    place: int
+    found: int
+    wanted: int
+
+
+class NotSound(DexError, ValueError):
+    """Accounts that are not those of a sound market, so that nothing was done: `flaw` is the first that is wrong."""
+
+    def __init__(self, flaw: Flaw) -> None:
+        super().__init__(3, f'{flaw.what} {flaw.kind} {flaw.account} {flaw.place} {flaw.found} {flaw.wanted}')
+        self.flaw = flaw
+
+    def __reduce__(self) -> tuple[type[NotSound], tuple[Flaw]]:
+        return NotSound, (self.flaw,)
+
+
 class DeskGone(DexError):
     """There is no session any more: the program was not found or could not be started, it ended or was killed, or it did not answer in time.
 
