@@ -84,14 +84,17 @@ finds-same market market' wallet wallet' parties None markets wallets none =
     ) none
 finds-same market market' wallet wallet' parties (Some at) markets wallets is = record {
   market = sym (markets parties.market) ∙ is.market;
-  wallets = wallets-same wallet wallet' wallets parties.coin parties.pc parties.discount parties.referrer at.wallets is.wallets;
+  wallets =
+      wallets-same wallet wallet' wallets parties.coin parties.pc parties.discount parties.referrer at.wallets
+      is.wallets;
 }
 
 -- so names tell what the accounts tell
-pub by-names : (names : Names) (start : PlainAccounts) (parties : PlainParties) (found : Option Stand) → AreNames names start → FindsIn names parties found
-    → FindsAmong start parties found
+pub by-names : (names : Names) (start : PlainAccounts) (parties : PlainParties) (found : Option Stand)
+    → AreNames names start → FindsIn names parties found → FindsAmong start parties found
 by-names names start parties found are is =
-    finds-same (hash.get is_same names.markets) (market_among start) (hash.get is_same names.wallets) (wallet_among start) parties found are.markets are.wallets is
+    finds-same (hash.get is_same names.markets) (market_among start) (hash.get is_same names.wallets)
+    (wallet_among start) parties found are.markets are.wallets is
 
 -- ---- what is not found is unknown
 
@@ -123,10 +126,12 @@ module _ (start : PlainAccounts) (parties : PlainParties) where
 
   pub known : (places : Stand) → StandAt start parties places → is_unknown start parties ≡ false
   known places is =
-      let all = all-found (wallet_among start) parties.coin parties.pc parties.discount parties.referrer places.wallets is.wallets in
+      let all =
+      all-found (wallet_among start) parties.coin parties.pc parties.discount parties.referrer places.wallets
+      is.wallets in
       unknown-by ∙ ap not (and_from (is_some (market_among start parties.market)) _ (ap is_some is.market) all)
 
 -- what is found by words that are these, among accounts that are these
-pub found-in : (start other : PlainAccounts) (words seen : PlainInstruction) (found told : Option Stand) → other ≡ start → seen ≡ words → found ≡ told
-    → FindsAmong start seen.parties found → FindsAmong other words.parties told
+pub found-in : (start other : PlainAccounts) (words seen : PlainInstruction) (found told : Option Stand)
+    → other ≡ start → seen ≡ words → found ≡ told → FindsAmong start seen.parties found → FindsAmong other words.parties told
 found-in start other words seen found told same is tells finds = rw (same, sym is, sym tells) finds

@@ -1,5 +1,5 @@
 -- Rows that are read after the bare markets and wallets of a script, and added to it, are read after the script.
-use Rattle.std.proofs.Common.{◌≡◌, ◌∙◌, ◌+◌, ◌-◌, ◌^◌, ◌≤◌, ◌==◌, ℕ, ℤ, Bool, true, false, not, nat_le, List, [], ◌∷◌, ◌++◌, Option, Some, None, Result, Ok, Err, ap, append_assoc, append-nil, arith, map, max, refl, subst, sym}
+use Rattle.std.proofs.Common.{◌≡◌, ◌∙◌, ◌+◌, ◌-◌, ◌^◌, ◌≤◌, ◌==◌, ℕ, ℤ, Bool, true, false, not, nat_le, List, [], ◌∷◌, ◌++◌, Option, Result, Ok, Err, ap, append_assoc, append-nil, arith, map, max, refl, subst, sym}
 use Rattle.std.specs.List.{AllZip}
 use Rattle.std.proofs.lemmas.Bool.{lt-leb}
 use Rattle.std.proofs.lemmas.Iterator.Adapters.{position_from-zero}
@@ -39,12 +39,20 @@ module _ (one other : PlainAccounts) (same : HaveSamePlaces one other) where
   role-same : (role : Option Address) → is_found (wallet_among one) role ≡ is_found (wallet_among other) role
   role-same role = is_found-same (wallet_among one) (wallet_among other) same.wallets role
 
-  here-same : (parties : PlainParties) → are_here (market_among one) (wallet_among one) parties ≡ are_here (market_among other) (wallet_among other) parties
+  here-same : (parties : PlainParties)
+      → are_here (market_among one) (wallet_among one) parties ≡ are_here (market_among other) (wallet_among other) parties
   here-same parties =
-      rw (same.markets parties.market, role-same parties.coin, role-same parties.pc, role-same parties.discount, role-same parties.referrer) refl
+      rw (
+        same.markets parties.market,
+        role-same parties.coin,
+        role-same parties.pc,
+        role-same parties.discount,
+        role-same parties.referrer,
+      ) refl
 
   pub known-there : (parties : PlainParties) → is_unknown one parties ≡ false → is_unknown other parties ≡ false
-  known-there parties is = unknown-by other parties ∙ ap not (sym (here-same parties)) ∙ sym (unknown-by one parties) ∙ is
+  known-there parties is =
+      unknown-by other parties ∙ ap not (sym (here-same parties)) ∙ sym (unknown-by one parties) ∙ is
 
 -- ---- no setup row is without a fault behind an instruction row
 
@@ -295,7 +303,9 @@ module _ (one other : PlainAccounts) (same : HaveSamePlaces one other) where
   placed-there (row ∷ rows) (place ∷ places) (is, are) = (
     record {
       market = sym (same.markets row.market) ∙ is.market;
-      wallets = wallets-same (wallet_among one) (wallet_among other) same.wallets row.coin row.pc row.discount row.referrer place.wallets is.wallets;
+      wallets =
+          wallets-same (wallet_among one) (wallet_among other) same.wallets row.coin row.pc row.discount row.referrer
+          place.wallets is.wallets;
     },
     placed-there rows places are,
   )

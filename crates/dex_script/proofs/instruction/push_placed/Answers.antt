@@ -33,4 +33,5 @@ returns-clause-beside c = λ start front is are.
     (c.take_row.ensures ∙ ap (λ (time : ℤ). instruction_row c.args.number time c.args.words.now) (to_z-of_z w64 c.args.now c.ranges.now)) in
     rw (c.push_reserved.ensures.items, all)
     (beside-push (front ++ map row_of c.args.rows.now.items) c.args.places.now.items row _ are
-    (stands-beside (wallet_among start) row _ is.wallets refl (ap (λ (words : PlainInstruction). words.lane) c.words.view_is)))
+    (stands-beside (wallet_among start) row _ is.wallets refl
+    (ap (λ (words : PlainInstruction). words.lane) c.words.view_is)))

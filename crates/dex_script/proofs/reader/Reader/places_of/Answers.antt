@@ -9,6 +9,7 @@ use Rattle.dex_script.proofs.reader.Reader.places_of.Goals as goal
 pub returns-in-Some-clause-places : goal.returns-in-Some-clause-places
 returns-in-Some-clause-places c =
     let start = start_of c.self.inside.draft.start in
-    let are = subst (λ (known : Option Names). IfSome known (λ names. AreNames names start)) c.in-Some.is c.self.invariant.1 in
+    let are =
+    subst (λ (known : Option Names). IfSome known (λ names. AreNames names start)) c.in-Some.is c.self.invariant.1 in
     subst (λ (d : PlainDraft). FindsAmong d.script.start c.args.parties.now c.places_of.result) c.self.view_is
     (by-names c.in-Some.names start c.args.parties.now c.places_of.result are c.places_of.ensures)
