@@ -1,6 +1,6 @@
 use Rattle.dex_types.specs.Rows.{row_of}
 use Rattle.dex_act.proofs.Sights.{row-named}
-use Rattle.dex_act.proofs.places.places_in.Goals as goal
+use Rattle.dex_bank.proofs.standing.wallets_among.Goals as goal
 
 pub role_place-requires : goal.role_place-requires
 role_place-requires c = (row-named c.args.cells.now (row_of c.args.row.now) c.requires).coin

@@ -5,7 +5,7 @@ use Rattle.dex_wallet.specs.CellState.{CellState, seen_of}
 use Rattle.dex_world.specs.World.{role_at}
 use Rattle.dex_act.specs.Wallets.{IsRoleAt, wallet_state_of}
 use Rattle.dex_act.proofs.Seeing.{found-there}
-use Rattle.dex_act.proofs.sight.look.Goals as goal
+use Rattle.dex_act.proofs.sight.note.Goals as goal
 
 pub returns-in-Some-clause-seen : goal.returns-in-Some-clause-seen
 returns-in-Some-clause-seen c =
