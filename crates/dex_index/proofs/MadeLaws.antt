@@ -1,5 +1,5 @@
 -- An index that is made address by address leads to all accounts, from the last to the first.
-use Rattle.std.proofs.Common.{◌≡◌, ℕ, suc, zero, ◌+◌, ◌-◌, ◌<◌, ◌≤◌, true, false, List, [], ◌∷◌, length, map, Option, Some, None, get_or, drop, cond, refl, sym, ap, ◌∙◌, subst, arith, ⊎_elim}
+use Rattle.std.proofs.Common.{◌≡◌, ℕ, suc, zero, ◌-◌, ◌<◌, ◌≤◌, true, false, List, [], ◌∷◌, length, map, Option, Some, None, get_or, drop, cond, refl, sym, ap, ◌∙◌, subst, arith, ⊎_elim}
 use Rattle.std.proofs.lemmas.Bool.{cases_Bool, cond-true, cond-false}
 use Rattle.std.proofs.lemmas.List.{get_or-map, length-map}
 use Rattle.dex_types.specs.declared.account_bytes.OrdersAccount.{OrdersAccount}
@@ -9,7 +9,7 @@ use Rattle.dex_types.specs.Addresses.{is_same}
 use Rattle.dex_types.specs.Soundness.{AreDistinct}
 use Rattle.dex_types.specs.Trader.{trader_at}
 use Rattle.dex_laws.proofs.TraderLaws.{is_same-refl}
-use Rattle.dex_orders.specs.StandsFor.{entry_of, trader_of, traders_of}
+use Rattle.dex_orders.specs.StandsFor.{trader_of, traders_of}
 use Rattle.dex_index.specs.Reached.{LeadsToAll}
 
 -- the accounts from a place on

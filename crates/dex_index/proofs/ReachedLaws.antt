@@ -1,12 +1,10 @@
 -- What an index leads to: the account of an address among them, what a change of it leaves, and all of them.
-use Rattle.std.proofs.Common.{◌≡◌, ℕ, suc, zero, ◌+◌, ◌<◌, ◌≤◌, Bool, true, false, List, [], ◌∷◌, ◌++◌, length, Option, Some, None, get_or, take, drop, cond, refl, sym, ap, ◌∙◌, subst, arith, ⊎_elim}
+use Rattle.std.proofs.Common.{◌≡◌, ℕ, suc, ◌+◌, ◌<◌, ◌≤◌, true, false, List, [], ◌∷◌, ◌++◌, length, Option, Some, None, get_or, refl, sym, ap, ◌∙◌, arith, ⊎_elim}
 use Rattle.std.proofs.lemmas.Bool.{cases_Bool, cond-true, cond-false, eq-eqb, eqb-true, false≢true}
 use Rattle.dex_types.specs.declared.addresses.Address.{Address}
 use Rattle.dex_types.specs.Accounts.{PlainAccount}
 use Rattle.dex_types.specs.Addresses.{is_same}
-use Rattle.dex_types.specs.Soundness.{AreDistinct}
-use Rattle.dex_laws.proofs.TraderLaws.{is_same-refl, is_same-true}
-use Rattle.dex_orders.specs.StandsFor.{traders_of}
+use Rattle.dex_laws.proofs.TraderLaws.{is_same-true}
 use Rattle.dex_accounts.specs.Owners.{bytes_at, changed_at}
 use Rattle.dex_accounts.proofs.OwnerLaws.{with_change}
 use Rattle.dex_index.specs.Reached.{LeadsToAll, is_place, reached}

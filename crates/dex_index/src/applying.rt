@@ -9,22 +9,21 @@ ghost use Rattle.dex_history.specs.Journal.{request_of, row_step};
 ghost use Rattle.dex_plan.specs.Given.{market_of};
 ghost use Rattle.dex_plan.specs.Plans.{decided};
 ghost use Rattle.dex_step.specs.Acting.{HasStepped, accounts_with};
-ghost use Rattle.dex_index.specs.Reached.{IsIndexOf, reached_by};
+ghost use Rattle.dex_index.specs.Reached.{HasSteppedBy, IsIndexOf, market_reached, reached_by};
 
 use crate::index::AccountIndex;
 use crate::indexed_orders::IndexedOrders;
 use dex_lent::LentMarket;
 use dex_plan::{Plan, ask_of};
 use dex_ring::PendingFills;
-use dex_step::apply_ask;
+use dex_step::{StepsOrders, apply_ask};
 use dex_types::{Address, MarketAccounts, OrdersAccount, Reply, Row, Seen};
 
 /// Does what was decided on accounts that are lent one by one, of the open-orders accounts on those to which the index
 /// leads: as many parameters as a market has accounts, since the checker ties no borrow that a record takes from a field
 /// of a record.
 #[inline]
-fn apply_reached(
-    index: &AccountIndex,
+fn apply_lent<O: StepsOrders>(
     address: Address,
     authority: Address,
     market: &mut [u8],
@@ -34,25 +33,24 @@ fn apply_reached(
     events: &mut [u8],
     bids: &mut [u8],
     asks: &mut [u8],
-    orders: &mut [OrdersAccount],
+    orders: &mut O,
     row: &Row,
     seen: &Seen,
     plan: &Plan,
     pending: &mut PendingFills,
 ) -> Reply
     requires sound { AreSound (accounts_with address authority market.old coin_vault.old pc_vault.old requests.old
-        events.old bids.old asks.old (reached_by index.now (map orders_account_of orders.old))) }
+        events.old bids.old asks.old (O.held orders.old)) }
     requires decided { Ok plan.now ≡ decided (request_of (row_of row.now)) seen.now (market_in (accounts_with address
-        authority market.old coin_vault.old pc_vault.old requests.old events.old bids.old asks.old
-        (reached_by index.now (map orders_account_of orders.old)))) }
+        authority market.old coin_vault.old pc_vault.old requests.old events.old bids.old asks.old (O.held orders.old))) }
     requires pending { pending.old ≡ pending_fills_of (market_in (accounts_with address authority market.old
-        coin_vault.old pc_vault.old requests.old events.old bids.old asks.old
-        (reached_by index.now (map orders_account_of orders.old)))).events }
-    ensures { let old = accounts_with address authority market.old coin_vault.old pc_vault.old requests.old events.old
-        bids.old asks.old (reached_by index.now (map orders_account_of orders.old)) in
+        coin_vault.old pc_vault.old requests.old events.old bids.old asks.old (O.held orders.old))).events }
+    ensures stepped { let old = accounts_with address authority market.old coin_vault.old pc_vault.old requests.old
+        events.old bids.old asks.old (O.held orders.old) in
         let new = accounts_with address authority market.new coin_vault.new pc_vault.new requests.new events.new
-        bids.new asks.new (reached_by index.now (map orders_account_of orders.new)) in
+        bids.new asks.new (O.held orders.new) in
         HasStepped old new result pending.new (row_step (row_of row.entry.now) seen.entry.now (market_in old)) }
+    ensures place { O.place orders.new ≡ O.place orders.old }
 {
     apply_ask(
         &mut LentMarket {
@@ -65,12 +63,61 @@ fn apply_reached(
             events,
             bids,
             asks,
-            orders: &mut IndexedOrders {
-                accounts: orders,
-                index,
-            },
+            orders,
         },
         &ask_of(row),
+        seen,
+        plan,
+        pending,
+    )
+}
+
+#[inline]
+fn apply_reached(
+    address: Address,
+    authority: Address,
+    market: &mut [u8],
+    coin_vault: &mut [u8],
+    pc_vault: &mut [u8],
+    requests: &mut [u8],
+    events: &mut [u8],
+    bids: &mut [u8],
+    asks: &mut [u8],
+    orders: &mut [OrdersAccount],
+    index: &AccountIndex,
+    row: &Row,
+    seen: &Seen,
+    plan: &Plan,
+    pending: &mut PendingFills,
+) -> Reply
+    requires sound { AreSound (accounts_with address authority market.old coin_vault.old pc_vault.old requests.old
+        events.old bids.old asks.old (reached_by index.now (map orders_account_of orders.old))) }
+    requires decided { Ok plan.now ≡ decided (request_of (row_of row.now)) seen.now (market_in (accounts_with address
+        authority market.old coin_vault.old pc_vault.old requests.old events.old bids.old asks.old (reached_by index.now (map orders_account_of orders.old)))) }
+    requires pending { pending.old ≡ pending_fills_of (market_in (accounts_with address authority market.old
+        coin_vault.old pc_vault.old requests.old events.old bids.old asks.old (reached_by index.now (map orders_account_of orders.old)))).events }
+    ensures { let old = accounts_with address authority market.old coin_vault.old pc_vault.old requests.old events.old
+        bids.old asks.old (map orders_account_of orders.old) in
+        let new = accounts_with address authority market.new coin_vault.new pc_vault.new requests.new events.new
+        bids.new asks.new (map orders_account_of orders.new) in
+        HasSteppedBy index.now old new result pending.new
+        (row_step (row_of row.entry.now) seen.entry.now (market_in (market_reached index.now old))) }
+{
+    apply_lent(
+        address,
+        authority,
+        market,
+        coin_vault,
+        pc_vault,
+        requests,
+        events,
+        bids,
+        asks,
+        &mut IndexedOrders {
+            accounts: orders,
+            index,
+        },
+        row,
         seen,
         plan,
         pending,
@@ -113,8 +160,8 @@ fn apply_apart(
     ensures indexed { IsIndexOf index.now (map orders_account_of orders.new) }
 {
     apply_reached(
-        index, address, authority, market, coin_vault, pc_vault, requests, events, bids, asks,
-        orders, row, seen, plan, pending,
+        address, authority, market, coin_vault, pc_vault, requests, events, bids, asks, orders,
+        index, row, seen, plan, pending,
     )
 }
 

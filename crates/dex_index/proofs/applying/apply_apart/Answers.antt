@@ -1,4 +1,4 @@
-use Rattle.std.proofs.Common.{◌≡◌, Ok, List, length, map, sym, ap, ◌∙◌, subst, arith}
+use Rattle.std.proofs.Common.{◌≡◌, Ok, map, sym, ap, ◌∙◌, subst, arith}
 use Rattle.std.proofs.lemmas.List.{length-map}
 use Rattle.dex_types.specs.Accounts.{PlainMarketAccounts, orders_account_of}
 use Rattle.dex_types.specs.Rows.{row_of}
@@ -7,7 +7,6 @@ use Rattle.dex_history.specs.Journal.{request_of, row_step}
 use Rattle.dex_plan.specs.Plans.{decided}
 use Rattle.dex_ring.specs.PendingFills.{pending_fills_of}
 use Rattle.dex_step.specs.Acting.{accounts_with}
-use Rattle.dex_index.specs.Reached.{market_reached}
 use Rattle.dex_index.proofs.AllLaws.{all-reached, stepped-all, stepped-indexed}
 use Rattle.dex_index.proofs.applying.apply_apart.Goals as goal
 

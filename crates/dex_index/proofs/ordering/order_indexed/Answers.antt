@@ -1,4 +1,4 @@
-use Rattle.std.proofs.Common.{◌≡◌, ℕ, ◌+◌, ◌-◌, List, sym, ◌∙◌, arith, rules}
+use Rattle.std.proofs.Common.{◌≡◌, ◌+◌, ◌-◌, sym, ◌∙◌, arith, rules}
 use Rattle.dex_index.proofs.OneLaws.{changed-one, found-one}
 use Rattle.dex_index.proofs.ordering.order_indexed.Goals as goal
 
