@@ -38,12 +38,14 @@ def base58_bytes(word: str) -> bytes:
 
 
 def address_bytes(word: str) -> bytes:
-    """The 32 bytes of an address: a label, `0x` and 64 digits, or base58. ValueError where the word is none of these."""
+    """The 32 bytes of an address: a label, `0x` and 64 digits, or base58. ValueError where the word is none of
+    these."""
     if WORD.fullmatch(word):
         return bytes.fromhex(word[2:]) if len(word) == 66 else word.encode().ljust(SIZE, b'\0')
     if SHORTEST_BASE58 <= len(word) <= LONGEST_BASE58:
         return base58_bytes(word)
-    raise ValueError(f'{word!r} is no address: 1 to 24 of a to z, 0 to 9 and _, or 0x and 64 digits, or base58 is wanted')
+    wanted = '1 to 24 of a to z, 0 to 9 and _, or 0x and 64 digits, or base58 is wanted'
+    raise ValueError(f'{word!r} is no address: {wanted}')
 
 
 def address_word(word: str) -> str:

@@ -12,8 +12,8 @@ from .rows import take_data as take_text
 
 MATCH, CONSUME, SETTLE, DISABLE, SWEEP, NEW, CANCEL, CANCEL_CLIENT, TAKE, CLOSE, INIT, PRUNE, CANCEL_CLIENTS = 2, 3, 5, 7, 8, 10, 11, 12, 13, 14, 15, 16, 18
 NUMBER = re.compile('0|[1-9][0-9]*')
-NEW_WORDS = re.compile('new (bid|ask)' + ' (0|[1-9][0-9]{0,19})' * 3 + ' (decrement|cancel|abort) (limit|ioc|post)' + ' (0|[1-9][0-9]{0,19})' * 2
-                       + '(?: (0|[1-9][0-9]{0,19}))?')
+WORD = ' (0|[1-9][0-9]{0,19})'
+NEW_WORDS = re.compile(f'new (bid|ask){WORD * 3} (decrement|cancel|abort) (limit|ioc|post){WORD * 2}(?:{WORD})?')
 ORDER, LATEST = struct.Struct('<BIIQQQIIQH'), struct.Struct('<q')
 SELF_TRADE_NUMBERS, ORDER_TYPE_NUMBERS = ({word: at for at, word in enumerate(words)} for words in (SELF_TRADES, ORDER_TYPES))
 
@@ -118,15 +118,16 @@ def new_of_words(text: str) -> bytes:
         raise ValueError(f'{text!r} has not the form of an order')
     side, price, lots, pc, self_trade, order_type, client, limit, latest = found.groups()
     try:
-        made = ORDER.pack(0, NEW, SIDES[side], int(price), int(lots), int(pc), SELF_TRADE_NUMBERS[self_trade], ORDER_TYPE_NUMBERS[order_type],
-                          int(client), int(limit))
+        made = ORDER.pack(0, NEW, SIDES[side], int(price), int(lots), int(pc), SELF_TRADE_NUMBERS[self_trade],
+                          ORDER_TYPE_NUMBERS[order_type], int(client), int(limit))
         return made if latest is None else made + LATEST.pack(int(latest))
     except struct.error as error:
         raise ValueError(f'a number has no place in its field: {error}') from None
 
 
 def of_words(text: str) -> bytes:
-    """The data of the words of a `do` row, such as `new ask 50 4 1 decrement limit 7 10`. ValueError where they have no such form."""
+    """The data of the words of a `do` row, such as `new ask 50 4 1 decrement limit 7 10`. ValueError where they have
+    no such form."""
     verb, *words = text.split(' ')
     if verb == 'new':
         return new_of_words(text)

@@ -17,15 +17,16 @@ PROGRAM = re.compile(rb'(?:\xef\xbb\xbf)?"?program"?,"?(serum|openbook)"?(?:\r\n
 CLOCK = re.compile(rb'^(?:\xef\xbb\xbf)?"?clock"?,"?([0-9]+)"?\r?$', re.MULTILINE)
 END_OF_DUMP = re.compile(rb'^"?enddump"?(?:\r\n?|\n|\Z)', re.MULTILINE)
 # So many bytes of a dump are read, audited and written in the time of a row in place.
-DUMP_OF_A_ROW, FEW_ROWS = 2500, 8
+DUMP_OF_A_ROW, FEW_ROWS = 4000, 4
 
 
 class Exchange:
     """All accounts of an exchange at some moment, from which further rows may act: a simulation step by step.
 
-    An exchange never changes: `step` gives the next one, so one may be kept and gone on from twice. `report` is that of the rows that
-    led here. A step of few plain rows copies the bytes of the accounts that it names, and the rows act there (`Market`); another reads
-    all accounts anew from their dump, audits them and replays the rows. docs/LIBRARY.md has figures.
+    An exchange never changes: `step` gives the next one, so one may be kept and gone on from twice. `report` is that
+    of the rows that led here. A step of few plain rows copies the bytes of the accounts that it names, and the rows
+    act there (`Market`); another reads all accounts anew from their dump, audits them and replays the rows.
+    docs/LIBRARY.md has figures.
 
     >>> start = Exchange(script)
     >>> next = start.step('do,0,m,ann,amy,ann_coin,-,-,-,new ask 50 4 1 decrement limit 7 10')
@@ -54,9 +55,10 @@ class Exchange:
     def step(self, rows: Text) -> Exchange:
         """The exchange when further instruction rows have acted.
 
-        The rows are those of a script behind a dump: `do`, `ix`, `swap` and `clock`. The program and the clock go on as they are; a `program`
-        row at the front of the rows changes the program. Rows count from the dump's first row on, so the first row here has the number
-        `first_row`. Raises ScriptRefused; then this exchange is as it was.
+        The rows are those of a script behind a dump: `do`, `ix`, `swap` and `clock`. The program and the clock go on
+        as they are; a `program` row at the front of the rows changes the program. Rows count from the dump's first
+        row on, so the first row here has the number `first_row`. Raises ScriptRefused; then this exchange is as it
+        was.
         """
         given, front = bytes_of(rows, self.limits), self._front
         changed = PROGRAM.match(given)
@@ -78,7 +80,8 @@ class Exchange:
         return len(self.dump), self.dump.count(b'\n')
 
     def _step_in_place(self, rows: bytes) -> Exchange | None:
-        """The exchange when these rows have acted in place; None where they cannot, or are so many that a replay is quicker."""
+        """The exchange when these rows have acted in place; None where they cannot, or are so many that a replay is
+        quicker."""
         count, size = rows.count(b'\n') + 1, self._dump_shape[0]
         is_quick = count <= max(FEW_ROWS, size // DUMP_OF_A_ROW) and hasattr(library(), 'dex_process')
         if not is_quick or count > self.limits.rows or size + len(self._front) + len(rows) > self.limits.input_bytes:
@@ -87,8 +90,8 @@ class Exchange:
         if acts is None:
             return None
         program, clock = PROGRAM.match(self._front), CLOCK.search(self._front)
-        clock_before = int(clock[1]) if clock else None
-        held, report, now = step_of(self._held, acts, program[1].decode() if program else 'serum', clock_before, self.first_row)
+        name = program[1].decode() if program else 'serum'
+        held, report, now = step_of(self._held, acts, name, int(clock[1]) if clock else None, self.first_row)
         made = Exchange.__new__(Exchange)
         made.limits, made.report, made._held, made._dump_shape = self.limits, report, held, self._dump_shape
         made._front = (program[0] if program else b'') + (b'' if now is None else b'clock,%d\n' % now)
@@ -96,5 +99,6 @@ class Exchange:
 
     @property
     def first_row(self) -> int:
-        """The number that reports give the first row of the next step: behind the dump, the `program` row and the `clock` row."""
+        """The number that reports give the first row of the next step: behind the dump, the `program` row and the
+        `clock` row."""
         return self._dump_shape[1] + self._front.count(b'\n') + 1

@@ -16,10 +16,11 @@ RECORD = 32 + ACCOUNT
 
 
 class HeldMarket:
-    """A market's accounts: `parts` by name; `orders`, all its open-orders accounts one after another, each behind its address; and which
-    of them each address is."""
+    """A market's accounts: `parts` by name; `orders`, all its open-orders accounts one after another, each behind
+    its address; and which of them each address is."""
 
-    def __init__(self, address: str, authority: str, parts: dict[str, bytearray], orders: bytearray, places: dict[str, int]) -> None:
+    def __init__(self, address: str, authority: str, parts: dict[str, bytearray], orders: bytearray,
+                 places: dict[str, int]) -> None:
         self.address, self.authority, self.parts, self.orders, self.places = address, authority, parts, orders, places
 
     def copy(self) -> HeldMarket:
@@ -34,7 +35,8 @@ class HeldMarket:
 
 
 class Held:
-    """All accounts of a dump. `markets` and `wallets` are by address, `fronts` the rows of the dump without what is held here."""
+    """All accounts of a dump. `markets` and `wallets` are by address, `fronts` the rows of the dump without what is
+    held here."""
 
     def __init__(self, dump: Accounts) -> None:
         rows = dump._rows
@@ -62,6 +64,10 @@ class Held:
         made.markets = {**self.markets, **{address: self.markets[address].copy() for address in markets}}
         made.wallets = {**self.wallets, **{address: bytearray(self.wallets[address]) for address in wallets}}
         return made
+
+    def has_wallets(self, words: Iterable[str | None]) -> bool:
+        """Whether each address of some that are named is a wallet's."""
+        return all(word is None or word in self.wallets for word in words)
 
     def rows(self) -> Iterator[list[Field]]:
         """The rows of the dump, with the bytes of accounts where that has base64."""

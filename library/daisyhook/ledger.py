@@ -1,4 +1,5 @@
-"""Accounts of a ledger in the JSON of its tools, read by this repository's bridge (docs/LEDGER.md), which is no part of what is proved."""
+"""Accounts of a ledger in the JSON of its tools, read by this repository's bridge (docs/LEDGER.md), which is no part
+of what is proved."""
 
 from __future__ import annotations
 
@@ -19,8 +20,8 @@ Paths = Iterable[str | os.PathLike[str]]
 
 
 class LedgerMarket(NamedTuple):
-    """A market of a ledger as a dump, its address, the program whose rules it follows (`serum` or `openbook`), and lines that tell what was
-    left out."""
+    """A market of a ledger as a dump, its address, the program whose rules it follows (`serum` or `openbook`), and
+    lines that tell what was left out."""
 
     dump: bytes
     address: str
@@ -32,7 +33,8 @@ def bridge(name: str) -> ModuleType:
     """A module of the bridge. ModuleNotFoundError where the bridge is not there."""
     place = next((place for place in PLACES if (place / 'bridge').is_dir()), None)
     if place is None:
-        raise ModuleNotFoundError(f'account JSON is read by the folder `bridge`, which is in none of {", ".join(map(str, PLACES))}')
+        places = ', '.join(map(str, PLACES))
+        raise ModuleNotFoundError(f'account JSON is read by the folder `bridge`, which is in none of {places}')
     sys.path.insert(0, str(place))
     try:
         return importlib.import_module(f'bridge.{name}')
@@ -45,23 +47,28 @@ def market_among(accounts: dict, market: str | None) -> bytes:
     if market is not None:
         return bridge('accounts').read_address(market, 'market')
     snapshot = bridge('snapshot')
-    found = [address for address, one in accounts.items() if snapshot.kind_by_flags(one.data) == 'market' and not snapshot.length_fault('market', one.data)]
+    found = [address for address, one in accounts.items()
+             if snapshot.kind_by_flags(one.data) == 'market' and not snapshot.length_fault('market', one.data)]
     if len(found) != 1:
         raise AccountsRefused(f'{len(found)} of the accounts are markets; name the one that is wanted')
     return found[0]
 
 
-def read_market(files: Paths, market: str | None, authority: str, srm: str | None, msrm: str | None, program: str | None,
-                leave_out_wallets: bool) -> LedgerMarket:
-    """The market of files and folders of account JSON, as `ledger dump` takes them. AccountsRefused where they are not taken."""
+def read_market(files: Paths, market: str | None, authority: str, srm: str | None, msrm: str | None,
+                program: str | None, leave_out_wallets: bool) -> LedgerMarket:
+    """The market of files and folders of account JSON, as `ledger dump` takes them. AccountsRefused where they are
+    not taken."""
     reader, making, tables = bridge('accounts'), bridge('making'), bridge('tables')
     address_in = reader.read_address
     try:
         accounts = reader.read_accounts([os.fspath(file) for file in files])
         address = market_among(accounts, market)
-        owners = frozenset(tables.PROGRAMS.values() if program is None else [tables.PROGRAMS.get(program) or address_in(program, 'program')])
-        wanted = making.Wanted([address], [address_in(authority, 'authority')], srm and address_in(srm, 'srm'), msrm and address_in(msrm, 'msrm'),
-                               owners, leave_out_wallets)
+        owners = list(tables.PROGRAMS.values())
+        if program is not None:
+            owners = [tables.PROGRAMS.get(program) or address_in(program, 'program')]
+        discounts = [word and address_in(word, name) for name, word in (('srm', srm), ('msrm', msrm))]
+        signer = address_in(authority, 'authority')
+        wanted = making.Wanted([address], [signer], *discounts, frozenset(owners), leave_out_wallets)
         snapshot, notes = making.make_snapshot(accounts, wanted)
     except bridge('refusals').Refusal as refusal:
         raise AccountsRefused(str(refusal)) from None

@@ -80,8 +80,8 @@ class Market:
     place.
 
     >>> market = Market(daisyhook.dump(script))
-    >>> market.process('ann', data.new_order(side='ask', price=50, lots=4, client=7), named=('amy',), coin='ann_coin').lots_resting
-    4
+    >>> market.process('ann', data.new_order(side='ask', price=50, lots=4, client=7), named=('amy',),
+    coin='ann_coin').lots_resting 4
     >>> market.depth(5).asks[0].price
     50
 
@@ -108,39 +108,46 @@ class Market:
         return made
 
     @classmethod
-    def new(cls, address: str = 'm', *, coin: str = 'coin', pc: str = 'pc', authority: str = 'admin', coin_lot: int = 1, pc_lot: int = 1,
-            nodes: int = 909, events: int = 2978, accounts: Iterable[str] = (), wallets: Mapping[str, tuple[str, str, int]] | None = None,
-            decimals: Mapping[str, int] | None = None, srm: str | None = None, msrm: str | None = None, program: str = 'serum', clock: int = 0,
+    def new(cls, address: str = 'm', *, coin: str = 'coin', pc: str = 'pc', authority: str = 'admin', coin_lot: int = 1,
+            pc_lot: int = 1, nodes: int = 909, events: int = 2978, accounts: Iterable[str] = (),
+            wallets: Mapping[str, tuple[str, str, int]] | None = None, decimals: Mapping[str, int] | None = None,
+            srm: str | None = None, msrm: str | None = None, program: str = 'serum', clock: int = 0,
             limits: Limits = STANDARD) -> Market:
         """A market with an empty book, as a script's rows make it.
 
-        `coin` and `pc` are its mints, `coin_lot` and `pc_lot` native units of a lot; each side has so many nodes (an order and most further
-        ones take two), the queue room for so many events. `accounts` are blank open-orders accounts, `wallets` token accounts by address,
-        each with its mint, its owner and its native amount. Mints have 6 `decimals`, MSRM 0, where none are named.
+        `coin` and `pc` are its mints, `coin_lot` and `pc_lot` native units of a lot; each side has so many nodes (an
+        order and most further ones take two), the queue room for so many events. `accounts` are blank open-orders
+        accounts, `wallets` token accounts by address, each with its mint, its owner and its native amount. Mints
+        have 6 `decimals`, MSRM 0, where none are named.
 
         Raises ValueError where a word or a number has no place, ScriptRefused where they do not go together.
 
         >>> market = Market.new(coin_lot=100, pc_lot=10, accounts=['amy'], wallets={'ann_coin': ('coin', 'ann', 1000)})
         """
         held = wallets or {}
-        mints = dict.fromkeys([coin, pc, *(word for word in (srm, msrm) if word), *(mint for mint, _, _ in held.values())])
+        mints = dict.fromkeys([coin, pc, *filter(None, (srm, msrm)), *(mint for mint, _, _ in held.values())])
         script = [rows.mint(mint, (decimals or {}).get(mint, 0 if mint == msrm else 6)) for mint in mints]
         script += [f'{name},{rows.address(word)}\n' for name, word in (('srm', srm), ('msrm', msrm)) if word]
         script += [rows.wallet(word, mint, owner, amount) for word, (mint, owner, amount) in held.items()]
-        script.append(rows.market(address, coin, pc, authority, coin_lot=coin_lot, pc_lot=pc_lot, nodes=nodes, events=events))
+        script.append(rows.market(address, coin, pc, authority, coin_lot=coin_lot, pc_lot=pc_lot, nodes=nodes,
+                                  events=events))
         script += [rows.orders(address, account) for account in accounts]
         return cls(dump_of(''.join(script), limits), program=program, clock=clock, limits=limits)
 
     @classmethod
-    def from_accounts(cls, *files: str | os.PathLike[str], authority: str, market: str | None = None, srm: str | None = None, msrm: str | None = None,
-                      program: str | None = None, clock: int = 0, leave_out_wallets: bool = False, limits: Limits = WIDE) -> Market:
-        """The market of a ledger's accounts: files of JSON, or folders of such, in the forms that `./ledger dump` reads (docs/LEDGER.md).
+    def from_accounts(cls, *files: str | os.PathLike[str], authority: str, market: str | None = None,
+                      srm: str | None = None, msrm: str | None = None, program: str | None = None, clock: int = 0,
+                      leave_out_wallets: bool = False, limits: Limits = WIDE) -> Market:
+        """The market of a ledger's accounts: files of JSON, or folders of such, in the forms that `./ledger dump`
+        reads (docs/LEDGER.md).
 
-        `market` may be left out where they have one; `authority` signs for it and stands in no account; `srm` and `msrm` are mints.
-        `program` is `serum`, `openbook` or the address of another deployment, which follows the rules of `serum`; else the market's owner
-        tells it. `notes` of the market are the lines that `ledger dump` tells. Addresses are in base58, as digits, or labels.
+        `market` may be left out where they have one; `authority` signs for it and stands in no account; `srm` and
+        `msrm` are mints. `program` is `serum`, `openbook` or the address of another deployment, which follows the
+        rules of `serum`; else the market's owner tells it. `notes` of the market are the lines that `ledger dump`
+        tells. Addresses are in base58, as digits, or labels.
 
-        Raises AccountsRefused where the JSON is not taken, DumpRefused or AuditFailed where the accounts are not those of a sound market.
+        Raises AccountsRefused where the JSON is not taken, DumpRefused or AuditFailed where the accounts are not
+        those of a sound market.
         """
         told = read_market(files, market, authority, srm, msrm, program, leave_out_wallets)
         made = cls(told.dump, told.address, program=told.program, clock=clock, limits=limits)
@@ -160,13 +167,15 @@ class Market:
         held.wallets = self.wallets
         return held
 
-    def _take(self, held: Held, address: str | None, program: str, clock: int, wallets: dict[str, bytearray] | None) -> None:
+    def _take(self, held: Held, address: str | None, program: str, clock: int,
+              wallets: dict[str, bytearray] | None) -> None:
         """Takes the market of these accounts. KeyError where there is none, or no address and several."""
         is_alone = address is None and len(held.markets) == 1
         word = next(iter(held.markets)) if is_alone else address and address_word(address)
         self._held, self._one = held, held.markets[word]
         one = self._one
-        self.address, self.authority, self.parts, self.orders, self._places = one.address, one.authority, one.parts, one.orders, one.places
+        self.address, self.authority = one.address, one.authority
+        self.parts, self.orders, self._places = one.parts, one.orders, one.places
         self.wallets = held.wallets if wallets is None else wallets
         self.clock, self._program = clock, PROGRAMS.index(program)
         self.notes: tuple[str, ...] = ()
@@ -188,7 +197,8 @@ class Market:
         held = [self.parts[name] for name in PARTS] + [self.orders]
         spots = (word for part in held for word in (self._place(part or self._nothing), len(part)))
         self._market = bytearray(MARKET.pack(address_bytes(self.address), address_bytes(self.authority), *spots, 0, 0, 0, 0))
-        self._instruction, self._reply, self._data, self._flaw = map(bytearray, (INSTRUCTION.size, REPLY.size, 256, FLAW.size))
+        sizes = INSTRUCTION.size, REPLY.size, 256, FLAW.size
+        self._instruction, self._reply, self._data, self._flaw = map(bytearray, sizes)
         self._pointers = [self._place(it) for it in (self._market, self._instruction, self._reply, self._data)]
         self._roles: dict[tuple, tuple] = {}
         self._names: dict[tuple, tuple] = {}
@@ -212,7 +222,8 @@ class Market:
         return found
 
     def _named(self, words: tuple[str, ...]) -> tuple:
-        """The addresses of open-orders accounts one after another, and how many. ValueError where they are more than 16."""
+        """The addresses of open-orders accounts one after another, and how many. ValueError where they are more than
+        16."""
         if len(words) > MOST_NAMED:
             raise ValueError(f'{len(words)} accounts are named, and {MOST_NAMED} at most is wanted')
         if len(self._names) == KEPT:
@@ -237,10 +248,10 @@ class Market:
         self._act(*pointers)
         return reply_of(REPLY.unpack_from(self._reply))
 
-    def process_checked(self, signer: str, data: bytes, *, named: Iterable[str] = (), coin: str | None = None, pc: str | None = None,
-                        discount: str | None = None, referrer: str | None = None) -> Reply:
-        """The same for bytes that somebody may have changed: the market and the wallets that are named are checked before, which takes time
-        by their sizes.
+    def process_checked(self, signer: str, data: bytes, *, named: Iterable[str] = (), coin: str | None = None,
+                        pc: str | None = None, discount: str | None = None, referrer: str | None = None) -> Reply:
+        """The same for bytes that somebody may have changed: the market and the wallets that are named are checked
+        before, which takes time by their sizes.
 
         Raises NotSound, with what is wrong, and OutOfMemory; then nothing was changed.
         """
@@ -251,7 +262,8 @@ class Market:
         return reply_of(REPLY.unpack_from(self._reply))
 
     def check(self) -> Flaw | None:
-        """What is wrong with the market's bytes, the first of it; None where they are those of a sound market. Wallets are not looked at.
+        """What is wrong with the market's bytes, the first of it; None where they are those of a sound market.
+        Wallets are not looked at.
 
         Raises OutOfMemory.
         """
@@ -264,7 +276,8 @@ class Market:
         """Why a checked call did nothing."""
         return NotSound(flaw_of(FLAW.unpack_from(self._flaw))) if status == 3 else failure_of(status, b'')
 
-    def _laid_out(self, signer: str, data: bytes, words: tuple[str, ...], roles: tuple[str | None, ...]) -> tuple[int, int, int, int]:
+    def _laid_out(self, signer: str, data: bytes, words: tuple[str, ...],
+                  roles: tuple[str | None, ...]) -> tuple[int, int, int, int]:
         """Lays out an instruction: where the market, its wallets, the instruction itself and its reply are."""
         size = len(data)
         _, wallets, numbers = self._roles.get(roles) or self._roles_of(roles)
@@ -307,8 +320,9 @@ class Market:
         return number_at(self.wallets[address_word(wallet)], WALLET['amount'])
 
     def dump(self) -> bytes:
-        """The dump that the market was made from, with its accounts and its wallets as they are now. Other markets of the dump stand in it as
-        they were: where they acted on the same wallets, an audit of it finds their mints off."""
+        """The dump that the market was made from, with its accounts and its wallets as they are now. Other markets
+        of the dump stand in it as they were: where they acted on the same wallets, an audit of it finds their mints
+        off."""
         return self._held_now().dump()
 
 

@@ -24,8 +24,8 @@ FRONTS.update({f'{name}_wide': front for name, front in list(FRONTS.items()) if 
 PLACE = ctypes.c_void_p
 # The functions over a market's accounts: what they take, and what they give.
 IN_PLACE = {
-    'dex_pending': ((PLACE,), None), 'dex_process': ((PLACE,) * 4, ctypes.c_uint8), 'dex_market_check': ((PLACE,) * 2, ctypes.c_uint8),
-    'dex_process_checked': ((PLACE,) * 5, ctypes.c_uint8),
+    'dex_pending': ((PLACE,), None), 'dex_process': ((PLACE,) * 4, ctypes.c_uint8),
+    'dex_market_check': ((PLACE,) * 2, ctypes.c_uint8), 'dex_process_checked': ((PLACE,) * 5, ctypes.c_uint8),
 }
 ROOM = (ctypes.POINTER(ctypes.c_char), SIZE, ctypes.POINTER(SIZE))
 

@@ -21,14 +21,16 @@ from .report import Report
 from .swaps import Swap
 
 WORD = '(?:[a-z0-9_]{1,24}|0x[0-9a-f]{64})'
-ROW = re.compile(f'(do|ix),([0-9]|1[0-5]),({WORD}),({WORD}),(-|{WORD}(?: {WORD}){{0,15}}),(-|{WORD}),(-|{WORD}),(-|{WORD}),(-|{WORD}),(.*)')
+NAMED, WALLET_WORDS = f',(-|{WORD}(?: {WORD}){{0,15}})', f',(-|{WORD})' * 4
+ROW = re.compile(f'(do|ix),([0-9]|1[0-5]),({WORD}),({WORD}){NAMED}{WALLET_WORDS},(.*)')
 CLOCK, LAST_CLOCK = re.compile('clock,(0|[1-9][0-9]{0,18})', re.ASCII), 2**63 - 1
 MOST_DATA = 256
 
 
 @dataclass(frozen=True, slots=True)
 class Act:
-    """An instruction row: its lane, its market, who signs, the open-orders accounts that it names, its wallets by role, and its data."""
+    """An instruction row: its lane, its market, who signs, the open-orders accounts that it names, its wallets by
+    role, and its data."""
 
     lane: int
     market: str
@@ -58,18 +60,19 @@ def act_of(line: str) -> Act | int:
         return int(clock[1])
     kind, lane, market, signer, named, *roles, said = found.groups()
     names = () if named == '-' else tuple(map(address_of, named.split(' ')))
-    return Act(int(lane), address_of(market), address_of(signer), names, tuple(None if role == '-' else address_of(role) for role in roles),
-               data_of(kind, said))
+    wallets = tuple(None if role == '-' else address_of(role) for role in roles)
+    return Act(int(lane), address_of(market), address_of(signer), names, wallets, data_of(kind, said))
 
 
 def acts_of(rows: bytes, held: Held) -> list[Act | int] | None:
-    """The rows that may act in place on these accounts; None where one is no plain row: a swap, one with quotes, or one that is at fault."""
+    """The rows that may act in place on these accounts; None where one is no plain row: a swap, one with quotes, or
+    one that is at fault."""
     try:
         acts = list(map(act_of, rows.decode('ascii').removesuffix('\n').split('\n'))) if rows else []
     except (ValueError, binascii.Error):
         return None
-    known = all(isinstance(act, int) or (act.market in held.markets and all(word is None or word in held.wallets for word in act.roles)) for act in acts)
-    return acts if known else None
+    are_known = all(act.market in held.markets and held.has_wallets(act.roles) for act in acts if isinstance(act, Act))
+    return acts if are_known else None
 
 
 def move_of(wallet: str, before: int, after: int) -> Move:
@@ -79,7 +82,8 @@ def move_of(wallet: str, before: int, after: int) -> Move:
 
 
 class Stage:
-    """Accounts on which rows act in place: copies of those that the rows name, for none else sees them before the end."""
+    """Accounts on which rows act in place: copies of those that the rows name, for none else sees them before the
+    end."""
 
     def __init__(self, held: Held, acts: list[Act | int], program: str) -> None:
         rows = [act for act in acts if isinstance(act, Act)]
@@ -104,10 +108,12 @@ class Stage:
 
     def act(self, act: Act, row: int, clock: int) -> None:
         """Lets a row act."""
-        market, (coin, pc, discount, referrer), wallets = self.markets[act.market], act.roles, self._wallets_of(act.roles)
+        market, wallets = self.markets[act.market], self._wallets_of(act.roles)
+        coin, pc, discount, referrer = act.roles
         market.clock = clock
         before = [self._amount(word) for word in wallets]
-        reply = market.process(act.signer, act.data, named=act.named, coin=coin, pc=pc, discount=discount, referrer=referrer)
+        reply = market.process(act.signer, act.data, named=act.named, coin=coin, pc=pc, discount=discount,
+                               referrer=referrer)
         moves = tuple(move_of(word, amount, self._amount(word)) for word, amount in zip(wallets, before))
         self.journals[act.market].append(Entry(act.lane, row, reply, moves))
         for move in moves:
@@ -170,9 +176,10 @@ class StepReport(Report):
         return {}
 
 
-def step_of(held: Held, acts: list[Act | int], program: str, clock: int | None, first_row: int) -> tuple[Held, StepReport, int | None]:
-    """What rows leave of these accounts, which stay as they are, the report of it, and the clock behind them, if one was set; the first row
-    has this number."""
+def step_of(held: Held, acts: list[Act | int], program: str, clock: int | None,
+            first_row: int) -> tuple[Held, StepReport, int | None]:
+    """What rows leave of these accounts, which stay as they are, the report of it, and the clock behind them, if one
+    was set; the first row has this number."""
     stage, count = Stage(held, acts, program), 0
     for row, act in enumerate(acts, first_row):
         if isinstance(act, int):
