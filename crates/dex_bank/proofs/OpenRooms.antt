@@ -1,5 +1,5 @@
 -- How many rows name the market or the wallet at each place of a list.
-use Rattle.std.proofs.Common.{◌≡◌, ◌≢◌, ℕ, suc, ◌+◌, ◌<◌, ◌≤◌, ◌^◌, Bool, true, false, List, [], ◌∷◌, ◌++◌, Option, None, Some, count_by, eqb, get_or, length, map, take, refl, sym, ap, subst, ◌∙◌, arith, ⊎_elim}
+use Rattle.std.proofs.Common.{◌≡◌, ◌≢◌, ℕ, suc, ◌+◌, ◌<◌, ◌≤◌, ◌^◌, Bool, true, false, List, [], ◌∷◌, ◌++◌, Some, count_by, eqb, get_or, length, map, take, refl, sym, ap, subst, ◌∙◌, arith, ⊎_elim}
 use Rattle.dex_world.proofs.Common.{Address, PlainAccount, PlainAccounts, PlainMarketAccounts, PlainRow, Row, is_same, is_same-sym, is_same-true, length-map, names, row_of, sum_by-append, sum_by-cons, take_all, take_more}
 use Rattle.std.specs.List.{All, position}
 use Rattle.std.proofs.lemmas.Bool.{cases_lt}
@@ -84,9 +84,12 @@ module _ {limits : Limits} (start : PlainAccounts) (is : IsStart limits start) (
       none : (rest : List ℕ) → All (λ (there : ℕ). there ≡ 65535) rest → times_told place rest ≡ 0
       none [] all = refl
       none (there ∷ rest) all =
-          sum_by-cons (λ (other : ℕ). one (eqb place other)) there rest
-          ∙ ap (λ (b : Bool). one b + times_told place rest) (beyond there (All-head (λ (n : ℕ). n ≡ 65535) there rest all))
-          ∙ none rest (All-tail (λ (n : ℕ). n ≡ 65535) there rest all)
+          omega (
+            arith,
+            sum_by-cons (λ (other : ℕ). one (eqb place other)) there rest,
+            ap one (beyond there (All-head (λ (n : ℕ). n ≡ 65535) there rest all)),
+            none rest (All-tail (λ (n : ℕ). n ≡ 65535) there rest all),
+          )
 
       told : (addresses : List Address) (rest : List ℕ) → ArePlacesOf (λ (a : Address). wallet_place a start.wallets) addresses rest
           → times_told place rest ≡ times (get_or (wallets_at start.wallets) place d) addresses
@@ -103,18 +106,17 @@ module _ {limits : Limits} (start : PlainAccounts) (is : IsStart limits start) (
 -- ---- counts by place
 
 -- one place more is counted
-pub counted-more : (told : List ℕ) (i item : ℕ) (start counts new : List ℕ) → i < length told → item ≡ get_or told i item
-    → AreCounted (λ (place : ℕ). times_told place (take i told)) start counts → AreCounted (λ (place : ℕ). one (eqb place item)) counts new
+pub counted-more : (told : List ℕ) (i : ℕ) (start counts new : List ℕ) → i < length told
+    → AreCounted (λ (place : ℕ). times_told place (take i told)) start counts → AreCounted (λ (place : ℕ). one (eqb place (get_or told i 0))) counts new
     → AreCounted (λ (place : ℕ). times_told place (take (i + 1) told)) start new
-counted-more told i item start counts new inside is so more = record {
+counted-more told i start counts new inside so more = record {
   long = more.long ∙ so.long;
   each = λ place less.
       omega (
         arith,
         so.each place less,
         more.each place (omega (arith, less, so.long)),
-        sum_by_more (λ (other : ℕ). one (eqb place other)) told i item inside,
-        ap (λ (other : ℕ). one (eqb place other)) is,
+        sum_by_more (λ (other : ℕ). one (eqb place other)) told i 0 inside,
       );
 }
 

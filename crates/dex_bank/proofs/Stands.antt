@@ -1,5 +1,5 @@
 -- Where the market and the wallets of rows stand among cells.
-use Rattle.std.proofs.Common.{◌≡◌, ℕ, ◌<◌, List, [], ◌∷◌, Option, None, Some, get_or, length, map, sym, ap, ◌∙◌, arith}
+use Rattle.std.proofs.Common.{◌≡◌, ℕ, ◌<◌, List, [], ◌∷◌, Option, None, Some, get_or, length, map, sym, ap, ◌∙◌, subst, arith}
 use Rattle.std.proofs.lemmas.Option.{none-some}
 use Rattle.dex_world.proofs.Common.{Address, PlainAccount, PlainAccounts, PlainMarketAccounts, PlainRow, is_same, length-map}
 use Rattle.dex_bank.proofs.Common.{AreCells, CellState, CellsState, IsFirstAt, MarketCellState, market_opened, opened_of, wallet_opened}
@@ -102,7 +102,7 @@ module _ (before after : CellsState) (was : All HasItsAddress before.markets) (i
       ∙ ap (λ (cells : CellsState). map market_address cells.markets) kept
       ∙ sym (opened-addresses before.markets was)
 
-  first-still : (address : Address) (place : ℕ) → IsFirstAt address before.markets place → IsFirstAt address after.markets place
+  pub first-still : (address : Address) (place : ℕ) → IsFirstAt address before.markets place → IsFirstAt address after.markets place
   first-still address place first = record {
     within = (still place (some-of before.markets place first.within) first.within).0;
     here = λ default. ap (is_same address) (still place default first.within).1 ∙ first.here default;

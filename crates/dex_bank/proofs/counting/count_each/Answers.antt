@@ -1,4 +1,4 @@
-use Rattle.std.proofs.Common.{◌≡◌, ◌<◌, ℕ, List, length, arith, sym, subst}
+use Rattle.std.proofs.Common.{ℕ, arith, sym, subst}
 use Rattle.dex_bank.specs.Counts.{HaveSpare}
 use Rattle.dex_bank.proofs.OpenRooms.{counted-more, spare-more}
 use Rattle.dex_bank.proofs.counting.count_each.Goals as goal
@@ -10,5 +10,4 @@ count-requires c =
 
 pub loop-i-preserved : goal.loop-i-preserved
 loop-i-preserved c =
-    counted-more c.args.told.now c.loop-i.i c.index-told-i.result c.args.counts.now c.loop-i.counts c.count.new.counts (omega (arith, c.told-told)) c.index-told-i.is
-    c.loop-i.invariant c.count.ensures
+    counted-more c.args.told.now c.loop-i.i c.args.counts.now c.loop-i.counts c.count.new.counts (omega (arith, c.told-told)) c.loop-i.invariant c.count.ensures
