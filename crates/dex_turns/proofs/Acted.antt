@@ -16,7 +16,7 @@ use Rattle.dex_world.specs.Items.{doing}
 use Rattle.dex_world.proofs.ItemLaws.{not-refused}
 use Rattle.dex_script_types.specs.Facts.{IsLeg}
 use Rattle.dex_turns.specs.Submitted.{written_by}
-use Rattle.dex_act.specs.declared.sight.Terms.{Terms}
+use Rattle.dex_act.specs.Steps.{Terms}
 use Rattle.dex_act.specs.declared.steps.RowDone.{RowDone}
 use Rattle.dex_act.specs.Steps.{IsRecorded, IsStepOn, IsTakeOrRefused, made_by}
 use Rattle.dex_journals.specs.Journals.{IsBankMarket, market_more}

@@ -6,7 +6,7 @@ use Rattle.dex_turns.proofs.Common.{CellState, HasCall, HasEntry, Stamped, is_am
 use Rattle.dex_cell.specs.CellState.{market_at}
 use Rattle.dex_history.specs.Journal.{Call, is_held}
 use Rattle.dex_stamps.specs.declared.stamp.Stamp.{Stamp}
-use Rattle.dex_act.specs.declared.sight.Terms.{Terms}
+use Rattle.dex_act.specs.Steps.{Terms}
 use Rattle.dex_act.specs.Steps.{HasWallets, IsStepOn, made_by, world_in_hand}
 use Rattle.dex_act.specs.Wallets.{ArePlacesAmong}
 use Rattle.dex_turns.specs.Inside.{written_of}

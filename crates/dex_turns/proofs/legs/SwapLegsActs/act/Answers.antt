@@ -7,7 +7,7 @@ use Rattle.dex_cell.specs.CellState.{market_at}
 use Rattle.dex_history.specs.Journal.{is_done, is_held, is_refused, is_took}
 use Rattle.dex_stamps.specs.declared.stamp.Stamp.{Stamp}
 use Rattle.dex_act.specs.declared.places.WalletPlaces.{WalletPlaces}
-use Rattle.dex_act.specs.declared.sight.Terms.{Terms}
+use Rattle.dex_act.specs.Steps.{Terms}
 use Rattle.dex_act.specs.declared.steps.Legs.{Legs}
 use Rattle.dex_act.specs.Steps.{AreStepsOn, HasWallets, IsTakeOrRefused, made_by, world_in_hand}
 use Rattle.dex_act.specs.Wallets.{ArePlacesAmong}
