@@ -1,5 +1,5 @@
 -- Scripts fall into the shards that joined labels tell.
-use Rattle.std.proofs.Common.{◌≡◌, ◌<◌, ◌≤◌, ◌+◌, ◌||◌, ℕ, zero, suc, true, false, ◌-◌, cond, eqb, ltb, List, [], ◌∷◌, ◌++◌, Option, Some, None, drop, get_or, length, map, take, refl, sym, ap, ◌∙◌, subst, arith, ⊎_elim}
+use Rattle.std.proofs.Common.{◌≡◌, ◌<◌, ◌≤◌, ◌+◌, ℕ, zero, suc, true, false, ◌-◌, cond, eqb, ltb, List, [], ◌∷◌, ◌++◌, Option, Some, None, drop, get_or, length, map, take, refl, sym, ap, ◌∙◌, subst, arith, ⊎_elim}
 use Rattle.std.specs.List.{All, AllPairs, list_any}
 use Rattle.std.proofs.lemmas.Bool.{both_ways, cases_eq, cond-false, cond-true, eq-eqb, false≢true, le-ltb, lt-ltb, ne_eqb, or_cases}
 use Rattle.std.proofs.lemmas.List.{get_or-drop, get_or-map, get_or-take, length-drop, length-map, length-take-le}
