@@ -12,7 +12,7 @@ const LONGEST_DUMP = 8;
 // A script has so many instruction rows at most.
 const MOST_ROWS = 100000;
 // How many fronts are kept, each longer than the one before it.
-const MOST_FRONTS = 6;
+const MOST_FRONTS = 3;
 
 function textOf(bytes) { return new TextDecoder('utf-8', { ignoreBOM: true }).decode(bytes); }
 
