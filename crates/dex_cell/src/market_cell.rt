@@ -9,6 +9,7 @@ use crate::journal::write_down;
 use crate::payouts::{Deposits, Payouts, Vaults, pay};
 use dex_decide::Plan;
 use dex_fills::{PendingFills, pending_fills};
+use dex_index::AccountIndex;
 use dex_movements::Amounts;
 use dex_purse::amounts_of;
 use dex_ring::RingRef;
@@ -18,7 +19,8 @@ use dex_wallet::Parcel;
 use std::alloc::Global;
 use std::marker::Model;
 
-/// A market: its accounts, the parcels that its two vaults are, and its journal.
+/// A market: its accounts, the parcels that its two vaults are, and its journal. It keeps an index of its open-orders
+/// accounts, so a row's account is found as quickly among many as among few.
 ///
 /// The accounts are always accepted, and those of the sound market that stands at the end of the journal, which is one
 /// legal history of the market that the cell was made with. Where a cell is dropped its parcels are given up.
@@ -26,6 +28,7 @@ use std::marker::Model;
 pub struct MarketCell {
     start: Kept<MarketAccounts>,
     accounts: MarketAccounts,
+    index: AccountIndex,
     vaults: Vaults,
     pending: PendingFills,
     calls: Log<Row, CallRecord>,
@@ -85,12 +88,14 @@ impl MarketCell {
         ensures { IfOk result (λ cell. cell ≡ cells.new_cell (market_accounts_of accounts) room) }
     {
         let vaults = Vaults { coin, pc };
+        let index = AccountIndex::of(alloc, &accounts.orders)?;
         let entries = Vec::with_capacity(alloc, room)?;
         let start = Kept::of(&accounts);
         let pending = pending_in(&accounts.events);
         Ok(MarketCell {
             start,
             accounts,
+            index,
             vaults,
             pending,
             calls: Log::new(),
@@ -129,7 +134,7 @@ impl MarketCell {
         requires { IsFor row.now seen.now self.now }
         ensures { result ≡ answer_on row.entry.now seen.now self.now }
     {
-        dex_decide::decide(&self.accounts, row, seen, &self.pending)
+        dex_index::decide(&self.accounts, &self.index, row, seen, &self.pending)
     }
 
     /// Decides a row, and writes the answer where it is wanted.
@@ -137,7 +142,14 @@ impl MarketCell {
         requires { IsFor row.now seen.now self.now }
         ensures { answer.new ≡ answer_on row.entry.now seen.now self.now }
     {
-        dex_decide::decide_into(&self.accounts, row, seen, &self.pending, answer);
+        dex_index::decide_into(
+            &self.accounts,
+            &self.index,
+            row,
+            seen,
+            &self.pending,
+            answer,
+        );
     }
 
     /// Does a row as it was decided, with the parcels of the plan's deposit, and answers its reply, which is no
@@ -184,7 +196,14 @@ impl MarketCell {
         ensures paid { result ≡ paid_out (market_at self.old) (step_on row.entry.now seen.now self.old).transfers }
         ensures taken { HasTaken row.entry.now seen.now self.old self.new }
     {
-        let reply = dex_step::apply(&mut self.accounts, row, seen, plan, &mut self.pending);
+        let reply = dex_index::apply(
+            &mut self.accounts,
+            &self.index,
+            row,
+            seen,
+            plan,
+            &mut self.pending,
+        );
         let payouts = pay(
             &mut self.vaults.coin,
             &mut self.vaults.pc,

@@ -61,7 +61,7 @@ moved c =
 
 calls : (c : goal.After-write_down) → map call_of c.write_down.new.calls.items ≡ (before c).calls ++ call_on c.args.row.now c.args.seen.now (before c) ∷ []
 calls c =
-    calls-grow c.args.row.now c.args.seen.now c.apply-reply.result (stepped c).reply _ (stepped c).transfers c.apply-reply.ensures.reply_is (moved c)
+    calls-grow c.args.row.now c.args.seen.now c.apply-reply.result (stepped c).reply _ (stepped c).transfers c.apply-reply.ensures.stepped.reply_is (moved c)
     c.self.inside.calls.items c.write_down.new.calls.items c.write_down.ensures.calls
 
 -- the cell after it
@@ -76,27 +76,28 @@ after c = record (before c) {
 coin : (c : goal.After-write_down) → c.pay-payouts.new.coin ≡ held_in (market_accounts_of c.apply-reply.new.accounts).coin_vault
 coin c =
     c.pay-payouts.ensures.coin ∙ ap (λ (t : Transfers). moved_share c.self.inside.vaults.coin t.coin_out t.coin_in) (moved c)
-    ∙ coin-moved (before c) c.args.row.now c.args.seen.now (market_accounts_of c.apply-reply.new.accounts) c.self.invariant.cell c.apply-reply.ensures.sound c.apply-reply.ensures.market
+    ∙ coin-moved (before c) c.args.row.now c.args.seen.now (market_accounts_of c.apply-reply.new.accounts) c.self.invariant.cell c.apply-reply.ensures.stepped.sound c.apply-reply.ensures.stepped.market
 
 pc : (c : goal.After-write_down) → c.pay-payouts.new.pc ≡ held_in (market_accounts_of c.apply-reply.new.accounts).pc_vault
 pc c =
     c.pay-payouts.ensures.pc ∙ ap (λ (t : Transfers). moved_share c.self.inside.vaults.pc (t.pc_out + t.referrer_out) t.pc_in) (moved c)
-    ∙ pc-moved (before c) c.args.row.now c.args.seen.now (market_accounts_of c.apply-reply.new.accounts) c.self.invariant.cell c.apply-reply.ensures.sound c.apply-reply.ensures.market
+    ∙ pc-moved (before c) c.args.row.now c.args.seen.now (market_accounts_of c.apply-reply.new.accounts) c.self.invariant.cell c.apply-reply.ensures.stepped.sound c.apply-reply.ensures.stepped.market
 
 kept : (c : goal.After-write_down) → IsMarketCell (after c)
 kept c =
     subst (λ (cs : List Call). IsMarketCell (record (after c) { calls = cs })) (sym (calls c))
     (called (before c) c.args.row.now c.args.seen.now (market_accounts_of c.apply-reply.new.accounts) c.apply-reply.result c.apply-reply.new.pending
-    c.pay-payouts.new.coin c.pay-payouts.new.pc c.self.invariant.cell (subst (IsFor c.args.row.now c.args.seen.now) (sym c.self.view_is) c.requires.row) (subst HasSpare (sym c.self.view_is) c.requires.spare) c.apply-reply.ensures (coin c) (pc c))
+    c.pay-payouts.new.coin c.pay-payouts.new.pc c.self.invariant.cell (subst (IsFor c.args.row.now c.args.seen.now) (sym c.self.view_is) c.requires.row) (subst HasSpare (sym c.self.view_is) c.requires.spare) c.apply-reply.ensures.stepped (coin c) (pc c))
 
 pub invariant_of-self : goal.invariant_of-self
 invariant_of-self c = record {
   cell = kept c;
-  journal = entries-grow c.args.row.now c.args.seen.now c.apply-reply.result (stepped c).reply _ (stepped c).transfers c.apply-reply.ensures.reply_is (moved c)
+  journal = entries-grow c.args.row.now c.args.seen.now c.apply-reply.result (stepped c).reply _ (stepped c).transfers c.apply-reply.ensures.stepped.reply_is (moved c)
       c.self.inside.entries.items c.write_down.new.entries.items (before c).calls c.self.invariant.journal c.write_down.ensures.entries
       ∙ sym (ap (map (λ (call : Call). call.entry)) (calls c));
   reserved = omega (arith, c.write_down.ensures.reserved, c.self.invariant.reserved);
-  pending = c.apply-reply.ensures.pending_is;
+  pending = c.apply-reply.ensures.stepped.pending_is;
+  index = c.apply-reply.ensures.indexed;
 }
 
 pub returns-clause-paid : goal.returns-clause-paid
@@ -117,7 +118,7 @@ returns-clause-done c = subst (λ (cell : MarketCellState). is_refusal (step_on 
 pub returns-clause-taken : goal.returns-clause-taken
 returns-clause-taken c =
     subst (λ (cell : MarketCellState). HasTaken c.args.row.now c.args.seen.now cell (after c)) c.self.view_is (record {
-      acted = record { calls = calls c; market = c.apply-reply.ensures.market; start = refl; room = refl };
+      acted = record { calls = calls c; market = c.apply-reply.ensures.stepped.market; start = refl; room = refl };
       refused = λ refused. absurd (false≢true (sym (spared c) ∙ refused));
       cell = kept c;
     })

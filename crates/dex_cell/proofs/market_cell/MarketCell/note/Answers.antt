@@ -30,6 +30,7 @@ invariant_of-self c = record {
       ∙ sym (ap (map (λ (call : Call). call.entry)) (calls c));
   reserved = omega (arith, c.write_down.ensures.reserved, c.self.invariant.reserved);
   pending = c.self.invariant.pending;
+  index = c.self.invariant.index;
 }
 
 pub returns-clause-noted : goal.returns-clause-noted

@@ -1,0 +1,5 @@
+pub mod ReachedLaws
+pub mod OneLaws
+pub mod MadeLaws
+pub mod AllLaws
+pub mod LiftLaws
