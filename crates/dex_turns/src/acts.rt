@@ -39,8 +39,8 @@ pub(crate) trait Acts {
     /// What it did to the markets.
     ghost did: { Self → PlainScript → Self.Made → Self.Markets → Self.Markets → Type 0 };
 
-    /// Acts, with the cells of all wallets in hand, in their order. Its stamp is above this one, which no stamp of a market or wallet
-    /// is above.
+    /// Acts, with the cells of all wallets in hand, in their order. Its stamp is above this one, which no stamp of a
+    /// market or wallet is above.
     fn act(
         &self,
         bank: &Bank,
