@@ -87,8 +87,8 @@ pub fn audit(alloc: Global, accounts: &Accounts) -> Result<Vec<Finding>, NoMemor
     Ok(found)
 }
 
-/// What an audit finds of markets, whatever mints and wallets there are: by the rule, but for that of mints, then by the
-/// markets' order, then by place. Only a lack of memory can come in the place of the findings.
+/// What an audit finds of markets, whatever mints and wallets there are: by the rule, but for that of mints, then by
+/// the markets' order, then by place. Only a lack of memory can come in the place of the findings.
 pub fn audit_markets(alloc: Global, markets: &[MarketAccounts]) -> Result<Vec<Finding>, NoMemory>
     requires { All IsAccepted (map market_accounts_of markets.now) }
     ensures { IfOk result (λ found. found.items ≡ audits.market_findings (map market_accounts_of markets.now)) }

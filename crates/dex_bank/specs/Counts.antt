@@ -16,4 +16,5 @@ HaveSpare more counts = (place : ℕ) → place < length counts → slice_index_
 -- at each place there are so many more
 pub record AreCounted (more : ℕ → ℕ) (before after : List ℕ) : Type 0 where
   pub long : length after ≡ length before
-  pub each : (place : ℕ) → place < length before → slice_index_or after place 0 ≡ slice_index_or before place 0 + more place
+  pub each : (place : ℕ) → place < length before
+      → slice_index_or after place 0 ≡ slice_index_or before place 0 + more place

@@ -45,8 +45,9 @@ fn check_each_orders(market: Address, accounts: &[OrdersAccount]) -> Result<(), 
 }
 
 /// Whether the accounts of a market are accepted, each as one of its kind, and with the others; else the first that is
-/// not, with the lowest of its faults (of a slab any that it has): the market account, its vaults, queues and sides, and
-/// then its open-orders accounts, as a dump's rows have them. Mints are not looked at, nor whether two have one address.
+/// not, with the lowest of its faults (of a slab any that it has): the market account, its vaults, queues and sides,
+/// and then its open-orders accounts, as a dump's rows have them. Mints are not looked at, nor whether two have one
+/// address.
 pub fn check_accounts(accounts: &MarketAccounts) -> Result<(), Failed>
     ensures { TellsChecks result (market_checks (market_accounts_of accounts.now)) }
 {

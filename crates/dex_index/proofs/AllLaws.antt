@@ -12,7 +12,7 @@ use Rattle.dex_orders.specs.StandsFor.{traders_of}
 use Rattle.dex_ring.specs.declared.pending_fills.PendingFills.{PendingFills}
 use Rattle.dex_step.specs.Acting.{HasStepped, addresses_of}
 use Rattle.dex_index.specs.declared.index.AccountIndex.{AccountIndex}
-use Rattle.dex_index.specs.Reached.{HasSteppedBy, IsIndexOf, LeadsToAll, market_reached, place_by, reached_by}
+use Rattle.dex_index.specs.Reached.{IsIndexOf, LeadsToAll, market_reached, place_by, reached_by}
 use Rattle.dex_index.proofs.ReachedLaws.{leads-all, reached-all}
 
 -- sound accounts have an address each
@@ -38,27 +38,30 @@ leads-as find (first ∷ others) [] at same leads = absurd (cc)
 leads-as find (first ∷ others) (one ∷ more) at same leads =
     (ap find (first-same _ _ _ _ same) ∙ leads.0, leads-as find others more (suc at) (others-same _ _ _ _ same) leads.1)
 
-module _ (index : AccountIndex) (before after : PlainMarketAccounts) (reply : Reply) (pending : PendingFills) (step : Market → Step) (leads : IsIndexOf index before.orders)
-    (many : length after.orders ≡ length before.orders) (did : HasSteppedBy index before after reply pending (step (market_in (market_reached index before)))) where
+-- a step was done on what an index of all accounts leads to; what some index leads to afterwards, of as many accounts, is
+-- what it left
+module _ (index later : AccountIndex) (before after : PlainMarketAccounts) (reply : Reply) (pending : PendingFills) (step : Market → Step) (leads : IsIndexOf index before.orders)
+    (many : length after.orders ≡ length before.orders)
+    (did : HasStepped (market_reached index before) (market_reached later after) reply pending (step (market_in (market_reached index before)))) where
   -- the accounts that are reached afterwards have the addresses of those before
-  had : addresses_of (reached_by did.later after.orders) ≡ addresses_of before.orders
-  had = did.stepped.kept.addresses ∙ ap addresses_of (reached-all (place_by index) before.orders 0 leads)
+  had : addresses_of (reached_by later after.orders) ≡ addresses_of before.orders
+  had = did.kept.addresses ∙ ap addresses_of (reached-all (place_by index) before.orders 0 leads)
 
   -- so they are all
-  leads-later : IsIndexOf did.later after.orders
+  leads-later : IsIndexOf later after.orders
   leads-later =
-      let ours : length (addresses_of (reached_by did.later after.orders)) ≡ length (reached_by did.later after.orders) = length-map (reached_by did.later after.orders) _ in
+      let ours : length (addresses_of (reached_by later after.orders)) ≡ length (reached_by later after.orders) = length-map (reached_by later after.orders) _ in
       let theirs : length (addresses_of before.orders) ≡ length before.orders = length-map before.orders _ in
-      let as_many : length (addresses_of (reached_by did.later after.orders)) ≡ length (addresses_of before.orders) = ap (λ (l : List Address). length l) had in
-      leads-all (place_by did.later) after.orders 0 (omega (arith, as_many, ours, theirs, many))
+      let as_many : length (addresses_of (reached_by later after.orders)) ≡ length (addresses_of before.orders) = ap (λ (l : List Address). length l) had in
+      leads-all (place_by later) after.orders 0 (omega (arith, as_many, ours, theirs, many))
 
   pub stepped-indexed : IsIndexOf index after.orders
   stepped-indexed =
       leads-as (place_by index) before.orders after.orders 0
-      (sym (ap addresses_of (reached-all (place_by did.later) after.orders 0 leads-later)) ∙ had) leads
+      (sym (ap addresses_of (reached-all (place_by later) after.orders 0 leads-later)) ∙ had) leads
 
   pub stepped-all : HasStepped before after reply pending (step (market_in before))
   stepped-all =
       subst (λ (b : PlainMarketAccounts). HasStepped b after reply pending (step (market_in b))) (all-reached index before leads)
       (subst (λ (a : PlainMarketAccounts). HasStepped (market_reached index before) a reply pending (step (market_in (market_reached index before))))
-      (all-reached did.later after leads-later) did.stepped)
+      (all-reached later after leads-later) did)

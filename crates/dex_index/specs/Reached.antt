@@ -4,10 +4,6 @@ use Rattle.std.specs.HashMap as hash
 use Rattle.dex_types.specs.declared.addresses.Address.{Address}
 use Rattle.dex_types.specs.Accounts.{PlainAccount, PlainMarketAccounts}
 use Rattle.dex_types.specs.Addresses.{is_same}
-use Rattle.dex_types.specs.declared.replies.Reply.{Reply}
-use Rattle.dex_types.specs.Steps.{Step}
-use Rattle.dex_ring.specs.declared.pending_fills.PendingFills.{PendingFills}
-use Rattle.dex_step.specs.Acting.{HasStepped}
 use Rattle.dex_index.specs.declared.index.AccountIndex.{AccountIndex}
 
 -- what was found is this place
@@ -45,13 +41,8 @@ abbrev pub IsIndexOf : AccountIndex → List PlainAccount → Type 0
 IsIndexOf index accounts = LeadsToAll (place_by index) 0 accounts
 
 -- it leads to the account of the address, which stands at this place
-pub record IsReached (index : AccountIndex) (address : Address) (accounts : List PlainAccount) (place : ℕ) : Type 0 where
-  pub within : place < length accounts
-  pub found : place_by index address ≡ Some place
-  pub here : (default : PlainAccount) → is_same address (slice_index_or accounts place default).address ≡ true
-
--- a step was done on a market's accounts, of the open-orders accounts on those that an index leads to; what some index
--- leads to afterwards are those that it left
-pub record HasSteppedBy (index : AccountIndex) (before after : PlainMarketAccounts) (reply : Reply) (pending : PendingFills) (s : Step) : Type 0 where
-  pub later : AccountIndex
-  pub stepped : HasStepped (market_reached index before) (market_reached later after) reply pending s
+pub record IsReached (index : AccountIndex) (address : Address) (accounts : List PlainAccount) (place : ℕ) : Type 0
+  where
+    pub within : place < length accounts
+    pub found : place_by index address ≡ Some place
+    pub here : (default : PlainAccount) → is_same address (slice_index_or accounts place default).address ≡ true

@@ -9,7 +9,7 @@ ghost use Rattle.dex_history.specs.Journal.{request_of, row_step};
 ghost use Rattle.dex_plan.specs.Given.{market_of};
 ghost use Rattle.dex_plan.specs.Plans.{decided};
 ghost use Rattle.dex_step.specs.Acting.{HasStepped, accounts_with};
-ghost use Rattle.dex_index.specs.Reached.{HasSteppedBy, IsIndexOf, market_reached, reached_by};
+ghost use Rattle.dex_index.specs.Reached.{IsIndexOf};
 
 use crate::index::AccountIndex;
 use crate::indexed_orders::IndexedOrders;
@@ -19,9 +19,8 @@ use dex_ring::PendingFills;
 use dex_step::{StepsOrders, apply_ask};
 use dex_types::{Address, MarketAccounts, OrdersAccount, Reply, Row, Seen};
 
-/// Does what was decided on accounts that are lent one by one, of the open-orders accounts on those to which the index
-/// leads: as many parameters as a market has accounts, since the checker ties no borrow that a record takes from a field
-/// of a record.
+/// Does what was decided on accounts that are lent one by one, whatever holds the open-orders accounts: as many
+/// parameters as a market has accounts, since the checker ties no borrow that a record takes from a field of a record.
 #[inline]
 fn apply_lent<O: StepsOrders>(
     address: Address,
@@ -42,7 +41,8 @@ fn apply_lent<O: StepsOrders>(
     requires sound { AreSound (accounts_with address authority market.old coin_vault.old pc_vault.old requests.old
         events.old bids.old asks.old (O.held orders.old)) }
     requires decided { Ok plan.now ≡ decided (request_of (row_of row.now)) seen.now (market_in (accounts_with address
-        authority market.old coin_vault.old pc_vault.old requests.old events.old bids.old asks.old (O.held orders.old))) }
+        authority market.old coin_vault.old pc_vault.old requests.old events.old bids.old asks.old
+        (O.held orders.old))) }
     requires pending { pending.old ≡ pending_fills_of (market_in (accounts_with address authority market.old
         coin_vault.old pc_vault.old requests.old events.old bids.old asks.old (O.held orders.old))).events }
     ensures stepped { let old = accounts_with address authority market.old coin_vault.old pc_vault.old requests.old
@@ -72,8 +72,9 @@ fn apply_lent<O: StepsOrders>(
     )
 }
 
+/// Does what was decided on accounts that are lent one by one, with an index of all open-orders accounts.
 #[inline]
-fn apply_reached(
+fn apply_apart(
     address: Address,
     authority: Address,
     market: &mut [u8],
@@ -90,18 +91,21 @@ fn apply_reached(
     plan: &Plan,
     pending: &mut PendingFills,
 ) -> Reply
+    requires indexed { IsIndexOf index.now (map orders_account_of orders.old) }
     requires sound { AreSound (accounts_with address authority market.old coin_vault.old pc_vault.old requests.old
-        events.old bids.old asks.old (reached_by index.now (map orders_account_of orders.old))) }
+        events.old bids.old asks.old (map orders_account_of orders.old)) }
     requires decided { Ok plan.now ≡ decided (request_of (row_of row.now)) seen.now (market_in (accounts_with address
-        authority market.old coin_vault.old pc_vault.old requests.old events.old bids.old asks.old (reached_by index.now (map orders_account_of orders.old)))) }
+        authority market.old coin_vault.old pc_vault.old requests.old events.old bids.old asks.old
+        (map orders_account_of orders.old))) }
     requires pending { pending.old ≡ pending_fills_of (market_in (accounts_with address authority market.old
-        coin_vault.old pc_vault.old requests.old events.old bids.old asks.old (reached_by index.now (map orders_account_of orders.old)))).events }
-    ensures { let old = accounts_with address authority market.old coin_vault.old pc_vault.old requests.old events.old
-        bids.old asks.old (map orders_account_of orders.old) in
+        coin_vault.old pc_vault.old requests.old events.old bids.old asks.old
+        (map orders_account_of orders.old))).events }
+    ensures stepped { let old = accounts_with address authority market.old coin_vault.old pc_vault.old requests.old
+        events.old bids.old asks.old (map orders_account_of orders.old) in
         let new = accounts_with address authority market.new coin_vault.new pc_vault.new requests.new events.new
         bids.new asks.new (map orders_account_of orders.new) in
-        HasSteppedBy index.now old new result pending.new
-        (row_step (row_of row.entry.now) seen.entry.now (market_in (market_reached index.now old))) }
+        HasStepped old new result pending.new (row_step (row_of row.entry.now) seen.entry.now (market_in old)) }
+    ensures indexed { IsIndexOf index.now (map orders_account_of orders.new) }
 {
     apply_lent(
         address,
@@ -124,47 +128,6 @@ fn apply_reached(
     )
 }
 
-/// Does what was decided on accounts that are lent one by one, with an index of all open-orders accounts.
-#[inline]
-fn apply_apart(
-    index: &AccountIndex,
-    address: Address,
-    authority: Address,
-    market: &mut [u8],
-    coin_vault: &mut [u8],
-    pc_vault: &mut [u8],
-    requests: &mut [u8],
-    events: &mut [u8],
-    bids: &mut [u8],
-    asks: &mut [u8],
-    orders: &mut [OrdersAccount],
-    row: &Row,
-    seen: &Seen,
-    plan: &Plan,
-    pending: &mut PendingFills,
-) -> Reply
-    requires indexed { IsIndexOf index.now (map orders_account_of orders.old) }
-    requires sound { AreSound (accounts_with address authority market.old coin_vault.old pc_vault.old requests.old
-        events.old bids.old asks.old (map orders_account_of orders.old)) }
-    requires decided { Ok plan.now ≡ decided (request_of (row_of row.now)) seen.now (market_in (accounts_with address
-        authority market.old coin_vault.old pc_vault.old requests.old events.old bids.old asks.old
-        (map orders_account_of orders.old))) }
-    requires pending { pending.old ≡ pending_fills_of (market_in (accounts_with address authority market.old
-        coin_vault.old pc_vault.old requests.old events.old bids.old asks.old
-        (map orders_account_of orders.old))).events }
-    ensures stepped { let old = accounts_with address authority market.old coin_vault.old pc_vault.old requests.old
-        events.old bids.old asks.old (map orders_account_of orders.old) in
-        let new = accounts_with address authority market.new coin_vault.new pc_vault.new requests.new events.new
-        bids.new asks.new (map orders_account_of orders.new) in
-        HasStepped old new result pending.new (row_step (row_of row.entry.now) seen.entry.now (market_in old)) }
-    ensures indexed { IsIndexOf index.now (map orders_account_of orders.new) }
-{
-    apply_reached(
-        address, authority, market, coin_vault, pc_vault, requests, events, bids, asks, orders,
-        index, row, seen, plan, pending,
-    )
-}
-
 /// What `apply` of `dex_step` does, on accounts with an index of the open-orders accounts among them, which is one of
 /// them still.
 pub fn apply(
@@ -184,7 +147,6 @@ pub fn apply(
     ensures indexed { IsIndexOf index.now (market_accounts_of accounts.new).orders }
 {
     apply_apart(
-        index,
         accounts.address,
         accounts.authority,
         &mut accounts.market,
@@ -195,6 +157,7 @@ pub fn apply(
         &mut accounts.bids,
         &mut accounts.asks,
         &mut accounts.orders,
+        index,
         row,
         seen,
         plan,

@@ -14,7 +14,7 @@ use dex_types::{Address, NoMemory, OrdersAccount, is_same};
 use std::alloc::Global;
 use std::collections::HashMap;
 
-/// An index of a market's open-orders accounts: the place of each among them, by its address. It stays right while no
+/// An index of a market's open-orders accounts: for the address of each its place among them. It stays one while no
 /// account gets another address or another place.
 #[derive(Drop)]
 pub struct AccountIndex {
@@ -22,7 +22,7 @@ pub struct AccountIndex {
 }
 
 impl AccountIndex {
-    /// The index of these accounts.
+    /// The index of these accounts, or that there is no memory for it: an entry for each.
     pub fn of(alloc: Global, accounts: &[OrdersAccount]) -> Result<AccountIndex, NoMemory>
         requires { AreDistinct (traders_of (map orders_account_of accounts.now)) }
         ensures { IfOk result (λ index. IsIndexOf index (map orders_account_of accounts.now)) }

@@ -7,7 +7,8 @@ use crate::index::{AccountIndex, find_bytes};
 use dex_lent::ReadMarket;
 use dex_types::{Address, MarketAccounts};
 
-/// A market's accounts for reading, with an index of its open-orders accounts: those to which it leads.
+/// A market's accounts for reading, with an index of its open-orders accounts. Those are the ones to which it leads:
+/// all, where it is the market's own.
 #[derive(Drop)]
 pub struct IndexedMarket<'a> {
     pub accounts: &'a MarketAccounts,
