@@ -78,6 +78,7 @@ async function checkScript(name, script, seed) {
   let [lines, good] = [first, first];
   let parted = 0;
   let report = null;
+  let preparing = null;
   for (let change = 0; change < CHANGES; change += 1) {
     const made = change === 0 ? lines : changed(lines, draw);
     const text = `${made.join('\n')}\n`;
@@ -91,7 +92,9 @@ async function checkScript(name, script, seed) {
     // A fault stands for one change more at most.
     if (wanted.status === 0) good = made;
     lines = wanted.status !== 0 && lines === good && draw(2) === 0 ? made : good;
-    if (draw(5) > 0) await kept.prepare(ask);
+    // What is kept is made at once, or beside the next answer.
+    if (draw(5) > 0) preparing = kept.prepare(async (given) => { await new Promise(setImmediate); return ask(given); });
+    if (draw(2) === 0) await preparing;
   }
   return parted;
 }
