@@ -39,6 +39,8 @@ def parts(told: dict[str, str]) -> Iterator[tuple[str, bytes]]:
     """The files of the wheel: each name with its bytes."""
     for file in sorted((HERE / 'daisyhook').glob('*.py')):
         yield f'daisyhook/{file.name}', file.read_bytes()
+    for file in sorted(file for kind in ('py', 'json') for file in (HERE.parent / 'bridge').glob(f'*.{kind}')):
+        yield f'daisyhook/from_ledger/bridge/{file.name}', file.read_bytes()
     yield 'daisyhook/libdex.so', library().read_bytes()
     about = (f'Metadata-Version: 2.1\nName: {told["name"]}\nVersion: {told["version"]}\nSummary: {told["description"]}\n'
              f'Requires-Python: {told["requires-python"]}\n')

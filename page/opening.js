@@ -21,15 +21,15 @@ function take(texts, one) {
 
 /**
  * Reads texts one after the other and adds them to those that are there; answers them all, and those that have a fault. `tell` takes what is
- * read, and how much of it was read, from 0 to 1.
+ * read, and how much of it was read, from 0 to 1. `before` is a report that was read before, of which much may stand in a text again.
  */
-export async function addTexts(old, given, tell) {
+export async function addTexts(old, given, tell, before = null) {
   const texts = { ...old };
   const { names, others, looked, faulty } = takeLedgerFiles(given, old.accounts === undefined ? [] : old.accounts.read.accounts);
   if (looked !== null) texts.accounts = { name: names, kind: 'accounts', read: looked, fault: null };
   if (looked !== null && looked.dump !== null) others.push({ name: `the accounts of ${names}`, text: looked.dump });
   for (const one of others) {
-    const read = await readGiven(one, (line, part) => tell(`Reading ${one.name}: line ${line}…`, part));
+    const read = await readGiven(one, (line, part) => tell(`Reading ${one.name}: line ${line}…`, part), before);
     if (read.fault === null) take(texts, read);
     else faulty.push(read);
   }

@@ -18,6 +18,8 @@ export const REPLIES = [
 
 /** The place of a take that was held back because the other leg of its swap was refused; its line says `ok done`. */
 export const HELD = 7;
+/** The kind of a reply that says no more than that it was done. */
+export const DONE = REPLIES.findIndex(({ kind }) => kind === 'done');
 const REFUSED = 8;
 
 // What each refusal says, from 1 on; values stand in braces.

@@ -2,20 +2,41 @@
 
 import { readDump } from './dump.js';
 import { checkMoves } from './moves.js';
-import { HELD, readEntry, readMove } from './replies.js';
+import { DONE, HELD, readEntry, readMove } from './replies.js';
 import { pairLegs } from './swaps.js';
 import { breathe, exactNumber, frontOf, isAddress, isNumber, LineFault, linesOfText, wordsOfLine } from './text.js';
 
 // After how many lines the time is looked at.
 const SLICE = 200;
 
+/** Lines of a report behind the head of a journal, and how many of them are those of the report before. */
+class JournalLines {
+  constructor(lines, first, count) {
+    Object.assign(this, { lines, first, count, same: 0 });
+  }
+
+  // The text of the lines from a number to another, from 0.
+  between(from, to) { return this.lines.between(this.first + from, this.first + to); }
+
+  /** Takes what was noted of lines that stand at the front of a journal of another report too. */
+  takeFront(old) {
+    let [low, high] = [0, Math.min(this.count, old.count)];
+    while (low < high) {
+      const middle = (low + high + 1) >> 1;
+      if (this.between(low, middle) === old.between(low, middle)) low = middle;
+      else high = middle - 1;
+    }
+    this.same = low;
+    this.takeNotes(old, low);
+  }
+}
+
 /** The journal of a market: where its entries stand, and what filters go by. `named` has the first line that names each wallet. */
-class MarketJournal {
-  constructor(lines, named, first, count) {
-    this.lines = lines;
+class MarketJournal extends JournalLines {
+  constructor(lines, named, ...place) {
+    super(lines, ...place);
+    const { count } = this;
     this.named = named;
-    this.first = first;
-    this.count = count;
     // The rows' numbers, each as it stands.
     this.rows = [];
     this.lanes = new Uint8Array(count);
@@ -24,8 +45,11 @@ class MarketJournal {
     this.kinds = new Uint8Array(count);
     this.refusals = new Uint8Array(count);
     this.ofOrder = new Map();
-    // The numbers of the entries in which something was filled, and what they come to.
+    // The first entry that names each wallet.
+    this.names = new Map();
+    // The numbers of the entries in which something was filled, what was, and what they come to.
     this.trades = [];
+    this.fills = [];
     this.volume = { lots: 0n, pc: 0n, fees: 0n };
     this.refused = 0;
   }
@@ -39,13 +63,34 @@ class MarketJournal {
     this.refusals[at] = entry.refusal;
     if (entry.refusal > 0) this.refused += 1;
     if (entry.values.id !== undefined) this.ofOrder.set(entry.values.id, at);
-    if (entry.values.lots > 0n) {
-      this.trades.push(at);
-      this.volume.lots += entry.values.lots;
-      this.volume.pc += entry.values.pc;
-      this.volume.fees += entry.values.fee;
-    }
-    for (const { wallet } of entry.moves) if (!this.named.has(wallet)) this.named.set(wallet, this.first + at);
+    if (entry.values.lots > 0n) this.noteFill(at, entry.values);
+    for (const { wallet } of entry.moves) if (!this.names.has(wallet)) this.noteName(wallet, at);
+  }
+
+  // Notes what was filled.
+  noteFill(at, { lots, pc, fee }) {
+    this.trades.push(at);
+    this.fills.push({ lots, pc, fee });
+    this.volume.lots += lots;
+    this.volume.pc += pc;
+    this.volume.fees += fee;
+  }
+
+  // Notes the first entry that names a wallet.
+  noteName(wallet, at) {
+    this.names.set(wallet, at);
+    if (!this.named.has(wallet)) this.named.set(wallet, this.first + at);
+  }
+
+  /** Notes what another journal noted of its first entries. What became of a swap's legs is found anew. */
+  takeNotes(old, same) {
+    this.rows = old.rows.slice(0, same);
+    for (const name of ['lanes', 'moves', 'kinds', 'refusals']) this[name].set(old[name].subarray(0, same));
+    this.kinds.forEach((kind, at) => { if (kind === HELD) this.kinds[at] = DONE; });
+    this.refused = this.refusals.reduce((sum, number) => sum + Number(number > 0), 0);
+    for (const [id, at] of old.ofOrder) if (at < same) this.ofOrder.set(id, at);
+    for (let trade = 0; old.trades[trade] < same; trade += 1) this.noteFill(old.trades[trade], old.fills[trade]);
+    for (const [wallet, at] of old.names) if (at < same) this.noteName(wallet, at);
   }
 
   /** The lanes that have entries. */
@@ -61,20 +106,28 @@ class MarketJournal {
   }
 }
 
-/** The journal of a wallet: where its movements stand, and their rows. */
-class WalletJournal {
-  constructor(lines, first, count) {
-    this.lines = lines;
-    this.first = first;
-    this.count = count;
+/** The journal of a wallet: where its movements stand, their rows, and of each the market's number, the entry's, and the wallet's in that. */
+class WalletJournal extends JournalLines {
+  constructor(...place) {
+    super(...place);
+    const { count } = this;
     this.rows = [];
     this.isProbe = new Uint8Array(count);
+    this.markets = new Uint16Array(count);
+    this.entries = new Uint32Array(count);
+    this.numbers = new Uint8Array(count);
   }
 
   /** Notes what the movement of a number, from 0, says. */
   note(at, move) {
     this.rows[at] = move.row;
     this.isProbe[at] = Number(move.kind === 'probe');
+  }
+
+  /** Notes what another journal noted of its first movements. */
+  takeNotes(old, same) {
+    this.rows = old.rows.slice(0, same);
+    for (const name of ['isProbe', 'markets', 'entries', 'numbers']) this[name].set(old[name].subarray(0, same));
   }
 
   /** The movement of a number, from 0. */
@@ -90,7 +143,7 @@ const FORMS = {
 // Reads a journal's lines behind its head, in slices.
 async function readJournal(journal, told, word, read, tell) {
   const { lines, first, count } = journal;
-  for (let at = 0; at < count; at += 1) {
+  for (let at = journal.same; at < count; at += 1) {
     const text = lines.at(first + at);
     const entry = read(text);
     if (entry === null) {
@@ -110,13 +163,14 @@ function headOf(text) {
 }
 
 // Reads all journals of one kind from a line on; answers the line behind them.
-async function readJournals(lines, next, { kind, word, read, make, into }, tell) {
+async function readJournals(lines, next, { kind, word, read, make, into, old }, tell) {
   for (;;) {
     const head = headOf(lines.at(next));
     if (head.kind !== kind) return next;
     if (into.has(head.address)) throw new LineFault(next, `The journal of ${kind} ${head.address} stands above already.`);
     // A text cut short is told before room is made for lines that are not there.
     const journal = make(next + 1, Math.min(head.count, lines.count + 1 - next));
+    if (old.has(head.address)) journal.takeFront(old.get(head.address));
     await readJournal(journal, head.count, word, read, tell);
     into.set(head.address, journal);
     next += 1 + head.count;
@@ -145,14 +199,28 @@ function checkAccounts(report, line) {
   }
 }
 
+// The journals of the report before, where it has the same markets; else none.
+function journalsBefore(lines, before) {
+  const markets = before === null ? [] : [...before.markets.keys()];
+  let next = 2;
+  for (const market of markets) {
+    const head = headOf(lines.at(next));
+    if (head.kind !== 'market' || head.address !== market) return { markets: new Map(), wallets: new Map() };
+    next += 1 + head.count;
+  }
+  return before === null || headOf(lines.at(next)).kind === 'market' ? { markets: new Map(), wallets: new Map() } : before;
+}
+
 // Reads a report behind its first line.
-async function readReportLines(lines, rows, tell) {
+async function readReportLines(lines, rows, tell, before) {
   const report = { kind: 'report', lines, rows, markets: new Map(), wallets: new Map(), named: new Map() };
   const ofMarket = (...place) => new MarketJournal(lines, report.named, ...place);
   const ofWallet = (...place) => new WalletJournal(lines, ...place);
-  let next = 2;
-  next = await readJournals(lines, next, { kind: 'market', word: 'entry', read: readEntry, into: report.markets, make: ofMarket }, tell);
-  next = await readJournals(lines, next, { kind: 'wallet', word: 'move', read: readMove, into: report.wallets, make: ofWallet }, tell);
+  const old = journalsBefore(lines, before);
+  const ofMarkets = { kind: 'market', word: 'entry', read: readEntry, into: report.markets, make: ofMarket, old: old.markets };
+  const ofWallets = { kind: 'wallet', word: 'move', read: readMove, into: report.wallets, make: ofWallet, old: old.wallets };
+  let next = await readJournals(lines, 2, ofMarkets, tell);
+  next = await readJournals(lines, next, ofWallets, tell);
   if (lines.at(next) !== 'dump') {
     throw new LineFault(next, `The head of a journal or dump is wanted; here stands ${frontOf(lines.at(next))}.`);
   }
@@ -166,14 +234,14 @@ async function readReportLines(lines, rows, tell) {
 }
 
 // Reads the lines of a report or of a dump alone.
-async function readLines(lines, tell) {
+async function readLines(lines, tell, before) {
   const head = wordsOfLine(lines.at(1));
   let read;
   if (lines.at(1) === 'dump') {
     const { exchange, next } = await readDump(lines, 1, tell);
     read = { report: { kind: 'dump', lines, rows: 0, markets: new Map(), wallets: new Map(), swaps: new Map(), exchange }, next };
   } else if (head.length === 2 && head[0] === 'report' && isNumber(head[1])) {
-    read = await readReportLines(lines, exactNumber(head[1]), tell);
+    read = await readReportLines(lines, exactNumber(head[1]), tell, before);
   } else {
     throw new LineFault(1, `A report begins with report and a number of rows, a dump with dump; here stands ${frontOf(lines.at(1))}.`);
   }
@@ -184,11 +252,14 @@ async function readLines(lines, tell) {
   return read.report;
 }
 
-/** Reads a text as a report or as a dump alone; throws what is wrong with it, at its line. */
-export async function readText(text, tell = () => {}) {
+/**
+ * Reads a text as a report or as a dump alone; throws what is wrong with it, at its line. Lines at the front of journals that are those of a
+ * report that was read before are not read again.
+ */
+export async function readText(text, tell = () => {}, before = null) {
   const lines = await linesOfText(text.startsWith('\ufeff') ? text.slice(1) : text, tell);
   try {
-    return await readLines(lines, tell);
+    return await readLines(lines, tell, before);
   } catch (fault) {
     const isCut = fault instanceof LineFault && fault.line >= lines.count && !lines.isEnded;
     if (isCut) fault.message += ' The text does not end with a line feed, so it may be cut short.';

@@ -1,9 +1,7 @@
 // Swaps: two takes of one row on two markets, which act both or not at all. A report has an entry of the row in the journal of each.
 
-import { HELD, REPLIES } from './replies.js';
+import { DONE, HELD } from './replies.js';
 import { LineFault } from './text.js';
-
-const DONE = REPLIES.findIndex(({ kind }) => kind === 'done');
 
 // The rows that have an entry in more than one place.
 function rowsMetAgain(markets) {

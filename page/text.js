@@ -80,6 +80,9 @@ export class Lines {
     return line.endsWith('\r') ? line.slice(0, -1) : line;
   }
 
+  /** The text from a line on up to another one, by their numbers. */
+  between(from, to) { return this.text.slice(this.starts[from - 1], to <= this.starts.length ? this.starts[to - 1] : this.text.length); }
+
   /** The number of the line that holds a place of the text. */
   numberOf(place) {
     let low = 0;

@@ -22,8 +22,8 @@ export function kindOfText(text) {
 }
 
 // Reads a text of a kind.
-async function readKind(kind, text, tell) {
-  if (kind === 'report' || kind === 'dump') return readText(text, tell);
+async function readKind(kind, text, tell, before) {
+  if (kind === 'report' || kind === 'dump') return readText(text, tell, before);
   if (kind === 'script') return readScript(text, tell);
   const lines = await linesOfText(text, tell);
   if (kind === 'worth') return readWorth(lines);
@@ -31,12 +31,15 @@ async function readKind(kind, text, tell) {
   throw new LineFault(1, `A report begins with report and a number of rows, a dump with dump; here stands ${frontOf(lines.at(1))}.`);
 }
 
-/** Reads a text; answers its kind with what was read, or with its fault. What `tell` throws to stop the reading is thrown. */
-export async function readGiven({ name, text }, tell) {
+/**
+ * Reads a text; answers its kind with what was read, or with its fault. What `tell` throws to stop the reading is thrown. `before` is a report
+ * that was read before, of which much may stand in this text too.
+ */
+export async function readGiven({ name, text }, tell, before = null) {
   const own = text.startsWith('\ufeff') ? text.slice(1) : text;
   const kind = kindOfText(own);
   try {
-    return { name, kind: kind || 'unknown', read: await readKind(kind, own, tell), fault: null };
+    return { name, kind: kind || 'unknown', read: await readKind(kind, own, tell, before), fault: null };
   } catch (fault) {
     if (fault instanceof Stopped) throw fault;
     return { name, kind: kind || 'unknown', read: null, fault };

@@ -13,6 +13,7 @@ import { grouped } from '../page/units.js';
 import { answerTo, faultOf, textsFor, lossWords } from './answering.js';
 import { COMMANDS, numberOfWord } from './commands.js';
 import { Deeds } from './deeds.js';
+import { Kept } from './kept.js';
 import { Working } from './working.js';
 
 // The views that show answers of each kind first.
@@ -37,6 +38,7 @@ export class AnswerPane {
     this.round = 0;
     this.last = null;
     this.left = {};
+    this.kept = new Kept();
     this.words = new Map();
     this.commandHolder = element('span', { class: 'command' });
     this.numbers = element('span', { class: 'numbers' });
@@ -101,10 +103,12 @@ export class AnswerPane {
       return;
     }
     this.working.begin(`${command.name} runs`);
-    const answer = await answerTo(this.runner, command, numbers, source).catch((fault) => ({ fault: String(fault) }));
+    const answer = await answerTo(this.runner, command, numbers, source, this.kept).catch((fault) => ({ fault: String(fault) }));
     if (round !== this.round || answer.isStopped) return;
     await this.show(command, answer, source, round);
-    if (round === this.round) this.working.end();
+    if (round !== this.round) return;
+    this.working.end();
+    if (command.name === 'replay') this.kept.prepare((bytes) => this.runner.call({ call: command.call, numbers, bytes }));
   }
 
   // What numbers are wanted.
@@ -151,7 +155,8 @@ export class AnswerPane {
       if (round !== this.round) throw new Stopped();
       this.working.tell(line);
     };
-    const opened = await addTexts({}, texts, tell).catch((fault) => {
+    const before = frame.shown !== null && frame.shown.report.kind === 'report' ? frame.shown.report : null;
+    const opened = await addTexts({}, texts, tell, before).catch((fault) => {
       if (fault instanceof Stopped) return null;
       throw fault;
     });
@@ -200,8 +205,8 @@ export class AnswerPane {
   }
 
   // What was answered, in a line.
-  toldText({ name }, { status, text, milliseconds, isOfScript }) {
-    const of = isOfScript ? ' of the accounts that the script leaves' : '';
+  toldText({ name }, { status, text, milliseconds, isOfScript, isJoined }) {
+    const of = isOfScript ? ' of the accounts that the script leaves' : isJoined ? ' of the rows from a changed one on, joined' : '';
     return `${name}${of}: status ${status}, ${counted(text.length, 'byte')}, ${timeText(milliseconds)}`;
   }
 
@@ -214,9 +219,21 @@ export class AnswerPane {
     if (frame.shown === null) frame.main.dataset.view = 'fault';
   }
 
-  // Saves the answer as a file.
-  save() {
-    const { command, answer } = this.last;
+  // The whole answer to a script that was replayed in two parts; null where something else came before it.
+  async wholeOf({ bytes }) {
+    const { round } = this;
+    this.working.begin('replay runs');
+    const answer = await this.runner.call({ call: 'dex_replay', numbers: [], bytes });
+    if (round !== this.round) return null;
+    this.working.end();
+    return answer.text === undefined ? null : answer;
+  }
+
+  // Saves the answer as a file; of one in two parts the whole, as the module answers it.
+  async save() {
+    const { command, answer: shown } = this.last;
+    const answer = shown.isJoined ? await this.wholeOf(shown) : shown;
+    if (answer === null) return;
     const kind = answer.status === 0 ? command.gives : 'answer';
     const ending = { report: 'report', dump: 'dump', script: 'csv' }[kind] || 'txt';
     keepAsFile(answer.text, `${(this.pane.source.name || 'script').replace(/\.[a-z]*$/, '')}.${ending}`);

@@ -17,12 +17,21 @@ async function dumpBefore(runner, bytes) {
   return { before, isEnd: before.fault !== undefined || before.isStopped === true || before.status !== 0 };
 }
 
-/** Calls a command on a source. The answer has `input`, the name of what the command was handed: script, dump, or nothing. */
-export async function answerTo(runner, command, numbers, source) {
+// The whole answer of a command that is handed a script; a replay's in two parts, where its front is kept.
+function answerToScript(runner, command, numbers, source, kept) {
+  const call = (bytes) => runner.call({ call: command.call, numbers, bytes });
+  return command.name === 'replay' && kept !== null ? kept.answer(call, source.text, source.bytes) : call(source.bytes);
+}
+
+/**
+ * Calls a command on a source. The answer has `input`, the name of what the command was handed: script, dump, or nothing. `kept` has fronts of
+ * the script; null: the whole is asked for.
+ */
+export async function answerTo(runner, command, numbers, source, kept = null) {
   if (command.reads === null) return { ...await runner.call({ call: command.call, numbers, bytes: null }), input: null };
   const { bytes } = source;
   if (command.reads === 'script' || source.isDump) {
-    return { ...await runner.call({ call: command.call, numbers, bytes }), input: command.reads, bytes };
+    return { ...await answerToScript(runner, command, numbers, source, kept), input: command.reads, bytes };
   }
   const { before, isEnd } = await dumpBefore(runner, bytes);
   if (isEnd) return { ...before, input: 'script', bytes };

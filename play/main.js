@@ -14,7 +14,7 @@ import { SourcePane } from './source_pane.js';
 // What is proved of what the page shows, and what is not.
 const PROVED = 'What answers here is the proved static library’s own module, compiled a second time, for browsers: what its functions promise is proved. '
   + 'Not proved are that compiling, the lowering to 32-bit memory, the functions for memory and 128-bit numbers under it (shims), the browser, and '
-  + 'this page with its views. The commands run and batch need threads and are the program’s alone. Nothing leaves this computer. '
+  + 'this page with its views; of a long script it joins two reports. The commands run and batch need threads and are the program’s alone. Nothing leaves this computer. '
   + 'Daisyhook may be used under the Apache License 2.0 (Apache-2.0), without warranty.';
 
 // The bytes of a text in base64.

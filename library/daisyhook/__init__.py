@@ -23,10 +23,12 @@ The module keeps nothing between calls, so threads may call it at once; they run
 from . import data, flow, rows
 from .accounts import Market as DumpedMarket
 from .accounts import Accounts, Depth, Event, Level, Mint, OpenOrders, Order, Wallet
-from .commands import Exchange, accounts, audit, bulk, chained, dump, make, migrate, replay, shards, worth
+from .commands import accounts, audit, bulk, chained, dump, make, migrate, replay, shards, worth
 from .desk import Desk
 from .entries import Cancelled, Consumed, Done, Entry, Move, Ordered, Refused, Reply, Settled, Swept, Took, WalletEntry
-from .errors import AuditFailed, DeskGone, DexError, DumpRefused, Finding, InputTooLong, MigrateRefused, OutOfLimits, OutOfMemory, ScriptRefused
+from .errors import AccountsRefused, AuditFailed, DeskGone, DexError, DumpRefused, Finding, Flaw, InputTooLong, MigrateRefused, NotSound, OutOfLimits
+from .errors import OutOfMemory, ScriptRefused
+from .exchange import Exchange
 from .limits import STANDARD, WIDE, Limits
 from .market import Market
 from .parts import Shards
@@ -44,4 +46,5 @@ __all__ = [
     'Accounts', 'DumpedMarket', 'Market', 'Mint', 'Wallet', 'Order', 'Event', 'OpenOrders', 'Depth', 'Level',
     'Summary', 'MarketSummary', 'Worth', 'Worths', 'Shards',
     'DexError', 'DeskGone', 'ScriptRefused', 'DumpRefused', 'AuditFailed', 'MigrateRefused', 'InputTooLong', 'OutOfLimits', 'OutOfMemory', 'Finding',
+    'AccountsRefused', 'NotSound', 'Flaw',
 ]

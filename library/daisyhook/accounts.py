@@ -10,13 +10,13 @@ import csv
 import io
 import struct
 from base64 import b64decode
-from collections.abc import Iterator
+from collections.abc import Iterable, Iterator
 from dataclasses import dataclass
 from functools import cached_property
 
+from .addresses import address_at, address_of
 from .tables import PLACES, SIZES
 
-LABEL = frozenset(b'abcdefghijklmnopqrstuvwxyz0123456789_')
 LOW = 2**64 - 1
 MARKET, ORDERS, QUEUE, EVENT = (PLACES[name] for name in ('market', 'open_orders', 'event_queue', 'event'))
 SLAB, INNER, LEAF, WALLET, MINT = (PLACES[name] for name in ('slab', 'inner_node', 'leaf_node', 'token_account', 'mint'))
@@ -30,20 +30,6 @@ BID = 4
 def number_at(data: bytes, place: int, length: int = 8) -> int:
     """The number in some bytes from a place on."""
     return int.from_bytes(data[place:place + length], 'little')
-
-
-def address_at(data: bytes, place: int) -> str:
-    """The address from a place on: its label where it has one, else `0x` and its digits."""
-    word = data[place:place + 32]
-    label = word.rstrip(b'\0')
-    if 1 <= len(label) <= 24 and LABEL.issuperset(label):
-        return label.decode()
-    return '0x' + word.hex()
-
-
-def address_of(word: str) -> str:
-    """The address of a word of a dump: its label where it has one, also where the word is `0x` and its digits."""
-    return address_at(bytes.fromhex(word[2:]), 0) if len(word) == 66 else word
 
 
 def rows_of(dump: bytes) -> Iterator[list[str]]:
@@ -149,15 +135,25 @@ class Wallet:
     amount: int
 
 
-def mint_of(fields: list[str]) -> Mint:
+Field = str | bytes | bytearray | memoryview
+
+
+def decoded(field: Field, most: int | None = None) -> bytes:
+    """The bytes of an account, or so many of them from its front: of its text in base64, or as they are."""
+    if not isinstance(field, str):
+        return bytes(field if most is None else field[:most])
+    return b64decode(field) if most is None else b64decode(field[:-(-most // 3) * 4])[:most]
+
+
+def mint_of(fields: list[Field]) -> Mint:
     """What a mint's row says."""
-    data = b64decode(fields[1])
+    data = decoded(fields[1])
     return Mint(address_of(fields[0]), number_at(data, MINT['supply']), data[MINT['decimals']])
 
 
-def wallet_of(fields: list[str]) -> Wallet:
+def wallet_of(fields: list[Field]) -> Wallet:
     """What a wallet's row says."""
-    data = b64decode(fields[1])
+    data = decoded(fields[1])
     mint, owner = (address_at(data, WALLET[name]) for name in ('mint', 'owner'))
     return Wallet(address_of(fields[0]), mint, owner, number_at(data, WALLET['amount']))
 
@@ -212,10 +208,10 @@ def events_of(data: bytes) -> tuple[Event, ...]:
     return tuple(event_at(data, front + size * ((head + place) % capacity)) for place in range(count))
 
 
-def levels_of(side: bytes, is_bid: bool) -> tuple[Level, ...]:
-    """The levels of a side, best first, from its account in base64. Only nodes that were ever used are read."""
-    used = number_at(b64decode(side[:64]), SLAB['bump_index'])
-    nodes = b64decode(side[:-(-(FIRST_NODE + used * NODE.size) // 3) * 4])[FIRST_NODE:FIRST_NODE + used * NODE.size]
+def levels_of(side: Field, is_bid: bool) -> tuple[Level, ...]:
+    """The levels of a side, best first, from its account. Only nodes that were ever used are read."""
+    used = number_at(decoded(side, FIRST_NODE), SLAB['bump_index'])
+    nodes = decoded(side, FIRST_NODE + used * NODE.size)[FIRST_NODE:]
     lots_at: dict[int, int] = {}
     orders_at: dict[int, int] = {}
     for tag, _, price, lots in NODE.iter_unpack(nodes):
@@ -231,11 +227,11 @@ class Market:
     Its journal, of a report alone, is the entries of all rows on it in their order.
     """
 
-    def __init__(self, address: str, authority: str, fields: list[str]) -> None:
+    def __init__(self, address: str, authority: str, fields: list[Field]) -> None:
         self.address = address
         self.authority = authority
         self._fields = fields
-        self._orders: list[tuple[str, str]] = []
+        self._orders: list[tuple[str, Field]] = []
         self._lines: list[str] = []
 
     def __repr__(self) -> str:
@@ -244,7 +240,7 @@ class Market:
     @cached_property
     def data(self) -> bytes:
         """The bytes of the market's own account."""
-        return b64decode(self._fields[0])
+        return decoded(self._fields[0])
 
     @cached_property
     def coin_mint(self) -> str:
@@ -279,12 +275,12 @@ class Market:
     @cached_property
     def coin_vault(self) -> int:
         """What the vault of base holds, native."""
-        return number_at(b64decode(self._fields[1]), WALLET['amount'])
+        return number_at(decoded(self._fields[1]), WALLET['amount'])
 
     @cached_property
     def pc_vault(self) -> int:
         """What the vault of quote holds, native."""
-        return number_at(b64decode(self._fields[2]), WALLET['amount'])
+        return number_at(decoded(self._fields[2]), WALLET['amount'])
 
     @cached_property
     def is_disabled(self) -> bool:
@@ -294,17 +290,17 @@ class Market:
     @cached_property
     def events(self) -> tuple[Event, ...]:
         """The pending events, the first to be consumed first."""
-        return events_of(b64decode(self._fields[4]))
+        return events_of(decoded(self._fields[4]))
 
     @cached_property
     def bids(self) -> tuple[Order, ...]:
         """The resting bids, best first."""
-        return side_of(b64decode(self._fields[5]), True)
+        return side_of(decoded(self._fields[5]), True)
 
     @cached_property
     def asks(self) -> tuple[Order, ...]:
         """The resting asks, best first."""
-        return side_of(b64decode(self._fields[6]), False)
+        return side_of(decoded(self._fields[6]), False)
 
     @cached_property
     def depth(self) -> Depth:
@@ -314,7 +310,15 @@ class Market:
     @cached_property
     def open_orders(self) -> dict[str, OpenOrders]:
         """The open-orders accounts by their addresses."""
-        return {address: orders_of(address, b64decode(data)) for address, data in self._orders}
+        return {address: orders_of(address, decoded(data)) for address, data in self._orders}
+
+
+def rows_by_kind(rows: Iterable[list[Field]]) -> dict[str, list[list[Field]]]:
+    """The rows of a dump by their kinds, each from its address on."""
+    found: dict[str, list[list[Field]]] = {kind: [] for kind in ('dump', 'mint', 'srm', 'msrm', 'wallet', 'market', 'orders', 'enddump')}
+    for kind, *fields in rows:
+        found[kind].append(fields)
+    return found
 
 
 class Accounts:
@@ -325,12 +329,9 @@ class Accounts:
         self.text = dump
 
     @cached_property
-    def _rows(self) -> dict[str, list[list[str]]]:
+    def _rows(self) -> dict[str, list[list[Field]]]:
         """The rows by their kinds, each from its address on."""
-        found: dict[str, list[list[str]]] = {kind: [] for kind in ('dump', 'mint', 'srm', 'msrm', 'wallet', 'market', 'orders', 'enddump')}
-        for kind, *fields in rows_of(self.text):
-            found[kind].append(fields)
-        return found
+        return rows_by_kind(rows_of(self.text))
 
     @cached_property
     def mints(self) -> dict[str, Mint]:

@@ -2,8 +2,6 @@
 
 from __future__ import annotations
 
-import re
-from functools import cached_property
 from operator import index
 
 from .accounts import Accounts
@@ -16,11 +14,6 @@ from .summary import Summary, summary_of
 from .worth import Worths
 
 Text = bytes | bytearray | memoryview | str
-
-# The rows that a dump does not keep. In a script that was taken no field has a line end, so a line is a row.
-PROGRAM = re.compile(rb'(?:\xef\xbb\xbf)?"?program"?,"?(serum|openbook)"?(?:\r\n?|\n|\Z)')
-CLOCK = re.compile(rb'^(?:\xef\xbb\xbf)?"?clock"?,"?([0-9]+)"?\r?$', re.MULTILINE)
-END_OF_DUMP = re.compile(rb'^"?enddump"?(?:\r\n?|\n|\Z)', re.MULTILINE)
 
 
 def bytes_of(text: Text, limits: Limits = STANDARD) -> bytes:
@@ -120,55 +113,3 @@ def accounts(dump: Text, limits: Limits = STANDARD) -> Accounts:
     told = bytes_of(dump, limits)
     done(*told_of('audit', text=told, limits=limits))
     return Accounts(told)
-
-
-class Exchange:
-    """All accounts of an exchange at some moment, from which further rows may act: a simulation step by step.
-
-    An exchange never changes: `step` gives the next one, so one may be kept and gone on from twice. `report` is that of the rows that
-    led here. Each step reads the accounts anew from their dump and audits them, which costs time by the accounts' size and not by the
-    steps before; docs/LIBRARY.md has figures.
-
-    >>> start = Exchange(script)
-    >>> next = start.step('do,0,m,ann,amy,ann_coin,-,-,-,new ask 50 4 1 decrement limit 7 10')
-    >>> next.report.markets['m'].journal[0].reply.lots_resting
-    4
-    """
-
-    def __init__(self, script: Text, limits: Limits = STANDARD) -> None:
-        self.limits = limits
-        self._script = bytes_of(script, limits)
-        self.report = replay(self._script, limits)
-
-    @property
-    def dump(self) -> bytes:
-        """The accounts, as a dump."""
-        return self.report.dump
-
-    @cached_property
-    def _front(self) -> bytes:
-        """The `program` and `clock` rows that the rows so far end with. A dump has neither."""
-        end = END_OF_DUMP.search(self._script) if self._script.lstrip(b'\xef\xbb\xbf"').startswith(b'dump') else None
-        rows = self._script[end.end():] if end else self._script
-        program, clocks = PROGRAM.match(rows), CLOCK.findall(rows.replace(b'\r\n', b'\n').replace(b'\r', b'\n'))
-        return (b'program,%s\n' % program[1] if program else b'') + (b'clock,%s\n' % clocks[-1] if clocks else b'')
-
-    def step(self, rows: Text) -> Exchange:
-        """The exchange when further instruction rows have acted.
-
-        The rows are those of a script behind a dump: `do`, `ix`, `swap` and `clock`. The program and the clock go on as they are; a `program`
-        row at the front of the rows changes the program. Rows count from the dump's first row on, so the first row here has the number
-        `first_row`. Raises ScriptRefused; then this exchange is as it was.
-        """
-        given, front = bytes_of(rows, self.limits), self._front
-        changed = PROGRAM.match(given)
-        if changed:
-            kept = PROGRAM.match(front)
-            front = changed[0].rstrip(b'\r\n') + b'\n' + front[kept.end() if kept else 0:]
-            given = given[changed.end():]
-        return Exchange(self.dump + front + given, self.limits)
-
-    @property
-    def first_row(self) -> int:
-        """The number that reports give the first row of the next step: behind the dump, the `program` row and the `clock` row."""
-        return self.dump.count(b'\n') + self._front.count(b'\n') + 1

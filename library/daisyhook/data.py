@@ -3,6 +3,7 @@
 
 from __future__ import annotations
 
+import re
 import struct
 from base64 import b64decode
 
@@ -10,6 +11,9 @@ from .rows import MOST_16, ORDER_TYPES, SELF_TRADES, SIDES, number
 from .rows import take_data as take_text
 
 MATCH, CONSUME, SETTLE, DISABLE, SWEEP, NEW, CANCEL, CANCEL_CLIENT, TAKE, CLOSE, INIT, PRUNE, CANCEL_CLIENTS = 2, 3, 5, 7, 8, 10, 11, 12, 13, 14, 15, 16, 18
+NUMBER = re.compile('0|[1-9][0-9]*')
+WORD = ' (0|[1-9][0-9]{0,19})'
+NEW_WORDS = re.compile(f'new (bid|ask){WORD * 3} (decrement|cancel|abort) (limit|ioc|post){WORD * 2}(?:{WORD})?')
 ORDER, LATEST = struct.Struct('<BIIQQQIIQH'), struct.Struct('<q')
 SELF_TRADE_NUMBERS, ORDER_TYPE_NUMBERS = ({word: at for at, word in enumerate(words)} for words in (SELF_TRADES, ORDER_TYPES))
 
@@ -95,17 +99,44 @@ def disable() -> bytes:
 # Of each verb of a row that is numbers behind words: its tag, and how many bytes each number has.
 NUMBERED = {
     'init': (INIT,), 'close': (CLOSE,), 'settle': (SETTLE,), 'sweep': (SWEEP,), 'disable': (DISABLE,), 'consume': (CONSUME, 2),
-    'prune': (PRUNE, 2), 'match': (MATCH, 2), 'new': (NEW, 4, 8, 8, 8, 4, 4, 8, 2, 8), 'take': (TAKE, 4, 8, 8, 8, 8, 8, 2),
+    'prune': (PRUNE, 2), 'match': (MATCH, 2), 'take': (TAKE, 4, 8, 8, 8, 8, 8, 2),
     'cancel': (CANCEL, 4, 16), 'cancelc': (CANCEL_CLIENT, 8), 'cancels': (CANCEL_CLIENTS, *[8] * 8),
 }
 
 
+def word_number(word: str, length: int) -> tuple[int, int]:
+    """The number of a word, with how many bytes it has. ValueError where the word is none."""
+    if not NUMBER.fullmatch(word):
+        raise ValueError(f'{word!r} is no number')
+    return int(word), length
+
+
+def new_of_words(text: str) -> bytes:
+    """The data of the words of an order. ValueError where they have no such form."""
+    found = NEW_WORDS.fullmatch(text)
+    if found is None:
+        raise ValueError(f'{text!r} has not the form of an order')
+    side, price, lots, pc, self_trade, order_type, client, limit, latest = found.groups()
+    try:
+        made = ORDER.pack(0, NEW, SIDES[side], int(price), int(lots), int(pc), SELF_TRADE_NUMBERS[self_trade],
+                          ORDER_TYPE_NUMBERS[order_type], int(client), int(limit))
+        return made if latest is None else made + LATEST.pack(int(latest))
+    except struct.error as error:
+        raise ValueError(f'a number has no place in its field: {error}') from None
+
+
 def of_words(text: str) -> bytes:
-    """The data of the words of a `do` row, such as `new ask 50 4 1 decrement limit 7 10`."""
+    """The data of the words of a `do` row, such as `new ask 50 4 1 decrement limit 7 10`. ValueError where they have
+    no such form."""
     verb, *words = text.split(' ')
-    tag, *lengths = NUMBERED[verb]
-    named = dict(SIDES) if verb in ('new', 'take', 'cancel') else {}
-    values = [named[word] if at == 0 and word in named else word for at, word in enumerate(words)]
     if verb == 'new':
-        values[4], values[5] = SELF_TRADES.index(words[4]), ORDER_TYPES.index(words[5])
-    return data_of(tag, *((int(value), length) for value, length in zip(values, lengths)))
+        return new_of_words(text)
+    if verb not in NUMBERED:
+        raise ValueError(f'{verb!r} is no instruction')
+    tag, *lengths = NUMBERED[verb]
+    least = 1 if verb == 'cancels' else len(lengths)
+    if not least <= len(words) <= len(lengths):
+        raise ValueError(f'{text!r} has {len(words)} words behind the first, and {least} to {len(lengths)} are wanted')
+    front = [(numbered(SIDES, words[0], 'side'), lengths[0])] if verb in ('take', 'cancel') else []
+    numbers = [word_number(word, length) for word, length in zip(words[len(front):], lengths[len(front):])]
+    return data_of(tag, *front, *numbers)

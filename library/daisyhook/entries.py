@@ -81,6 +81,7 @@ class Refused(Reply):
 REPLIES: dict[str, type[Reply]] = {
     'order': Ordered, 'take': Took, 'cancelled': Cancelled, 'consumed': Consumed, 'settled': Settled, 'swept': Swept, 'done': Done,
 }
+WORDS = {reply: word for word, reply in REPLIES.items()}
 FIELDS = {'order': 6, 'take': 3, 'cancelled': 1, 'consumed': 1, 'settled': 3, 'swept': 1, 'done': 0}
 
 ADDRESSES = frozenset(('owner', 'authority', 'mint', 'account'))
@@ -146,7 +147,25 @@ def entry_of(line: str) -> Entry:
     return Entry(int(words[1]), int(words[2]), reply, moves)
 
 
+def words_of(reply: Reply) -> list[str]:
+    """The words of a reply, as an entry has them."""
+    if isinstance(reply, Refused):
+        return ['refused', str(reply.number), reply.name, *map(str, reply.values.values())]
+    return ['ok', WORDS[type(reply)], *(str(getattr(reply, name)) for name in reply.__dataclass_fields__)]
+
+
+def line_of(entry: Entry) -> str:
+    """An entry's line in a market's journal."""
+    moves = [word for move in entry.moves for word in (move.wallet, move.kind, str(move.amount), str(move.before))]
+    return ' '.join(['entry', str(entry.lane), str(entry.row), *words_of(entry.reply), *moves])
+
+
 def wallet_entry_of(line: str) -> WalletEntry:
     """The entry that a line of a wallet's journal tells."""
     _, market, lane, row, kind, amount, before = line.split(' ')
     return WalletEntry(market, int(lane), int(row), kind, int(amount), int(before))
+
+
+def wallet_line_of(entry: WalletEntry) -> str:
+    """An entry's line in a wallet's journal."""
+    return f'move {entry.market} {entry.lane} {entry.row} {entry.kind} {entry.amount} {entry.before}'

@@ -39,8 +39,9 @@ class OutOfMemory(DexError, MemoryError):
 class ScriptRefused(DexError, ValueError):
     """A row of the script is at fault: the first such row, counted from 1, and the lowest of its faults.
 
-    `kind` is the fault's number, from 1 to 10, and `name` its name, such as `UnknownLabel` or `BadSwap`; `code` is the setup code where
-    `kind` is 9, and else None. Kind 11, `NoBatch`, is of the program's command `batch`, which refuses swaps.
+    `kind` is the fault's number, from 1 to 10, and `name` its name, such as `UnknownLabel` or `BadSwap`; `code` is
+    the setup code where `kind` is 9, and else None. Kind 11, `NoBatch`, is of the program's command `batch`, which
+    refuses swaps.
     """
 
     def __init__(self, text: str) -> None:
@@ -78,7 +79,8 @@ class DumpRefused(DexError, ValueError):
 
 @dataclass(frozen=True, slots=True)
 class Finding:
-    """A place where accounts of a dump disagree: the kind's number, the account, a place in it, what was found, what is wanted."""
+    """A place where accounts of a dump disagree: the kind's number, the account, a place in it, what was found, what
+    is wanted."""
 
     kind: int
     account: str
@@ -109,8 +111,8 @@ class AuditFailed(DexError, ValueError):
 
 
 class MigrateRefused(DexError, ValueError):
-    """Accounts do not fit the sizes to migrate to: the first market, `what` of it (`bids`, `asks` or `events`), how many
-    nodes or events are needed, and how many were given."""
+    """Accounts do not fit the sizes to migrate to: the first market, `what` of it (`bids`, `asks` or `events`), how
+    many nodes or events are needed, and how many were given."""
 
     def __init__(self, text: str) -> None:
         super().__init__(8, text)
@@ -122,8 +124,44 @@ class MigrateRefused(DexError, ValueError):
         return f'MigrateRefused(market={self.market!r}, what={self.what!r}, needed={self.needed}, given={self.given})'
 
 
+class AccountsRefused(DexError, ValueError):
+    """Account JSON that is not taken: `text` says where, what is wrong with it, and what to do."""
+
+    def __init__(self, text: str) -> None:
+        super().__init__(2, text)
+
+    def __reduce__(self) -> tuple[type[AccountsRefused], tuple[str]]:
+        return AccountsRefused, (self.text,)
+
+
+@dataclass(frozen=True, slots=True)
+class Flaw:
+    """What is wrong with the accounts of a market. `what` is `fault`, where an account is not one of its kind
+    (`kind` as of a dump's faults), `finding`, where accounts disagree (`kind` as of an audit), or `twice`, where two
+    have the address `account`."""
+
+    what: str
+    kind: int
+    account: str
+    place: int
+    found: int
+    wanted: int
+
+
+class NotSound(DexError, ValueError):
+    """Accounts that are not those of a sound market, so that nothing was done: `flaw` is the first that is wrong."""
+
+    def __init__(self, flaw: Flaw) -> None:
+        super().__init__(3, f'{flaw.what} {flaw.kind} {flaw.account} {flaw.place} {flaw.found} {flaw.wanted}')
+        self.flaw = flaw
+
+    def __reduce__(self) -> tuple[type[NotSound], tuple[Flaw]]:
+        return NotSound, (self.flaw,)
+
+
 class DeskGone(DexError):
-    """There is no session any more: the program was not found or could not be started, it ended or was killed, or it did not answer in time.
+    """There is no session any more: the program was not found or could not be started, it ended or was killed, or it
+    did not answer in time.
 
     `status` is its exit status, below 0 the signal that ended it, and None where it was never started.
     """

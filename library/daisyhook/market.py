@@ -3,23 +3,30 @@
 from __future__ import annotations
 
 import ctypes
+import os
 import struct
-from base64 import b64decode, b64encode
-from collections.abc import Iterable, Iterator
+from collections.abc import Iterable, Iterator, Mapping
 
+from . import rows
 from .accounts import INNER, LEAF, SLAB, WALLET, Depth, Event, Level, OpenOrders, Order
-from .accounts import address_at, address_of, events_of, number_at, orders_of, rows_of, side_of
-from .commands import Text, accounts, bytes_of
+from .accounts import events_of, number_at, orders_of, side_of
+from .addresses import address_at, address_bytes, address_word
+from .commands import Text, accounts
+from .commands import dump as dump_of
 from .entries import Cancelled, Consumed, Done, Ordered, Refused, Reply, Settled, Swept, Took
+from .errors import DexError, Flaw, NotSound
+from .errors import refusal_of as failure_of
+from .held import PARTS, Held
+from .ledger import read_market
+from .limits import STANDARD, WIDE, Limits
 from .native import library
 from .tables import REFUSAL_VALUES, SIZES
 
-# The structs of library/dex.h: dex_market, dex_wallets, dex_instruction, dex_reply.
+# The structs of library/dex.h: dex_market, dex_wallets, dex_instruction, dex_reply, dex_flaw.
 MARKET, WALLETS = struct.Struct('<32s32s20Q'), struct.Struct('<' + '32sQQ' * 4)
 INSTRUCTION, REPLY = struct.Struct('<32s512s2Qq8B32s32s'), struct.Struct('<4B2I4x8Q2q6Q32s')
-ACCOUNT = SIZES['open_orders']
-RECORD = 32 + ACCOUNT
-PARTS = 'market', 'coin_vault', 'pc_vault', 'requests', 'events', 'bids', 'asks'
+FLAW, FLAWS = struct.Struct('<2B2xI4Q32s'), ('sound', 'fault', 'twice', 'finding')
+PROGRAMS = 'serum', 'openbook'
 NONE, NOBODY, MOST_NAMED = 255, bytes(32), 16
 # How many combinations of names are kept.
 KEPT = 4096
@@ -29,11 +36,6 @@ REASONS = {
     16: 'OrderNotYours', 17: 'ClientIdZero', 18: 'ClientIdNotFound', 19: 'WouldSelfTrade', 20: 'BelowMinimum', 21: 'EventQueueFull',
     22: 'InsufficientFunds', 23: 'BalanceTooLarge', 24: 'SumTooLarge',
 }
-
-
-def address_bytes(word: str) -> bytes:
-    """The 32 bytes of an address word."""
-    return bytes.fromhex(word[2:]) if len(word) == 66 else word.encode().ljust(32, b'\0')
 
 
 def refusal_of(told: tuple) -> Refused:
@@ -67,13 +69,19 @@ def reply_of(told: tuple) -> Reply:
     return Swept(told[7]) if kind == 6 else Done()
 
 
+def flaw_of(told: tuple) -> Flaw:
+    """The flaw that the numbers of a `dex_flaw` are."""
+    what, kind, place, *found, account = told
+    return Flaw(FLAWS[what], kind, address_at(account, 0), place, found[0] | found[1] << 64, found[2] | found[3] << 64)
+
+
 class Market:
     """One market's accounts and the wallets that its traders use, as bytes in memory. An instruction acts on them in
     place.
 
     >>> market = Market(daisyhook.dump(script))
-    >>> market.process('ann', data.new_order(side='ask', price=50, lots=4, client=7), named=('amy',), coin='ann_coin').lots_resting
-    4
+    >>> market.process('ann', data.new_order(side='ask', price=50, lots=4, client=7), named=('amy',),
+    coin='ann_coin').lots_resting 4
     >>> market.depth(5).asks[0].price
     50
 
@@ -83,26 +91,95 @@ class Market:
     """
 
     def __init__(self, dump: Text, address: str | None = None, *, program: str = 'serum', clock: int = 0,
-                 wallets: dict[str, bytearray] | None = None) -> None:
+                 wallets: dict[str, bytearray] | None = None, limits: Limits = STANDARD) -> None:
         """Takes the accounts of a market from a dump, which is audited first; `address` may be left out where it has
         one market. Markets of one dump whose traders have wallets in common share them: `wallets` are those of the
-        first.
-        An audit takes at most 64 open-orders accounts a market.
+        first. `limits` are those of the audit.
 
         Raises DumpRefused, or AuditFailed where there are findings.
         """
-        held = bytes_of(dump)
-        checked = accounts(held)._rows
-        self.address, fields = market_row(checked, address)
-        self.authority = address_of(fields[1])
-        self.clock, self._dump = clock, held
-        self._program = ('serum', 'openbook').index(program)
-        self.parts = {name: bytearray(b64decode(text)) for name, text in zip(PARTS, fields[2:])}
-        rows = [(address_of(row[1]), b64decode(row[2])) for row in checked['orders'] if address_of(row[0]) == self.address]
-        self.orders = bytearray(b''.join(address_bytes(word) + data for word, data in rows))
-        self._places = {word: place for place, (word, _) in enumerate(rows)}
-        self.wallets = wallets if wallets is not None else {address_of(word): bytearray(b64decode(data)) for word, data, *_ in checked['wallet']}
-        self._mints = [address_bytes(address_of(checked[name][0][0])) if checked[name] else None for name in ('srm', 'msrm')]
+        self._take(Held(accounts(dump, limits)), address, program, clock, wallets)
+
+    @classmethod
+    def over(cls, held: Held, address: str, *, program: str = 'serum', clock: int = 0) -> Market:
+        """The market of accounts that are in memory already, and sound: it acts on just these."""
+        made = cls.__new__(cls)
+        made._take(held, address, program, clock, None)
+        return made
+
+    @classmethod
+    def new(cls, address: str = 'm', *, coin: str = 'coin', pc: str = 'pc', authority: str = 'admin', coin_lot: int = 1,
+            pc_lot: int = 1, nodes: int = 909, events: int = 2978, accounts: Iterable[str] = (),
+            wallets: Mapping[str, tuple[str, str, int]] | None = None, decimals: Mapping[str, int] | None = None,
+            srm: str | None = None, msrm: str | None = None, program: str = 'serum', clock: int = 0,
+            limits: Limits = STANDARD) -> Market:
+        """A market with an empty book, as a script's rows make it.
+
+        `coin` and `pc` are its mints, `coin_lot` and `pc_lot` native units of a lot; each side has so many nodes (an
+        order and most further ones take two), the queue room for so many events. `accounts` are blank open-orders
+        accounts, `wallets` token accounts by address, each with its mint, its owner and its native amount. Mints
+        have 6 `decimals`, MSRM 0, where none are named.
+
+        Raises ValueError where a word or a number has no place, ScriptRefused where they do not go together.
+
+        >>> market = Market.new(coin_lot=100, pc_lot=10, accounts=['amy'], wallets={'ann_coin': ('coin', 'ann', 1000)})
+        """
+        held = wallets or {}
+        mints = dict.fromkeys([coin, pc, *filter(None, (srm, msrm)), *(mint for mint, _, _ in held.values())])
+        script = [rows.mint(mint, (decimals or {}).get(mint, 0 if mint == msrm else 6)) for mint in mints]
+        script += [f'{name},{rows.address(word)}\n' for name, word in (('srm', srm), ('msrm', msrm)) if word]
+        script += [rows.wallet(word, mint, owner, amount) for word, (mint, owner, amount) in held.items()]
+        script.append(rows.market(address, coin, pc, authority, coin_lot=coin_lot, pc_lot=pc_lot, nodes=nodes,
+                                  events=events))
+        script += [rows.orders(address, account) for account in accounts]
+        return cls(dump_of(''.join(script), limits), program=program, clock=clock, limits=limits)
+
+    @classmethod
+    def from_accounts(cls, *files: str | os.PathLike[str], authority: str, market: str | None = None,
+                      srm: str | None = None, msrm: str | None = None, program: str | None = None, clock: int = 0,
+                      leave_out_wallets: bool = False, limits: Limits = WIDE) -> Market:
+        """The market of a ledger's accounts: files of JSON, or folders of such, in the forms that `./ledger dump`
+        reads (docs/LEDGER.md).
+
+        `market` may be left out where they have one; `authority` signs for it and stands in no account; `srm` and
+        `msrm` are mints. `program` is `serum`, `openbook` or the address of another deployment, which follows the
+        rules of `serum`; else the market's owner tells it. `notes` of the market are the lines that `ledger dump`
+        tells. Addresses are in base58, as digits, or labels.
+
+        Raises AccountsRefused where the JSON is not taken, DumpRefused or AuditFailed where the accounts are not
+        those of a sound market.
+        """
+        told = read_market(files, market, authority, srm, msrm, program, leave_out_wallets)
+        made = cls(told.dump, told.address, program=told.program, clock=clock, limits=limits)
+        made.notes = told.notes
+        return made
+
+    def copy(self) -> Market:
+        """The same market and wallets in memory of their own, to try something."""
+        held = self._held_now().copy([self.address], self.wallets)
+        made = Market.over(held, self.address, program=PROGRAMS[self._program], clock=self.clock)
+        made.notes = self.notes
+        return made
+
+    def _held_now(self) -> Held:
+        """All accounts as they are, of which this market acts on its own and on its wallets."""
+        held = self._held.copy((), ())
+        held.wallets = self.wallets
+        return held
+
+    def _take(self, held: Held, address: str | None, program: str, clock: int,
+              wallets: dict[str, bytearray] | None) -> None:
+        """Takes the market of these accounts. KeyError where there is none, or no address and several."""
+        is_alone = address is None and len(held.markets) == 1
+        word = next(iter(held.markets)) if is_alone else address and address_word(address)
+        self._held, self._one = held, held.markets[word]
+        one = self._one
+        self.address, self.authority = one.address, one.authority
+        self.parts, self.orders, self._places = one.parts, one.orders, one.places
+        self.wallets = held.wallets if wallets is None else wallets
+        self.clock, self._program = clock, PROGRAMS.index(program)
+        self.notes: tuple[str, ...] = ()
+        self._mints = [word and address_bytes(word) for word in (held.srm, held.msrm)]
         self._lend()
 
     def __repr__(self) -> str:
@@ -120,7 +197,8 @@ class Market:
         held = [self.parts[name] for name in PARTS] + [self.orders]
         spots = (word for part in held for word in (self._place(part or self._nothing), len(part)))
         self._market = bytearray(MARKET.pack(address_bytes(self.address), address_bytes(self.authority), *spots, 0, 0, 0, 0))
-        self._instruction, self._reply, self._data = bytearray(INSTRUCTION.size), bytearray(REPLY.size), bytearray(256)
+        sizes = INSTRUCTION.size, REPLY.size, 256, FLAW.size
+        self._instruction, self._reply, self._data, self._flaw = map(bytearray, sizes)
         self._pointers = [self._place(it) for it in (self._market, self._instruction, self._reply, self._data)]
         self._roles: dict[tuple, tuple] = {}
         self._names: dict[tuple, tuple] = {}
@@ -132,18 +210,20 @@ class Market:
 
     def _roles_of(self, roles: tuple[str | None, ...]) -> tuple:
         """The struct of the wallets that are named under four roles, where it is, and which of them each role names."""
-        named = list(dict.fromkeys(word for word in roles if word is not None))
+        words = [word and address_word(word) for word in roles]
+        named = list(dict.fromkeys(word for word in words if word is not None))
         spots = [(address_bytes(word), self._place(self.wallets[word]), len(self.wallets[word])) for word in named]
         spots += [(NOBODY, self._place(self._nothing), 0)] * (4 - len(named))
         made = bytearray(WALLETS.pack(*(field for spot in spots for field in spot)))
-        numbers = tuple(NONE if word is None else named.index(word) for word in roles)
+        numbers = tuple(NONE if word is None else named.index(word) for word in words)
         if len(self._roles) == KEPT:
             self._roles.clear()
         self._roles[roles] = found = (made, ctypes.addressof(ctypes.c_char.from_buffer(made)), numbers)
         return found
 
     def _named(self, words: tuple[str, ...]) -> tuple:
-        """The addresses of open-orders accounts one after another, and how many. ValueError where they are more than 16."""
+        """The addresses of open-orders accounts one after another, and how many. ValueError where they are more than
+        16."""
         if len(words) > MOST_NAMED:
             raise ValueError(f'{len(words)} accounts are named, and {MOST_NAMED} at most is wanted')
         if len(self._names) == KEPT:
@@ -164,7 +244,42 @@ class Market:
         `signer` signs it, `named` are the open-orders accounts that it names, in their order, and the roles are
         wallets. `data` is what it says (module `data`). KeyError where a role names no wallet of this market's dump.
         """
-        roles, words, size = (coin, pc, discount, referrer), tuple(named), len(data)
+        pointers = self._laid_out(signer, data, tuple(named), (coin, pc, discount, referrer))
+        self._act(*pointers)
+        return reply_of(REPLY.unpack_from(self._reply))
+
+    def process_checked(self, signer: str, data: bytes, *, named: Iterable[str] = (), coin: str | None = None,
+                        pc: str | None = None, discount: str | None = None, referrer: str | None = None) -> Reply:
+        """The same for bytes that somebody may have changed: the market and the wallets that are named are checked
+        before, which takes time by their sizes.
+
+        Raises NotSound, with what is wrong, and OutOfMemory; then nothing was changed.
+        """
+        market, wallets, instruction, reply = self._laid_out(signer, data, tuple(named), (coin, pc, discount, referrer))
+        status = library().dex_process_checked(market, wallets, instruction, self._place(self._flaw), reply)
+        if status != 0:
+            raise self._refused(status)
+        return reply_of(REPLY.unpack_from(self._reply))
+
+    def check(self) -> Flaw | None:
+        """What is wrong with the market's bytes, the first of it; None where they are those of a sound market.
+        Wallets are not looked at.
+
+        Raises OutOfMemory.
+        """
+        status = library().dex_market_check(self._pointers[0], self._place(self._flaw))
+        if status not in (0, 3):
+            raise self._refused(status)
+        return flaw_of(FLAW.unpack_from(self._flaw)) if status else None
+
+    def _refused(self, status: int) -> DexError:
+        """Why a checked call did nothing."""
+        return NotSound(flaw_of(FLAW.unpack_from(self._flaw))) if status == 3 else failure_of(status, b'')
+
+    def _laid_out(self, signer: str, data: bytes, words: tuple[str, ...],
+                  roles: tuple[str | None, ...]) -> tuple[int, int, int, int]:
+        """Lays out an instruction: where the market, its wallets, the instruction itself and its reply are."""
+        size = len(data)
         _, wallets, numbers = self._roles.get(roles) or self._roles_of(roles)
         names, count = self._names.get(words) or self._named(words)
         if size > len(self._data):
@@ -174,8 +289,7 @@ class Market:
         market, instruction, reply, place = self._pointers
         INSTRUCTION.pack_into(self._instruction, 0, self._addresses.get(signer) or self._signer(signer), names, place, size, self.clock,
                               count, *numbers, *self._end)
-        self._act(market, wallets, instruction, reply)
-        return reply_of(REPLY.unpack_from(self._reply))
+        return market, wallets, instruction, reply
 
     def depth(self, levels: int) -> Depth:
         """So many of the best levels of both sides."""
@@ -198,42 +312,18 @@ class Market:
 
     def open_orders(self, address: str) -> OpenOrders:
         """An open-orders account of the market. KeyError where there is none of this address."""
-        base = RECORD * self._places[address] + 32
-        return orders_of(address, bytes(self.orders[base:base + ACCOUNT]))
+        word = address_word(address)
+        return orders_of(word, bytes(self._one.account(word)))
 
     def amount(self, wallet: str) -> int:
         """The native amount in a wallet. KeyError where there is none of this address."""
-        return number_at(self.wallets[wallet], WALLET['amount'])
+        return number_at(self.wallets[address_word(wallet)], WALLET['amount'])
 
     def dump(self) -> bytes:
-        """The dump that the market was made from, with its accounts and its wallets as they are now. Other markets of the dump stand in it as
-        they were: where they acted on the same wallets, an audit of it finds their mints off."""
-        return '\n'.join(','.join(self._as_now(row)) for row in rows_of(self._dump)).encode() + b'\n'
-
-    def _as_now(self, row: list[str]) -> list[str]:
-        """A row of the dump with what its account is now."""
-        if row[0] == 'wallet':
-            return [*row[:2], text_of(self.wallets[address_of(row[1])])]
-        if row[0] == 'market' and address_of(row[1]) == self.address:
-            return [*row[:3], *(text_of(self.parts[name]) for name in PARTS)]
-        if row[0] == 'orders' and address_of(row[1]) == self.address:
-            base = RECORD * self._places[address_of(row[2])] + 32
-            return [*row[:3], text_of(self.orders[base:base + ACCOUNT])]
-        return row
-
-
-def text_of(data: bytes | bytearray) -> str:
-    """Bytes in base64."""
-    return b64encode(data).decode()
-
-
-def market_row(rows: dict[str, list[list[str]]], address: str | None) -> tuple[str, list[str]]:
-    """The address and the row of the market of this address, or of the one that there is. KeyError where there is
-    none."""
-    found = {address_of(row[0]): row for row in rows['market']}
-    if address is None and len(found) == 1:
-        return next(iter(found.items()))
-    return address or '', found[address or '']
+        """The dump that the market was made from, with its accounts and its wallets as they are now. Other markets
+        of the dump stand in it as they were: where they acted on the same wallets, an audit of it finds their mints
+        off."""
+        return self._held_now().dump()
 
 
 def orders_along(side: bytearray, is_bid: bool) -> Iterator[tuple[int, int]]:

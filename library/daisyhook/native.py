@@ -23,7 +23,10 @@ FRONTS = {
 FRONTS.update({f'{name}_wide': front for name, front in list(FRONTS.items()) if front is not MADE})
 PLACE = ctypes.c_void_p
 # The functions over a market's accounts: what they take, and what they give.
-IN_PLACE = {'dex_pending': ((PLACE,), None), 'dex_process': ((PLACE,) * 4, ctypes.c_uint8)}
+IN_PLACE = {
+    'dex_pending': ((PLACE,), None), 'dex_process': ((PLACE,) * 4, ctypes.c_uint8),
+    'dex_market_check': ((PLACE,) * 2, ctypes.c_uint8), 'dex_process_checked': ((PLACE,) * 5, ctypes.c_uint8),
+}
 ROOM = (ctypes.POINTER(ctypes.c_char), SIZE, ctypes.POINTER(SIZE))
 
 # What a first room has beside five times the input: enough for the accounts of a small script.

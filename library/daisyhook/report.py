@@ -68,13 +68,14 @@ class Report:
     @cached_property
     def markets(self) -> dict[str, Market]:
         """The markets by their addresses, in the script's order."""
-        found = {}
-        for address, plain in self.accounts.markets.items():
-            market = Market(address, plain.authority, plain._fields)
-            market._orders = plain._orders
-            market._lines = self._journals['market', address]
-            found[address] = market
-        return found
+        return {address: self._market_of(plain) for address, plain in self.accounts.markets.items()}
+
+    def _market_of(self, plain: accounts.Market) -> Market:
+        """A market with its journal."""
+        market = Market(plain.address, plain.authority, plain._fields)
+        market._orders = plain._orders
+        market._lines = self._journals['market', plain.address]
+        return market
 
     @cached_property
     def swaps(self) -> dict[int, Swap]:
@@ -86,8 +87,9 @@ class Report:
     @cached_property
     def wallets(self) -> dict[str, Wallet]:
         """The wallets by their addresses, in the script's order."""
-        found = {}
-        for address, plain in self.accounts.wallets.items():
-            journal = tuple(map(wallet_entry_of, self._journals['wallet', address]))
-            found[address] = Wallet(address, plain.mint, plain.owner, plain.amount, journal)
-        return found
+        return {address: Wallet(address, plain.mint, plain.owner, plain.amount, self._moves_of(address))
+                for address, plain in self.accounts.wallets.items()}
+
+    def _moves_of(self, wallet: str) -> tuple[WalletEntry, ...]:
+        """A wallet's journal."""
+        return tuple(map(wallet_entry_of, self._journals['wallet', wallet]))

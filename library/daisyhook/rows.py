@@ -156,7 +156,7 @@ def market(name: str, coin: str, pc: str, authority: str, *, coin_lot: int, pc_l
     ones take two), and the queue room for so many events."""
     fields = (0, 1), (0, 4), (coin_lot, 8), (pc_lot, 8), (0, 2), (0, 8), (1, 8)
     words = map(address, (name, coin, pc, authority))
-    sizes = str(number(nodes, 'nodes', 1, 16_384)), str(number(nodes, 'nodes', 1, 16_384)), str(number(events, 'events', 1, MOST_16))
+    sizes = str(number(nodes, 'nodes', 1, 65_536)), str(number(nodes, 'nodes', 1, 65_536)), str(number(events, 'events', 1, MOST_16))
     return ','.join(('market', *words, *sizes, data_of(fields))) + '\n'
 
 

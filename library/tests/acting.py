@@ -14,9 +14,9 @@ from pathlib import Path
 from counting import end, root, same
 import daisyhook
 from daisyhook import data, rows
-from daisyhook.accounts import address_of, rows_of
+from daisyhook.accounts import rows_of
+from daisyhook.addresses import address_bytes, address_of
 from daisyhook.entries import reply_of
-from daisyhook.market import address_bytes
 from base64 import b64decode
 
 folder = Path(sys.argv[2]) if len(sys.argv) > 2 else None

@@ -138,8 +138,8 @@ module _ (row : PlainRow) (seen : Seen) (m : Market) (t : Transfers) (cell : Cel
   abbrev before : ℕ
   before = balance_seen seen address
 
-  abbrev is_hit : Bool
-  is_hit = any_hit address (roles_of seen)
+  abbrev is_seen : Bool
+  is_seen = any_hit address (roles_of seen)
 
   -- it is seen, and moved
   record IsMoved : Type 0 where
@@ -147,7 +147,7 @@ module _ (row : PlainRow) (seen : Seen) (m : Market) (t : Transfers) (cell : Cel
     amount : ℕ
     is : move ≡ record { wallet = address; kind = kind; amount = amount; before = before }
     other : is_probe kind ≡ false
-    hit : is_hit ≡ true
+    hit : is_seen ≡ true
     paid : cell_paid row seen t cell ≡ cell_moved row kind amount cell
 
   -- or it is not moved
@@ -156,9 +156,9 @@ module _ (row : PlainRow) (seen : Seen) (m : Market) (t : Transfers) (cell : Cel
     paid : cell_paid row seen t cell ≡ cell
 
   -- a wallet that is moved is seen
-  hit-by : (amount : ℕ) → 0 < amount → (is_hit ≡ false → amount ≡ 0) → is_hit ≡ true
+  hit-by : (amount : ℕ) → 0 < amount → (is_seen ≡ false → amount ≡ 0) → is_seen ≡ true
   hit-by amount some nothing =
-      ⊎_elim (λ (hit : is_hit ≡ true). hit) (λ (none : is_hit ≡ false). absurd (omega (arith, some, nothing none))) (cases_Bool is_hit)
+      ⊎_elim (λ (hit : is_seen ≡ true). hit) (λ (none : is_seen ≡ false). absurd (omega (arith, some, nothing none))) (cases_Bool is_seen)
 
   moved-or-still : IsMoved ⊎ IsStill
   moved-or-still =
@@ -215,21 +215,21 @@ module _ (row : PlainRow) (seen : Seen) (m : Market) (t : Transfers) (cell : Cel
   pub room-paid : HasRoomFor row (front (places (movements seen t))) (cell_paid row seen t cell)
   room-paid = probed.room
 
-  acted-whole : cell_acted row seen t cell ≡ by_move move is_hit
+  acted-whole : cell_acted row seen t cell ≡ by_move move is_seen
   acted-whole =
       probed.is
       ∙ ⊎_elim
       (λ (moved : IsMoved).
       let kind : is_probe move.kind ≡ false = ap (λ (x : Movement). is_probe x.kind) moved.is ∙ moved.other in
       ap (cell_looked row seen t) moved.paid
-      ∙ cond-false (is_hit && is_probe move.kind) _ _ (and_right is_hit (is_probe move.kind) kind)
+      ∙ cond-false (is_seen && is_probe move.kind) _ _ (and_right is_seen (is_probe move.kind) kind)
       ∙ sym (ap (by_move move) moved.hit ∙ ap (λ (x : Movement). by_move x true) moved.is))
       (λ (still : IsStill).
       let kind : is_probe move.kind ≡ true = ap (λ (x : Movement). is_probe x.kind) still.is in
       ap (cell_looked row seen t) still.paid
-      ∙ ap (λ (b : Bool). cond (is_hit && b) (cell_moved row Probe 0 cell) cell) kind
-      ∙ and-some is_hit
-      ∙ sym (ap (λ (x : Movement). by_move x is_hit) still.is))
+      ∙ ap (λ (b : Bool). cond (is_seen && b) (cell_moved row Probe 0 cell) cell) kind
+      ∙ and-some is_seen
+      ∙ sym (ap (λ (x : Movement). by_move x is_seen) still.is))
       moved-or-still
     where
       and-some : (a : Bool) → cond (a && true) (cell_moved row Probe 0 cell) cell ≡ cond a (cell_moved row Probe 0 cell) cell

@@ -24,7 +24,7 @@ use Rattle.dex_world.specs.World.{WalletState, World, seen_by}
 use Rattle.dex_world.proofs.FarLaws.{seen-far}
 use Rattle.dex_world.proofs.MappedLists.{map-map}
 use Rattle.dex_act.specs.declared.places.WalletPlaces.{WalletPlaces}
-use Rattle.dex_act.specs.declared.sight.Terms.{Terms}
+use Rattle.dex_act.specs.Steps.{Terms}
 use Rattle.dex_act.specs.Acted.{HaveActed}
 use Rattle.dex_act.specs.Steps.{CanStep, world_in_hand}
 use Rattle.dex_act.specs.Wallets.{ArePlacesAmong, IsRoleAt, made_of, wallet_state_of}
@@ -63,7 +63,7 @@ module _ (before after : List CellState) (made : map made_of after ≡ map made_
     here = λ default. ap (is_same address) (same-at address_in before after same-addresses place default at.within).1 ∙ at.here default;
   }
 
-  pub places-still : (row : PlainRow) (places : WalletPlaces) → ArePlacesAmong before row places → ArePlacesAmong after row places
+  places-still : (row : PlainRow) (places : WalletPlaces) → ArePlacesAmong before row places → ArePlacesAmong after row places
   places-still row places at = record {
     coin = role-still row.coin places.coin at.coin;
     pc = role-still row.pc places.pc at.pc;

@@ -1,4 +1,5 @@
 pub mod CellLists
+pub mod InHand
 pub mod WalletMoves
 pub mod Probing
 pub mod Seeing

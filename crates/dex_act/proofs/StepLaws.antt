@@ -20,7 +20,7 @@ use Rattle.dex_world.specs.Items.{idle_row}
 use Rattle.dex_world.specs.World.{MarketState, seen_by}
 use Rattle.dex_world.proofs.ItemLaws.{idle-step, not-refused}
 use Rattle.dex_act.specs.declared.places.WalletPlaces.{WalletPlaces}
-use Rattle.dex_act.specs.declared.sight.Terms.{Terms}
+use Rattle.dex_act.specs.Steps.{Terms}
 use Rattle.dex_act.specs.Opened.{market_state_of}
 use Rattle.dex_act.specs.Steps.{CanStep, IsTakeOrRefused, made_by, world_in_hand}
 use Rattle.dex_act.specs.Wallets.{CanActAt, Fits, SeesCells, roles_of}

@@ -14,7 +14,7 @@ use Rattle.dex_world.specs.Fold.{market_acted, names}
 use Rattle.dex_world.specs.Items.{ShareNothing, doing}
 use Rattle.dex_world.specs.World.{World, seen_by}
 use Rattle.dex_act.specs.declared.places.WalletPlaces.{WalletPlaces}
-use Rattle.dex_act.specs.declared.sight.Terms.{Terms}
+pub use Rattle.dex_process.specs.declared.processing.Terms.{Terms}
 use Rattle.dex_act.specs.declared.steps.Legs.{Legs}
 use Rattle.dex_act.specs.declared.steps.RowDone.{RowDone}
 use Rattle.dex_act.specs.Acted.{HaveActed}

@@ -1,13 +1,13 @@
 -- What a row does to the cells of wallets.
 use Rattle.std.specs.Prelude.{◌&&◌, ◌≡◌, ℕ, zero, suc, ◌+◌, ◌<◌, ◌≤◌, ◌^◌, ◌⊎◌, Bool, true, false, ◌||◌}
 use Rattle.std.specs.Prelude.{List, [], ◌∷◌, Option, Some, None, if◌then◌else◌, slice_index_or, length, map}
-use Rattle.std.specs.List.{All}
+use Rattle.std.specs.List.{All, position}
 use Rattle.dex_types.specs.declared.addresses.Address.{Address}
 use Rattle.dex_types.specs.declared.movements.MoveKind.{MoveKind}
 use Rattle.dex_types.specs.declared.movements.MoveKind.TheVariants.{Debit, Credit, Probe}
 use Rattle.dex_types.specs.declared.movements.Movement.{Movement}
 use Rattle.dex_types.specs.declared.rows.Row.{Row}
-use Rattle.dex_world.specs.declared.places.RowPlaces.{RowPlaces}
+use Rattle.dex_world.specs.declared.places.RowWallets.{RowWallets}
 use Rattle.dex_types.specs.declared.rows.Seen.{Seen}
 use Rattle.dex_types.specs.declared.rows.WalletSeen.{WalletSeen}
 use Rattle.dex_types.specs.Addresses.{is_same}
@@ -23,6 +23,7 @@ use Rattle.dex_cell.specs.CellState as market_cell
 use Rattle.dex_cell.specs.CellState.{IsFor, IsMarketCell, MarketCellState, step_on}
 use Rattle.dex_cell.specs.Paying.{parcel_of}
 use Rattle.dex_world.specs.Fold.{wallet_acted}
+use Rattle.dex_world.specs.Places.{place_at}
 use Rattle.dex_world.specs.World.{WalletState}
 use Rattle.dex_act.specs.declared.places.WalletPlaces.{WalletPlaces}
 
@@ -50,6 +51,10 @@ AreApart (cell ∷ cells) = (is_among cell.address cells ≡ false) × AreApart 
 pub record IsAt (address : Address) (cells : List CellState) (place : ℕ) : Type 0 where
   pub within : place < length cells
   pub here : (default : CellState) → is_same address (slice_index_or cells place default).address ≡ true
+
+-- the place of the first cell of an address
+abbrev pub cell_place : Address → List CellState → Option ℕ
+cell_place address cells = position (is_same address) (map (λ (cell : CellState). cell.address) cells)
 
 -- the wallet that a role names is among the cells
 abbrev pub IsNamed : List CellState → Option Address → Type 0
@@ -79,13 +84,22 @@ AreSeenAt cells seen places =
     AreAt cells (address_seen seen.coin) (address_seen seen.pc) (address_seen seen.discount)
     (address_seen seen.referrer) places
 
--- those among the places of a row
-abbrev pub wallet_places : RowPlaces → WalletPlaces
-wallet_places places = record {
-  coin = places.coin;
-  pc = places.pc;
-  discount = places.discount;
-  referrer = places.referrer;
+-- where a row's wallets stand among the cells of all wallets
+abbrev pub wallet_places : RowWallets → WalletPlaces
+wallet_places wallets = record {
+  coin = place_at wallets wallets.coin;
+  pc = place_at wallets wallets.pc;
+  discount = place_at wallets wallets.discount;
+  referrer = place_at wallets wallets.referrer;
+}
+
+-- and where among the cells of these wallets alone, in their order
+abbrev pub hand_places : RowWallets → WalletPlaces
+hand_places wallets = record {
+  coin = wallets.coin;
+  pc = wallets.pc;
+  discount = wallets.discount;
+  referrer = wallets.referrer;
 }
 
 -- what holds of the cell at a place

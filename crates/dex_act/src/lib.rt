@@ -10,6 +10,6 @@ mod steps;
 mod wallets;
 
 pub use as_row::{AsRow, PlacedRow};
-pub use places::{WalletPlaces, places_in};
-pub use sight::Terms;
+pub use dex_process::Terms;
+pub use places::WalletPlaces;
 pub use steps::{Legs, RowAt, RowDone, step, step_two};

@@ -1,15 +1,10 @@
 //! Where the wallets of a row stand.
 
-ghost use Rattle.std.specs.Prelude.{◌≡◌, true};
-ghost use Rattle.std.specs.List.{All};
-ghost use Rattle.dex_types.specs.declared.addresses.Address.{Address as AddressOf};
-ghost use Rattle.dex_types.specs.Rows.{row_of};
-ghost use Rattle.dex_types.specs.Wallets.{row_wallets};
-ghost use Rattle.dex_act.specs.Wallets.{ArePlacesAmong, IsAt, IsNamed, IsRoleAt, is_among, wallet_places};
+ghost use Rattle.std.specs.Prelude.{◌≡◌};
+ghost use Rattle.dex_act.specs.Wallets.{hand_places, wallet_places};
 
-use dex_types::{Address, Row, Seen, is_same};
-use dex_wallet::WalletCell;
-use dex_world::RowPlaces;
+use dex_types::{Row, Seen};
+use dex_world::RowWallets;
 
 /// Where the wallets that a row names stand among cells. The place of a role that names no wallet says nothing.
 #[derive(Clone, Copy, Debug, PartialEq, Eq)]
@@ -21,15 +16,27 @@ pub struct WalletPlaces {
 }
 
 impl WalletPlaces {
-    /// Those among the places of a row.
-    pub fn of(places: &RowPlaces) -> WalletPlaces
-        ensures { result ≡ wallet_places places.now }
+    /// Those among the cells of all wallets with which a script starts.
+    pub fn of(wallets: &RowWallets) -> WalletPlaces
+        ensures { result ≡ wallet_places wallets.now }
     {
         WalletPlaces {
-            coin: places.coin as usize,
-            pc: places.pc as usize,
-            discount: places.discount as usize,
-            referrer: places.referrer as usize,
+            coin: wallets.at(wallets.coin) as usize,
+            pc: wallets.at(wallets.pc) as usize,
+            discount: wallets.at(wallets.discount) as usize,
+            referrer: wallets.at(wallets.referrer) as usize,
+        }
+    }
+
+    /// Those among the cells of the row's wallets alone, in their order.
+    pub fn in_hand(wallets: &RowWallets) -> WalletPlaces
+        ensures { result ≡ hand_places wallets.now }
+    {
+        WalletPlaces {
+            coin: wallets.coin as usize,
+            pc: wallets.pc as usize,
+            discount: wallets.discount as usize,
+            referrer: wallets.referrer as usize,
         }
     }
 }
@@ -40,42 +47,4 @@ pub(crate) struct Asked<'a> {
     pub(crate) row: &'a Row,
     pub(crate) seen: &'a Seen,
     pub(crate) places: &'a WalletPlaces,
-}
-
-/// The place of the cell of an address that is among these.
-fn wallet_cell_place(cells: &[WalletCell], address: Address) -> usize
-    requires { is_among address cells.now ≡ true }
-    ensures { IsAt address cells.now result }
-{
-    for place in 0..cells.len() {
-        if is_same(address, cells[place].address()) {
-            return place;
-        }
-    }
-    // By the condition one of them has the address.
-    unreachable!()
-}
-
-/// The place of the cell of a role's wallet among these; 0 for a role that names none.
-fn role_place(cells: &[WalletCell], role: &Option<Address>) -> usize
-    requires { IsNamed cells.now role.now }
-    ensures { IsRoleAt cells.entry.now role.entry.now result }
-{
-    match role {
-        Some(address) => wallet_cell_place(cells, *address),
-        None => 0,
-    }
-}
-
-/// Where the wallets that a row names stand among these.
-pub fn places_in(cells: &[WalletCell], row: &Row) -> WalletPlaces
-    requires { All (λ (wallet : AddressOf). is_among wallet cells.now ≡ true) (row_wallets (row_of row.now)) }
-    ensures { ArePlacesAmong cells.entry.now (row_of row.entry.now) result }
-{
-    WalletPlaces {
-        coin: role_place(cells, &row.coin),
-        pc: role_place(cells, &row.pc),
-        discount: role_place(cells, &row.discount),
-        referrer: role_place(cells, &row.referrer),
-    }
 }

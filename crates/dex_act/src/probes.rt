@@ -11,8 +11,8 @@ use crate::places::Asked;
 use dex_types::{Address, MoveKind, Movement, WalletSeen, is_same};
 use dex_wallet::WalletCell;
 
-/// Whether a role's wallet is at the address.
-fn is_hit(address: Address, role: &Option<WalletSeen>) -> bool
+/// Whether a role's wallet is that of the address.
+fn is_wallet_of(role: &Option<WalletSeen>, address: Address) -> bool
     ensures { result ≡ hits address role.now }
 {
     match role {
@@ -21,17 +21,17 @@ fn is_hit(address: Address, role: &Option<WalletSeen>) -> bool
     }
 }
 
-/// Where the cell of a wallet stands that a row sees under one of its roles.
-fn place_seen(address: Address, asked: &Asked) -> usize
+/// Where the cell of a wallet that is moved stands: the row sees it under one of its roles.
+fn moved_place(asked: &Asked, address: Address) -> usize
     requires { any_hit address (roles_of asked.now.seen.now) ≡ true }
     ensures { (cells : List CellState) → AreSeenAt cells asked.now.seen.now asked.now.places.now
         → IsAt address cells result }
 {
-    if is_hit(address, &asked.seen.coin) {
+    if is_wallet_of(&asked.seen.coin, address) {
         asked.places.coin
-    } else if is_hit(address, &asked.seen.pc) {
+    } else if is_wallet_of(&asked.seen.pc, address) {
         asked.places.pc
-    } else if is_hit(address, &asked.seen.discount) {
+    } else if is_wallet_of(&asked.seen.discount, address) {
         asked.places.discount
     } else {
         asked.places.referrer
@@ -46,7 +46,7 @@ fn probe(cells: &mut [WalletCell], asked: &Asked, movement: &Movement)
 {
     match movement.kind {
         MoveKind::Probe => {
-            let place = place_seen(movement.wallet, asked);
+            let place = moved_place(asked, movement.wallet);
             let cell = &mut cells[place];
             cell.probe(asked.row.market, asked.row.lane, asked.row.number);
         }

@@ -4,41 +4,33 @@ ghost use Rattle.std.specs.Prelude.{◌≡◌, None, map};
 ghost use Rattle.std.specs.List.{All};
 ghost use Rattle.dex_types.specs.Rows.{row_of};
 ghost use Rattle.dex_world.specs.World as world;
-ghost use Rattle.dex_act.specs.Steps.{nothing_seen, world_in_hand};
+ghost use Rattle.dex_act.specs.Steps as spec;
+ghost use Rattle.dex_act.specs.Steps.{world_in_hand};
 ghost use Rattle.dex_act.specs.Wallets.{AreApart, ArePlacesAmong, Fits, IsRoleAt, roles_of, wallet_state_of};
 
 use crate::steps::RowAt;
-use dex_types::{Address, Program, Seen, WalletSeen};
+use dex_process::Terms;
+use dex_types::{Address, Seen, WalletSeen};
 use dex_wallet::WalletCell;
 
-/// What rows see beside their wallets: which mints are SRM and MSRM, and the program that runs.
-#[derive(Clone, Copy)]
-pub struct Terms {
-    pub srm: Option<Address>,
-    pub msrm: Option<Address>,
-    pub program: Program,
-}
-
-impl Terms {
-    /// What a row sees that names no wallet.
-    #[inline]
-    pub(crate) fn nothing_seen(&self) -> Seen
-        ensures { result ≡ nothing_seen self.now }
-    {
-        Seen {
-            coin: None,
-            pc: None,
-            discount: None,
-            referrer: None,
-            srm: self.srm,
-            msrm: self.msrm,
-            program: self.program,
-        }
+/// What a row sees that names no wallet.
+#[inline]
+pub(crate) fn nothing_seen(terms: &Terms) -> Seen
+    ensures { result ≡ spec.nothing_seen terms.now }
+{
+    Seen {
+        coin: None,
+        pc: None,
+        discount: None,
+        referrer: None,
+        srm: terms.srm,
+        msrm: terms.msrm,
+        program: terms.program,
     }
 }
 
 /// Writes down what a row sees of the wallet that a role names, which stands at the place, where there was nothing.
-fn look(wallets: &[WalletCell], role: &Option<Address>, place: usize, seen: &mut Option<WalletSeen>)
+fn note(wallets: &[WalletCell], role: &Option<Address>, place: usize, seen: &mut Option<WalletSeen>)
     requires nothing { seen.old ≡ None }
     requires here { IsRoleAt wallets.now role.now place }
     requires apart { AreApart wallets.now }
@@ -55,13 +47,13 @@ fn look(wallets: &[WalletCell], role: &Option<Address>, place: usize, seen: &mut
 pub(crate) fn see(wallets: &[WalletCell], terms: &Terms, asking: &RowAt<'_>, seen: &mut Seen)
     requires apart { AreApart wallets.now }
     requires at { ArePlacesAmong wallets.now (row_of asking.now.row.now) asking.now.places }
-    requires nothing { seen.old ≡ nothing_seen terms.now }
+    requires nothing { seen.old ≡ spec.nothing_seen terms.now }
     ensures seen { seen.new ≡ world.seen_by (row_of asking.now.row.now) (world_in_hand terms.now wallets.now) }
     ensures fits { All Fits (roles_of seen.new) }
 {
     let RowAt { row, places } = asking;
-    look(wallets, &row.coin, places.coin, &mut seen.coin);
-    look(wallets, &row.pc, places.pc, &mut seen.pc);
-    look(wallets, &row.discount, places.discount, &mut seen.discount);
-    look(wallets, &row.referrer, places.referrer, &mut seen.referrer);
+    note(wallets, &row.coin, places.coin, &mut seen.coin);
+    note(wallets, &row.pc, places.pc, &mut seen.pc);
+    note(wallets, &row.discount, places.discount, &mut seen.discount);
+    note(wallets, &row.referrer, places.referrer, &mut seen.referrer);
 }

@@ -10,8 +10,9 @@ ghost use Rattle.dex_act.specs.Wallets.{CanActAt};
 
 use crate::places::{Asked, WalletPlaces};
 use crate::rows::{act, hold};
-use crate::sight::{Terms, see};
+use crate::sight::{nothing_seen, see};
 use dex_cell::MarketCell;
+use dex_process::Terms;
 use dex_stamps::Kept;
 use dex_types::{Entry, Reply, Row, Seen};
 use dex_wallet::WalletCell;
@@ -99,7 +100,7 @@ pub fn step(
     ensures { IsStepOn terms.now (row_of asking.now.row.now) false result market.old market.new
         wallets.old wallets.new }
 {
-    let mut seen = terms.nothing_seen();
+    let mut seen = nothing_seen(terms);
     see(wallets, terms, asking, &mut seen);
     done(market, wallets, asking, &seen, false)
 }
@@ -132,8 +133,8 @@ pub fn step_two(
     ensures { AreStepsOn terms.now legs.now result first.old first.new second.old second.new
         wallets.old wallets.new }
 {
-    let mut one_seen = terms.nothing_seen();
-    let mut two_seen = terms.nothing_seen();
+    let mut one_seen = nothing_seen(terms);
+    let mut two_seen = nothing_seen(terms);
     see(wallets, terms, &legs.first, &mut one_seen);
     see(wallets, terms, &legs.second, &mut two_seen);
     let one_refused = is_refused(first, legs.first.row, &one_seen);

@@ -6,7 +6,7 @@ mod MarketForm
 mod SoundLaw
 mod NoneLaw
 mod SupplyLaws
-mod OnceLaws
+pub mod OnceLaws
 mod SmallLaws
 mod AllLaws
 mod FoundLaws

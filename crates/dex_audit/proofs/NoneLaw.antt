@@ -24,6 +24,33 @@ use Rattle.dex_audit.proofs.SoundLaw.{IsClean, are-sound}
 each-none : (rule : Rule) (markets : List PlainMarketAccounts) → told rule markets ≡ [] → All (λ (market : PlainMarketAccounts). told_by rule market ≡ []) markets
 each-none rule markets none = flat_map-none (told_by rule) markets none
 
+-- an audit finds nothing by any rule in each of these markets
+pub markets-clean : (markets : List PlainMarketAccounts) → slot_findings markets ≡ [] → fund_findings markets ≡ [] → told rule.TooLarge markets ≡ [] → All IsClean markets
+markets-clean markets slots funds last =
+    let p1 = append-none (told rule.Homeless markets) _ slots in
+    let p2 = append-none (told rule.Misheld markets) _ p1.1 in
+    let p3 = append-none (told rule.Unpaired markets) _ p2.1 in
+    let p4 = append-none (told rule.Astray markets) _ p3.1 in
+    let p5 = append-none (told rule.Ungiven markets) (told rule.Repeated markets) p4.1 in
+    let p7 = append-none (told rule.Totals markets) _ funds in
+    let p8 = append-none (told rule.Deposits markets) _ p7.1 in
+    let p9 = append-none (told rule.Vaults markets) _ p8.1 in
+    let p10 = append-none (told rule.Rebates markets) (told rule.Beyond markets) p9.1 in
+    λ k d lt. record {
+      homeless = each-none rule.Homeless markets p1.0 k d lt;
+      misheld = each-none rule.Misheld markets p2.0 k d lt;
+      unpaired = each-none rule.Unpaired markets p3.0 k d lt;
+      astray = each-none rule.Astray markets p4.0 k d lt;
+      ungiven = each-none rule.Ungiven markets p5.0 k d lt;
+      repeated = each-none rule.Repeated markets p5.1 k d lt;
+      totals = each-none rule.Totals markets p7.0 k d lt;
+      deposits = each-none rule.Deposits markets p8.0 k d lt;
+      vaults = each-none rule.Vaults markets p9.0 k d lt;
+      rebates = each-none rule.Rebates markets p10.0 k d lt;
+      beyond = each-none rule.Beyond markets p10.1 k d lt;
+      too_large = each-none rule.TooLarge markets last k d lt;
+    }
+
 -- an audit finds nothing by any rule
 record AreClean (accounts : PlainAccounts) : Type 0 where
   markets : All IsClean accounts.markets
@@ -35,32 +62,7 @@ clean accounts none =
     let slots = append-none (slot_findings accounts.markets) _ none in
     let funds = append-none (fund_findings accounts.markets) _ slots.1 in
     let last = append-none (supplies_off accounts) (told rule.TooLarge accounts.markets) funds.1 in
-    let p1 = append-none (told rule.Homeless accounts.markets) _ slots.0 in
-    let p2 = append-none (told rule.Misheld accounts.markets) _ p1.1 in
-    let p3 = append-none (told rule.Unpaired accounts.markets) _ p2.1 in
-    let p4 = append-none (told rule.Astray accounts.markets) _ p3.1 in
-    let p5 = append-none (told rule.Ungiven accounts.markets) (told rule.Repeated accounts.markets) p4.1 in
-    let p7 = append-none (told rule.Totals accounts.markets) _ funds.0 in
-    let p8 = append-none (told rule.Deposits accounts.markets) _ p7.1 in
-    let p9 = append-none (told rule.Vaults accounts.markets) _ p8.1 in
-    let p10 = append-none (told rule.Rebates accounts.markets) (told rule.Beyond accounts.markets) p9.1 in
-    record {
-      markets = λ k d lt. record {
-        homeless = each-none rule.Homeless accounts.markets p1.0 k d lt;
-        misheld = each-none rule.Misheld accounts.markets p2.0 k d lt;
-        unpaired = each-none rule.Unpaired accounts.markets p3.0 k d lt;
-        astray = each-none rule.Astray accounts.markets p4.0 k d lt;
-        ungiven = each-none rule.Ungiven accounts.markets p5.0 k d lt;
-        repeated = each-none rule.Repeated accounts.markets p5.1 k d lt;
-        totals = each-none rule.Totals accounts.markets p7.0 k d lt;
-        deposits = each-none rule.Deposits accounts.markets p8.0 k d lt;
-        vaults = each-none rule.Vaults accounts.markets p9.0 k d lt;
-        rebates = each-none rule.Rebates accounts.markets p10.0 k d lt;
-        beyond = each-none rule.Beyond accounts.markets p10.1 k d lt;
-        too_large = each-none rule.TooLarge accounts.markets last.1 k d lt;
-      };
-      mints = last.0;
-    }
+    record { markets = markets-clean accounts.markets slots.0 funds.0 last.1; mints = last.0 }
 
 pub markets-sound : (limits : Limits) (accounts : PlainAccounts) → AreAccepted limits accounts → HoldBytes accounts → findings accounts ≡ [] → All AreSound accounts.markets
 markets-sound limits accounts can bytes none k d lt =

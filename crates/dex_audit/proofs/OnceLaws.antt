@@ -37,7 +37,7 @@ none-at address (account ∷ accounts) none =
       | inr apart ↦ rw apart (none-at address accounts (omega arith))
     ]
 
-distinct-of : (accounts : List PlainAccount) → ((address : Address) → times address (map address_of accounts) ≤ 1) → AreDistinct (traders_of accounts)
+pub distinct-of : (accounts : List PlainAccount) → ((address : Address) → times address (map address_of accounts) ≤ 1) → AreDistinct (traders_of accounts)
 distinct-of [] once = tt
 distinct-of (account ∷ accounts) once = (
   none-at account.address accounts

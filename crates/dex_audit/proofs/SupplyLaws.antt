@@ -51,3 +51,6 @@ four a b c d f1 f2 f3 is1 is2 is3 =
     is3 ∙ ap (λ (l : List _). l ++ d) (is2 ∙ ap (λ (l : List _). l ++ c) is1)
     ∙ append_assoc (a ++ b) c d
     ∙ append_assoc a b (c ++ d)
+
+pub three : {X : Type 0} (a b c f1 f2 : List X) → f1 ≡ a ++ b → f2 ≡ f1 ++ c → f2 ≡ a ++ (b ++ c)
+three a b c f1 f2 is1 is2 = is2 ∙ ap (λ (l : List _). l ++ c) is1 ∙ append_assoc a b c

@@ -31,3 +31,7 @@ unfoldable pub findings : PlainAccounts → List Finding
 findings accounts =
     slot_findings accounts.markets
     ++ (fund_findings accounts.markets ++ (supplies_off accounts ++ told rule.TooLarge accounts.markets))
+
+-- the findings of markets alone, whatever mints and wallets there are
+abbrev pub market_findings : List PlainMarketAccounts → List Finding
+market_findings markets = slot_findings markets ++ (fund_findings markets ++ told rule.TooLarge markets)

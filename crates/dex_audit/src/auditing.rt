@@ -86,3 +86,16 @@ pub fn audit(alloc: Global, accounts: &Accounts) -> Result<Vec<Finding>, NoMemor
     tell_markets(alloc, &mut found, markets, &gathered, Rule::TooLarge)?;
     Ok(found)
 }
+
+/// What an audit finds of markets, whatever mints and wallets there are: by the rule, but for that of mints, then by
+/// the markets' order, then by place. Only a lack of memory can come in the place of the findings.
+pub fn audit_markets(alloc: Global, markets: &[MarketAccounts]) -> Result<Vec<Finding>, NoMemory>
+    requires { All IsAccepted (map market_accounts_of markets.now) }
+    ensures { IfOk result (λ found. found.items ≡ audits.market_findings (map market_accounts_of markets.now)) }
+{
+    let gathered = gather_all(alloc, markets)?;
+    let mut found = Vec::new(alloc);
+    tell_market_rules(alloc, &mut found, markets, &gathered)?;
+    tell_markets(alloc, &mut found, markets, &gathered, Rule::TooLarge)?;
+    Ok(found)
+}

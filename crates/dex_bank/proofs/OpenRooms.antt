@@ -1,21 +1,25 @@
 -- How many rows name the market or the wallet at each place of a list.
-use Rattle.std.proofs.Common.{◌≡◌, ◌≢◌, ℕ, suc, ◌+◌, ◌<◌, ◌≤◌, ◌^◌, Bool, true, false, ◌||◌, List, [], ◌∷◌, ◌++◌, Option, None, Some, count_by, eqb, get_or, length, map, take, refl, sym, ap, subst, ◌∙◌, arith, ⊎_elim}
-use Rattle.std.proofs.Math.Bool.{or-false}
-use Rattle.dex_world.proofs.Common.{Address, PlainAccount, PlainAccounts, PlainMarketAccounts, PlainRow, Row, is_role, is_same, is_same-sym, is_same-true, length-map, names, names-roles, row_of, sum_by-append, sum_by-cons, take_all, take_more}
-use Rattle.std.specs.List.{position}
+use Rattle.std.proofs.Common.{◌≡◌, ◌≢◌, ℕ, suc, ◌+◌, ◌<◌, ◌≤◌, ◌^◌, Bool, true, false, List, [], ◌∷◌, ◌++◌, Some, count_by, eqb, get_or, length, map, take, refl, sym, ap, subst, ◌∙◌, arith, ⊎_elim}
+use Rattle.dex_world.proofs.Common.{Address, PlainAccount, PlainAccounts, PlainMarketAccounts, PlainRow, Row, is_same, is_same-sym, is_same-true, length-map, names, row_of, sum_by-append, sum_by-cons, take_all, take_more}
+use Rattle.std.specs.List.{All, position}
 use Rattle.std.proofs.lemmas.Bool.{cases_lt}
 use Rattle.std.proofs.lemmas.Bool.Decides.{eqb_tells}
-use Rattle.std.proofs.lemmas.List.{get_or-map}
+use Rattle.std.proofs.lemmas.List.{get_or-map, length-take-le}
+use Rattle.std.proofs.lemmas.List.Elements.{All-head, All-tail}
 use Rattle.std.proofs.lemmas.List.Quantifiers.{position-Some}
-use Rattle.std.proofs.lemmas.List.Sums.{count_by-le-length}
+use Rattle.std.proofs.lemmas.List.Sums.{count_by-le-length, sum_by_more}
+use Rattle.dex_types.specs.Wallets.{row_wallets}
+use Rattle.dex_history.proofs.AddressOrder.{times}
 use Rattle.dex_world.specs.declared.places.RowPlaces.{RowPlaces}
 use Rattle.dex_types.specs.declared.limits.Limits.{Limits}
 use Rattle.dex_script_types.specs.Facts.{IsStart}
-use Rattle.dex_script_types.specs.Places.{IsBeside, IsMarked, IsPlaced, IsRolePlaced}
+use Rattle.dex_world.specs.Places.{ArePlacesOf}
+use Rattle.dex_world.proofs.OnceLaws.{roles-once, times-any}
+use Rattle.dex_script_types.specs.Places.{IsPlaced, wallet_place}
 use Rattle.dex_script_types.proofs.Apart.{AreDistinct, markets-distinct, wallets-distinct}
 use Rattle.dex_script_types.proofs.PlacedLaws.{position-map}
 use Rattle.dex_act.proofs.BehindLaws.{some-of}
-use Rattle.dex_bank.specs.Counts.{AreCounted, HaveSpare, is_told, one, wallets_told}
+use Rattle.dex_bank.specs.Counts.{AreCounted, HaveSpare, one, times_told}
 
 -- ---- the place of an address
 
@@ -55,40 +59,79 @@ wallets_at wallets = map (λ (account : PlainAccount). account.address) wallets
 abbrev pub on : PlainRow → Address → Bool
 on row address = is_same row.market address
 
--- what a row names tells the places that are told of it
-abbrev pub Tells : List Address → (PlainRow → Address → Bool) → PlainRow → List ℕ → Type 0
-Tells addresses names row told = (place : ℕ) (d : Address) → place < length addresses → is_told place told ≡ names row (get_or addresses place d)
+-- what a row names is counted once at its place, and nothing at others
+abbrev pub Tells : List Address → (PlainRow → Address → Bool) → PlainRow → (ℕ → ℕ) → Type 0
+Tells addresses names row more = (place : ℕ) (d : Address) → place < length addresses → more place ≡ one (names row (get_or addresses place d))
 
 module _ {limits : Limits} (start : PlainAccounts) (is : IsStart limits start) (row : PlainRow) (places : RowPlaces) (placed : IsPlaced start row places) where
-  pub market-tells : Tells (markets_at start.markets) on row (places.market ∷ [])
+  pub market-tells : Tells (markets_at start.markets) on row (λ (place : ℕ). one (eqb place places.market))
   market-tells place d within =
-      or-false (eqb place places.market)
-      ∙ at-place (markets_at start.markets) (markets-distinct start is.accepted) row.market places.market place d
-      (position-map (λ (accounts : PlainMarketAccounts). accounts.address) row.market start.markets ∙ placed.market) within
+      ap one (at-place (markets_at start.markets) (markets-distinct start is.accepted) row.market places.market place d
+      (position-map (λ (accounts : PlainMarketAccounts). accounts.address) row.market start.markets ∙ placed.market) within)
 
-  pub wallet-tells : IsBeside row places → Tells (wallets_at start.wallets) names row (wallets_told places)
-  wallet-tells beside place d within =
-      let address = get_or (wallets_at start.wallets) place d in
-      let of = λ (role : Option Address). is_role role address in
-      let there = λ (at : ℕ). eqb place at in
-      ap (λ (b : Bool). b || (there places.pc || (there places.discount || (there places.referrer || false)))) (told row.coin places.coin placed.coin beside.coin)
-      ∙ ap (λ (b : Bool). of row.coin || (b || (there places.discount || (there places.referrer || false)))) (told row.pc places.pc placed.pc beside.pc)
-      ∙ ap (λ (b : Bool). of row.coin || (of row.pc || (b || (there places.referrer || false)))) (told row.discount places.discount placed.discount beside.discount)
-      ∙ ap (λ (b : Bool). of row.coin || (of row.pc || (of row.discount || (b || false)))) (told row.referrer places.referrer placed.referrer beside.referrer)
-      ∙ sym (names-roles row address)
+  pub wallet-tells : Tells (wallets_at start.wallets) names row (λ (place : ℕ). times_told place places.wallets.places)
+  wallet-tells place d within =
+      told (row_wallets row) places.wallets.places placed.wallets.places
+      ∙ times-any (get_or (wallets_at start.wallets) place d) (row_wallets row) (roles-once row.coin row.pc row.discount row.referrer)
     where
-      differ : (n m : ℕ) → n ≢ m → eqb n m ≡ false
-      differ n m other = ⊎_elim (λ same. absurd (other same.1)) (λ apart. apart.0) (eqb_tells n m)
+      beyond : (there : ℕ) → there ≡ 65535 → eqb place there ≡ false
+      beyond there is_beyond =
+          ⊎_elim
+          (λ same. absurd (omega (arith, same.1, is_beyond, within, length-map start.wallets (λ (account : PlainAccount). account.address), is.accepted.few_wallets, is.accepted.within.wallets)))
+          (λ apart. apart.0)
+          (eqb_tells place there)
 
-      told : (role : Option Address) (there : ℕ) → IsRolePlaced start.wallets role there → IsMarked role there
-          → eqb place there ≡ is_role role (get_or (wallets_at start.wallets) place d)
-      told None there is_placed marked =
-          differ place there
-          (λ same. omega (arith, same, marked, within, length-map start.wallets (λ (account : PlainAccount). account.address), is.accepted.few_wallets, is.accepted.within.wallets))
-      told (Some wallet) there is_placed marked =
-          at-place (wallets_at start.wallets) (wallets-distinct start is.accepted) wallet there place d
-          (position-map (λ (account : PlainAccount). account.address) wallet start.wallets ∙ is_placed) within
-          ∙ is_same-sym wallet (get_or (wallets_at start.wallets) place d)
+      none : (rest : List ℕ) → All (λ (there : ℕ). there ≡ 65535) rest → times_told place rest ≡ 0
+      none [] all = refl
+      none (there ∷ rest) all =
+          omega (
+            arith,
+            sum_by-cons (λ (other : ℕ). one (eqb place other)) there rest,
+            ap one (beyond there (All-head (λ (n : ℕ). n ≡ 65535) there rest all)),
+            none rest (All-tail (λ (n : ℕ). n ≡ 65535) there rest all),
+          )
+
+      told : (addresses : List Address) (rest : List ℕ) → ArePlacesOf (λ (a : Address). wallet_place a start.wallets) addresses rest
+          → times_told place rest ≡ times (get_or (wallets_at start.wallets) place d) addresses
+      told [] rest are = none rest are
+      told (first ∷ others) [] are = absurd are
+      told (first ∷ others) (there ∷ rest) are =
+          sum_by-cons (λ (other : ℕ). one (eqb place other)) there rest
+          ∙ ap (λ (b : Bool). one b + times_told place rest)
+          (at-place (wallets_at start.wallets) (wallets-distinct start is.accepted) first there place d
+          (position-map (λ (account : PlainAccount). account.address) first start.wallets ∙ are.0) within
+          ∙ is_same-sym first (get_or (wallets_at start.wallets) place d))
+          ∙ ap (λ (n : ℕ). one (is_same (get_or (wallets_at start.wallets) place d) first) + n) (told others rest are.1)
+
+-- ---- counts by place
+
+-- one place more is counted
+pub counted-more : (told : List ℕ) (i : ℕ) (start counts new : List ℕ) → i < length told
+    → AreCounted (λ (place : ℕ). times_told place (take i told)) start counts → AreCounted (λ (place : ℕ). one (eqb place (get_or told i 0))) counts new
+    → AreCounted (λ (place : ℕ). times_told place (take (i + 1) told)) start new
+counted-more told i start counts new inside so more = record {
+  long = more.long ∙ so.long;
+  each = λ place less.
+      omega (
+        arith,
+        so.each place less,
+        more.each place (omega (arith, less, so.long)),
+        sum_by_more (λ (other : ℕ). one (eqb place other)) told i 0 inside,
+      );
+}
+
+-- and there is room for it
+pub spare-more : (told : List ℕ) (i : ℕ) (start counts : List ℕ) → i < length told → HaveSpare (length told) start
+    → AreCounted (λ (place : ℕ). times_told place (take i told)) start counts → HaveSpare 1 counts
+spare-more told i start counts inside spare so place less =
+    omega (
+      arith,
+      inside,
+      spare place (omega (arith, less, so.long)),
+      so.each place (omega (arith, less, so.long)),
+      count_by-le-length (λ (other : ℕ). eqb place other) (take i told),
+      length-take-le i told (omega (arith, inside)),
+    )
 
 -- ---- counts of rows
 
@@ -106,8 +149,8 @@ module _ (names : PlainRow → Address → Bool) (addresses : List Address) wher
       omega (arith, few, so.each place d (omega (arith, less, so.long)), count_by-le-length (λ (one : PlainRow). names one (get_or addresses place d)) rows)
 
   -- a row more
-  row-counted : (rows : List PlainRow) (row : PlainRow) (told : List ℕ) (before after : List ℕ) → Tells addresses names row told
-      → AreRowsOf names addresses rows before → AreCounted (λ (place : ℕ). is_told place told) before after → AreRowsOf names addresses (rows ++ row ∷ []) after
+  row-counted : (rows : List PlainRow) (row : PlainRow) (told : ℕ → ℕ) (before after : List ℕ) → Tells addresses names row told
+      → AreRowsOf names addresses rows before → AreCounted told before after → AreRowsOf names addresses (rows ++ row ∷ []) after
   row-counted rows row told before after tells so more = record {
     long = more.long ∙ so.long;
     each = λ place d less.
@@ -117,15 +160,15 @@ module _ (names : PlainRow → Address → Bool) (addresses : List Address) wher
           arith,
           so.each place d less,
           more.each place (omega (arith, less, so.long)),
-          ap one (tells place d less),
+          tells place d less,
           sum_by-append counted rows (row ∷ []),
           sum_by-cons counted row [],
         );
   }
 
   -- one of a script's
-  pub row-more : (rows : List Row) (i : ℕ) (row : Row) (told : List ℕ) (before after : List ℕ) → i < length rows → row ≡ get_or rows i row
-      → Tells addresses names (row_of row) told → AreRowsOf names addresses (take i (map row_of rows)) before → AreCounted (λ (place : ℕ). is_told place told) before after
+  pub row-more : (rows : List Row) (i : ℕ) (row : Row) (told : ℕ → ℕ) (before after : List ℕ) → i < length rows → row ≡ get_or rows i row
+      → Tells addresses names (row_of row) told → AreRowsOf names addresses (take i (map row_of rows)) before → AreCounted told before after
       → AreRowsOf names addresses (take (i + 1) (map row_of rows)) after
   row-more rows i row told before after inside at tells so more =
       subst (λ (some : List PlainRow). AreRowsOf names addresses some after)

@@ -1,20 +1,25 @@
 -- Where the market and the wallets of rows stand among cells.
-use Rattle.std.proofs.Common.{◌≡◌, ℕ, ◌<◌, List, [], ◌∷◌, Option, None, Some, get_or, length, map, sym, ap, ◌∙◌, arith}
+use Rattle.std.proofs.Common.{◌≡◌, ℕ, ◌<◌, List, [], ◌∷◌, Option, None, Some, get_or, length, map, sym, ap, ◌∙◌, subst, arith}
 use Rattle.std.proofs.lemmas.Option.{none-some}
 use Rattle.dex_world.proofs.Common.{Address, PlainAccount, PlainAccounts, PlainMarketAccounts, PlainRow, is_same, length-map}
 use Rattle.dex_bank.proofs.Common.{AreCells, CellState, CellsState, IsFirstAt, MarketCellState, market_opened, opened_of, wallet_opened}
-use Rattle.std.specs.List.{All}
+use Rattle.std.specs.List.{All, position}
 use Rattle.std.proofs.lemmas.List.{get_or-map}
 use Rattle.std.proofs.lemmas.List.Quantifiers.{position-Some}
 use Rattle.dex_world.specs.declared.places.RowPlaces.{RowPlaces}
 use Rattle.dex_types.specs.declared.terms.Program.{Program}
-use Rattle.dex_script_types.specs.Places.{ArePlaced, IsPlaced, IsRolePlaced, market_place}
-use Rattle.dex_act.specs.declared.places.WalletPlaces.{WalletPlaces}
-use Rattle.dex_act.specs.Wallets.{IsRoleAt, wallet_places}
+use Rattle.dex_types.specs.Wallets.{row_wallets}
+use Rattle.dex_world.specs.Places.{AreWalletsAt, IsIndexOf, place_at}
+use Rattle.dex_script_types.specs.Places.{ArePlaced, IsPlaced, market_place, wallet_place}
+use Rattle.dex_script_types.proofs.FoundLaws.{found-at, wallets-same}
+use Rattle.dex_script_types.proofs.PlacedLaws.{position-map}
+use Rattle.dex_wallet.specs.CellState.{new_cell}
+use Rattle.dex_act.specs.Wallets.{IsRoleAt, cell_place, wallet_places}
 use Rattle.dex_world.proofs.MappedLists.{map-agree, map-map}
 use Rattle.dex_bank.specs.Opened.{opened_with}
 use Rattle.dex_bank.specs.Places.{ArePlacedIn, ArePlacesIn, StandsAt}
-use Rattle.dex_act.proofs.BehindLaws.{places-still, same-at, some-of}
+use Rattle.dex_act.proofs.BehindLaws.{same-at, some-of}
+use Rattle.dex_act.proofs.InHand.{stands-at}
 use Rattle.dex_bank.proofs.StepWorld.{opened_market}
 
 -- ---- a script's rows among the cells with which it starts
@@ -35,28 +40,18 @@ module _ (rows : List PlainRow) where
             ap (λ (c : MarketCellState). is_same address c.accounts.address) (cell k default (omega (arith, below, told.0))) ∙ told.2 k below;
       }
 
-  role-opened : (wallets : List PlainAccount) (role : Option Address) (place : ℕ) → IsRolePlaced wallets role place
-      → IsRoleAt (map (wallet_opened rows) wallets) role place
-  role-opened wallets None place is = tt
-  role-opened [] (Some address) place is = absurd (none-some place is)
-  role-opened (first ∷ others) (Some address) place is =
-      let told = position-Some (λ (wallet : PlainAccount). is_same address wallet.address) (first ∷ others) place first is in
-      record {
-        within = omega (arith, told.0, length-map (first ∷ others) (wallet_opened rows));
-        here = λ default.
-            ap (λ (c : CellState). is_same address c.address) (get_or-map (wallet_opened rows) (first ∷ others) place first default told.0) ∙ told.1;
-      }
+  opened-place : (wallets : List PlainAccount) (address : Address) → cell_place address (map (wallet_opened rows) wallets) ≡ wallet_place address wallets
+  opened-place wallets address =
+      ap (λ (addresses : List Address). position (is_same address) addresses) (map-map (wallet_opened rows) (λ (cell : CellState). cell.address) wallets)
+      ∙ position-map (λ (wallet : PlainAccount). wallet.address) address wallets
 
   module _ (start : PlainAccounts) (program : Program) where
     placed-stands : (row : PlainRow) (places : RowPlaces) → IsPlaced start row places → ArePlacesIn (opened_with start rows program) row places
     placed-stands row places is = record {
       market = first-opened row.market start.markets places.market is.market;
-      wallets = record {
-        coin = role-opened start.wallets row.coin places.coin is.coin;
-        pc = role-opened start.wallets row.pc places.pc is.pc;
-        discount = role-opened start.wallets row.discount places.discount is.discount;
-        referrer = role-opened start.wallets row.referrer places.referrer is.referrer;
-      };
+      wallets =
+          wallets-same (λ (address : Address). wallet_place address start.wallets) (λ (address : Address). cell_place address (map (wallet_opened rows) start.wallets))
+          (λ address. sym (opened-place start.wallets address)) row.coin row.pc row.discount row.referrer places.wallets is.wallets;
     }
 
     pub placed-stand : (some : List PlainRow) (places : List RowPlaces) → ArePlaced start some places → ArePlacedIn (opened_with start rows program) some places
@@ -64,6 +59,25 @@ module _ (rows : List PlainRow) where
     placed-stand [] (first ∷ others) are = absurd are
     placed-stand (row ∷ some) [] are = absurd are
     placed-stand (row ∷ some) (first ∷ others) are = (placed-stands row first are.0, placed-stand some others are.1)
+
+-- a row stands where the places beside it tell
+pub stands-told : (cells : CellsState) (row : PlainRow) (places : RowPlaces) → ArePlacesIn cells row places
+    → StandsAt cells row places.market (wallet_places places.wallets)
+stands-told cells row places at = record {
+  market = at.market;
+  wallets = record {
+    coin = stands row.coin places.wallets.coin at.wallets.of_coin;
+    pc = stands row.pc places.wallets.pc at.wallets.of_pc;
+    discount = stands row.discount places.wallets.discount at.wallets.of_discount;
+    referrer = stands row.referrer places.wallets.referrer at.wallets.of_referrer;
+  };
+}
+  where
+    stands : (role : Option Address) (index : ℕ) → IsIndexOf (row_wallets row) role index → IsRoleAt cells.wallets role (place_at places.wallets index)
+    stands None index is = tt
+    stands (Some address) index is =
+        stands-at address cells.wallets (place_at places.wallets index)
+        (found-at (λ (a : Address). cell_place a cells.wallets) (row_wallets row) places.wallets.places index address at.wallets.places is)
 
 -- ---- no row moves a cell
 
@@ -88,7 +102,7 @@ module _ (before after : CellsState) (was : All HasItsAddress before.markets) (i
       ∙ ap (λ (cells : CellsState). map market_address cells.markets) kept
       ∙ sym (opened-addresses before.markets was)
 
-  first-still : (address : Address) (place : ℕ) → IsFirstAt address before.markets place → IsFirstAt address after.markets place
+  pub first-still : (address : Address) (place : ℕ) → IsFirstAt address before.markets place → IsFirstAt address after.markets place
   first-still address place first = record {
     within = (still place (some-of before.markets place first.within) first.within).0;
     here = λ default. ap (is_same address) (still place default first.within).1 ∙ first.here default;
@@ -99,11 +113,26 @@ module _ (before after : CellsState) (was : All HasItsAddress before.markets) (i
           → (k < length after.markets) × (market_address (get_or after.markets k default) ≡ market_address (get_or before.markets k default))
       still k default within = same-at market_address before.markets after.markets same-markets k default within
 
+  abbrev wallet_address : CellState → Address
+  wallet_address cell = cell.address
+
+  abbrev wallet_new : CellState → CellState
+  wallet_new cell = new_cell cell.address cell.start cell.room
+
+  same-wallets : map wallet_address after.wallets ≡ map wallet_address before.wallets
+  same-wallets =
+      sym (map-map wallet_new wallet_address after.wallets)
+      ∙ ap (λ (cells : CellsState). map wallet_address cells.wallets) kept
+      ∙ map-map wallet_new wallet_address before.wallets
+
   -- so a row stands where it stood
-  pub stands-still : (row : PlainRow) (place : ℕ) (wallets : WalletPlaces) → StandsAt before row place wallets → StandsAt after row place wallets
-  stands-still row place wallets at = record {
-    market = first-still row.market place at.market;
-    wallets = places-still before.wallets after.wallets (ap (λ (cells : CellsState). cells.wallets) kept) row wallets at.wallets;
+  pub stands-still : (row : PlainRow) (places : RowPlaces) → ArePlacesIn before row places → ArePlacesIn after row places
+  stands-still row places at = record {
+    market = first-still row.market places.market at.market;
+    wallets =
+        subst (λ (addresses : List Address).
+        AreWalletsAt (λ (address : Address). position (is_same address) addresses) row.coin row.pc row.discount row.referrer places.wallets)
+        (sym same-wallets) at.wallets;
   }
 
   -- and each of these rows
@@ -111,5 +140,4 @@ module _ (before after : CellsState) (was : All HasItsAddress before.markets) (i
   stand-still [] [] are = tt
   stand-still [] (first ∷ others) are = absurd are
   stand-still (row ∷ rows) [] are = absurd are
-  stand-still (row ∷ rows) (first ∷ others) are =
-      (stands-still row first.market (wallet_places first) are.0, stand-still rows others are.1)
+  stand-still (row ∷ rows) (first ∷ others) are = (stands-still row first are.0, stand-still rows others are.1)

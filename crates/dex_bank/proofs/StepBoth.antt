@@ -4,7 +4,7 @@ use Rattle.dex_types.specs.declared.account_bytes.Named.{Named}
 use Rattle.dex_world.proofs.Common.{PlainRow, Refusal, Seen, request_of, row_of, seen_by, why, why_in}
 use Rattle.dex_bank.proofs.Common.{AreCells, CellState, CellsState, IsFirstAt, MarketCellState, world_of}
 use Rattle.dex_cell.specs.CellState.{market_at}
-use Rattle.dex_act.specs.declared.sight.Terms.{Terms}
+use Rattle.dex_act.specs.Steps.{Terms}
 use Rattle.dex_act.specs.declared.steps.Legs.{Legs}
 use Rattle.dex_act.specs.declared.steps.RowDone.{RowDone}
 use Rattle.dex_act.specs.Steps.{AreStepsOn, CanStepBoth, HasDone}
@@ -14,7 +14,7 @@ use Rattle.dex_bank.specs.CellsInside.{cells_by}
 use Rattle.dex_bank.specs.Places.{StandsAt}
 use Rattle.dex_bank.specs.Stepped.{HasActedOrWaited, HaveBothStepped}
 use Rattle.dex_bank.specs.Stepping.{AreStepsAt}
-use Rattle.dex_bank.proofs.Stands.{its-address, stands-still}
+use Rattle.dex_bank.proofs.Stands.{first-still, its-address}
 use Rattle.dex_bank.proofs.StepCells.{can-step, refused-here, stepped}
 use Rattle.dex_bank.proofs.StepMarkets.{apart-places, other-at}
 use Rattle.dex_bank.proofs.StepTwo.{both-stepped}
@@ -73,7 +73,7 @@ module _ (mints : List Named) (terms : Terms) (markets : List MarketCellState) (
 
       still : IsFirstAt second.market (set markets one steps.first) two
       still =
-          (stands-still cells between (its-address cells ready.are) (its-address between first-stepped.cells) first-stepped.kept second two legs.second.places ready.second_at).market
+          first-still cells between (its-address cells ready.are) (its-address between first-stepped.cells) first-stepped.kept second.market two ready.second_at.market
 
       second-stepped : HasActedOrWaited second (are_steps.one_refused && not are_steps.two_refused) dones.1.reply between
           (record between { markets = set (set markets one steps.first) two steps.second; wallets = left })

@@ -2,7 +2,7 @@
 use Rattle.std.specs.Prelude.{List, map}
 use Rattle.dex_types.specs.declared.account_bytes.Named.{Named}
 use Rattle.dex_types.specs.Accounts.{named_of}
-use Rattle.dex_act.specs.declared.sight.Terms.{Terms}
+use Rattle.dex_act.specs.Steps.{Terms}
 use Rattle.dex_cell.specs.CellState.{MarketCellState}
 use Rattle.dex_wallet.specs.CellState.{CellState}
 use Rattle.dex_bank.specs.declared.cells.Cells.TheInside.{Inside}

@@ -1,13 +1,12 @@
 //! How many rows name each market and each wallet, counted in one pass over what stands beside the rows.
 
-ghost use Rattle.std.specs.Prelude.{◌≡◌, ◌==◌, ◌&&◌, not, ℕ, IfOk, map};
+ghost use Rattle.std.specs.Prelude.{◌≡◌, ◌==◌, ℕ, IfOk, map};
 ghost use Rattle.dex_types.specs.Accounts.{accounts_of};
 ghost use Rattle.dex_types.specs.Rows.{row_of};
 ghost use Rattle.dex_types.specs.declared.limits.Limits.{Limits};
 ghost use Rattle.dex_script_types.specs.Facts.{IsStart};
-ghost use Rattle.dex_script_types.specs.Places.{AreBeside, ArePlaced};
-ghost use Rattle.dex_bank.specs.Counts as spec;
-ghost use Rattle.dex_bank.specs.Counts.{AreCounted, HaveSpare};
+ghost use Rattle.dex_script_types.specs.Places.{ArePlaced};
+ghost use Rattle.dex_bank.specs.Counts.{AreCounted, HaveSpare, one, times_told};
 ghost use Rattle.dex_bank.specs.Opened as first;
 
 use dex_script_types::RowList;
@@ -15,32 +14,24 @@ use dex_types::{Accounts, NoMemory};
 use dex_world::RowPlaces;
 use std::alloc::Global;
 
-/// Whether the place is one of these.
-fn is_told(place: u16, told: &[u16]) -> bool
-    ensures { result ≡ spec.is_told place told.now }
-{
-    told.iter().any(|other| place == *other)
-}
-
-/// One more at a place that is told after others, if there is such a place, unless it is one of them.
-fn count(counts: &mut [usize], told: u16, others: &[u16])
+/// One more at a place, if there is such a place.
+fn count(counts: &mut [usize], told: u16)
     requires { HaveSpare 1 counts.old }
-    ensures { AreCounted (λ (place : ℕ). not (spec.is_told place others.entry.now) && place == told)
-        counts.old counts.new }
+    ensures { AreCounted (λ (place : ℕ). one (place == told)) counts.old counts.new }
 {
     let place = told as usize;
-    if place < counts.len() && !is_told(told, others) {
+    if place < counts.len() {
         counts[place] += 1;
     }
 }
 
 /// One more at each of these places that there is.
-fn count_each(counts: &mut [usize], told: &[u16])
-    requires { HaveSpare 2 counts.old }
-    ensures { AreCounted (λ (place : ℕ). spec.is_told place told.entry.now) counts.old counts.new }
+fn count_each(counts: &mut [usize], told: &[u16; 4])
+    requires { HaveSpare 4 counts.old }
+    ensures { AreCounted (λ (place : ℕ). times_told place told.entry.now) counts.old counts.new }
 {
     for i in 0..told.len() {
-        count(counts, told[i], &told[..i]);
+        count(counts, told[i]);
     }
 }
 
@@ -60,7 +51,6 @@ pub(crate) fn row_counts(
 ) -> Result<RowCounts, NoMemory>
     requires start { (limits : Limits) × IsStart limits (accounts_of start.now) }
     requires places { ArePlaced (accounts_of start.now) (map row_of rows.now) places.now }
-    requires beside { AreBeside (map row_of rows.now) places.now }
     ensures markets { IfOk result (λ counts. counts.markets.items
         ≡ first.market_rooms (map row_of rows.now) (accounts_of start.now).markets) }
     ensures wallets { IfOk result (λ counts. counts.wallets.items
@@ -70,8 +60,8 @@ pub(crate) fn row_counts(
     let mut wallets = Vec::from_elem(alloc, 0, start.wallets.len())?;
     for i in 0..rows.len() {
         let at = &places[i];
-        count_each(&mut markets, &[at.market]);
-        count_each(&mut wallets, &[at.coin, at.pc, at.discount, at.referrer]);
+        count(&mut markets, at.market);
+        count_each(&mut wallets, &at.wallets.places);
     }
     Ok(RowCounts { markets, wallets })
 }

@@ -12,7 +12,7 @@ ghost use Rattle.dex_token.specs.TokenAccount.{IsWallet};
 ghost use Rattle.dex_cell.specs.CellState as market;
 ghost use Rattle.dex_types.specs.declared.limits.Limits.{Limits};
 ghost use Rattle.dex_script_types.specs.Facts.{IsStart};
-ghost use Rattle.dex_script_types.specs.Places.{AreBeside, ArePlaced};
+ghost use Rattle.dex_script_types.specs.Places.{ArePlaced};
 ghost use Rattle.dex_wallet.specs.CellState as wallet;
 ghost use Rattle.dex_wallet.specs.CellState.{IsWalletCell};
 ghost use Rattle.dex_wallet.specs.TokenAmount.{held_in};
@@ -116,7 +116,6 @@ pub(crate) fn opened(
 ) -> Result<Cells, NoMemory>
     requires start { (limits : Limits) × IsStart limits (accounts_of start) }
     requires places { ArePlaced (accounts_of start) (map row_of rows.now) places.now }
-    requires beside { AreBeside (map row_of rows.now) places.now }
     ensures { IfOk result (λ cells. cells ≡ first.opened_with (accounts_of start) (map row_of rows.now) program) }
 {
     let rooms = row_counts(alloc, &start, rows, places)?;

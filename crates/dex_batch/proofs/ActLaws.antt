@@ -11,7 +11,6 @@ use Rattle.dex_types.specs.Rows.{PlainRow, row_of}
 use Rattle.dex_world.specs.Fold.{fold}
 use Rattle.dex_world.specs.World.{World}
 use Rattle.dex_world.proofs.FoldLaws.{fold-append}
-use Rattle.dex_act.specs.Wallets.{wallet_places}
 use Rattle.dex_bank.specs.Cells.{CanAct, CellsState, world_of}
 use Rattle.dex_bank.specs.Places.{ArePlacesIn}
 use Rattle.dex_bank.specs.Stepped.{HasStepped}
@@ -84,7 +83,7 @@ module _ (rows : List Row) (place : ℕ) (row : Row) (within : place < length ro
   next-stands places before now can so at at_is =
       let there : ArePlacesIn before (row_of row) at =
       subst (ArePlacesIn before (row_of row)) (sym at_is) (subst (λ (r : PlainRow). ArePlacesIn before r (get_or places place at)) row-at (zip-at (ArePlacesIn before) all places can.placed place (row_of row) at inside)) in
-      stands-still before now can.their so.their so.kept (row_of row) at.market (wallet_places at) there
+      stands-still before now can.their so.their so.kept (row_of row) at there
 
   pub all-more : (before now after : CellsState) (reply : Reply) → HaveActed (take place all) (take place all) before now → HasStepped (row_of row) reply now after
       → HaveActed (take (place + 1) all) (take (place + 1) all) before after

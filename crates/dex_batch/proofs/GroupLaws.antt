@@ -1,17 +1,20 @@
 -- Groups: each row is of one, and acts on that alone.
 use Rattle.std.proofs.Common.{◌≡◌, ℕ, zero, suc, ◌<◌, Bool, true, false, ◌||◌, eqb, List, [], ◌∷◌, get_or, length, map, Option, None, Some, refl, sym, ap, ◌∙◌, arith}
-use Rattle.std.specs.List.{All, AllZip}
+use Rattle.std.specs.List.{All, AllZip, list_any}
 use Rattle.std.proofs.lemmas.Bool.{cond-false, cond-true, cond_both, false≢true}
-use Rattle.dex_world.proofs.Common.{Address, All-cons, All-map, All-nil, All-weaker, Market, MarketState, PlainRow, WalletState, World, acted, alone, fold, fold_items, get_or-map, is_role, is_same, is_same-refl, is_same-sym, is_same-true, length-map, markets_acted, market_acted, names-roles, seen_by}
+use Rattle.dex_world.proofs.Common.{Address, All-cons, All-head, All-map, All-nil, All-tail, All-weaker, Market, MarketState, PlainRow, WalletState, World, acted, alone, fold, fold_items, get_or-map, is_same, is_same-refl, is_same-sym, is_same-true, length-map, markets_acted, market_acted, seen_by}
 use Rattle.dex_world.specs.declared.places.RowPlaces.{RowPlaces}
 use Rattle.dex_types.specs.declared.rows.Seen.{Seen}
 use Rattle.dex_types.specs.declared.rows.WalletSeen.{WalletSeen}
+use Rattle.dex_types.specs.Wallets.{row_wallets}
+use Rattle.dex_world.specs.Places.{ArePlacesOf}
 use Rattle.dex_cell.specs.CellState.{MarketCellState}
 use Rattle.dex_wallet.specs.CellState.{CellState}
 use Rattle.dex_world.specs.Items.{Item}
 use Rattle.dex_world.proofs.MappedLists.{filter-of, map-map}
 use Rattle.dex_act.specs.Opened.{market_state_of}
-use Rattle.dex_act.specs.Wallets.{IsRoleAt, wallet_state_of}
+use Rattle.dex_act.specs.Wallets.{IsAt, cell_place, wallet_state_of}
+use Rattle.dex_act.proofs.InHand.{stands-at}
 use Rattle.dex_bank.specs.Cells.{CellsState, world_of}
 use Rattle.dex_bank.specs.Places.{ArePlacesIn}
 use Rattle.dex_parts.specs.Shards.{IsItemOfOneShard, IsOfOneShard, Sharding, rows_in, world_in}
@@ -136,16 +139,26 @@ module _ (bank : CellsState) (apart : AreDistinctCells bank) (of_markets of_wall
   many-wallets : length (wallet_addresses world.wallets) ≡ length bank.wallets
   many-wallets = length-map world.wallets (λ (state : WalletState). state.seen.address) ∙ length-map bank.wallets wallet_state_of
 
-  role-number : (number : ℕ) (role : Option Address) (place : ℕ) → IsRoleAt bank.wallets role place → IsWalletOf of_wallets number place
-      → (wallet : Address) → is_role role wallet ≡ true → groups.wallet wallet ≡ number
-  role-number number None place at of wallet is = absurd (false≢true is)
-  role-number number (Some address) place at of wallet is =
+  wallet-number : (number : ℕ) (wallet : Address) (place : ℕ) → cell_place wallet bank.wallets ≡ Some place → IsWalletOf of_wallets number place
+      → groups.wallet wallet ≡ number
+  wallet-number number wallet place is of =
+      let at : IsAt wallet bank.wallets place = stands-at wallet bank.wallets place is in
       let d : CellState = some-of bank.wallets place at.within in
-      let same : is_same wallet (get_or (wallet_addresses world.wallets) place address) ≡ true =
-      ap (λ (a : Address). is_same a (get_or (wallet_addresses world.wallets) place address)) (is_same-true wallet address is)
-      ∙ ap (is_same address) (at-wallet place d address at.within) ∙ at.here d in
-      number-there (wallet_addresses world.wallets) of_wallets wallet place 0 address apart.wallets (omega (arith, at.within, many-wallets)) (wallets_long ∙ sym many-wallets) same
+      number-there (wallet_addresses world.wallets) of_wallets wallet place 0 wallet apart.wallets (omega (arith, at.within, many-wallets)) (wallets_long ∙ sym many-wallets)
+      (ap (is_same wallet) (at-wallet place d wallet at.within) ∙ at.here d)
       ∙ of 0 (omega (arith, at.within, wallets_long))
+
+  wallets-number : (number : ℕ) (addresses : List Address) (places : List ℕ) → ArePlacesOf (λ (a : Address). cell_place a bank.wallets) addresses places
+      → All (IsWalletOf of_wallets number) places → (wallet : Address) → list_any (is_same wallet) addresses ≡ true → groups.wallet wallet ≡ number
+  wallets-number number [] places at of wallet among = absurd (false≢true among)
+  wallets-number number (first ∷ others) [] at of wallet among = absurd at
+  wallets-number number (first ∷ others) (place ∷ places) at of wallet among =
+      either (is_same wallet first) (list_any (is_same wallet) others)
+      (λ same.
+      wallet-number number wallet place (ap (λ (a : Address). cell_place a bank.wallets) (is_same-true wallet first same) ∙ at.0)
+      (All-head (IsWalletOf of_wallets number) place places of))
+      (λ behind. wallets-number number others places at.1 (All-tail (IsWalletOf of_wallets number) place places of) wallet behind)
+      among
 
   -- a row's market is of its group, and so are its wallets
   abbrev pub IsRowOf : ℕ → PlainRow → Type 0
@@ -154,7 +167,7 @@ module _ (bank : CellsState) (apart : AreDistinctCells bank) (of_markets of_wall
   row-of : (row : PlainRow) (places : RowPlaces) (number : ℕ) → ArePlacesIn bank row places → IsOfGroup of_markets of_wallets places number → IsRowOf number row
   row-of row places number at of = (
     market,
-    (λ wallet named. wallets wallet (sym (names-roles row wallet) ∙ named) ∙ sym market),
+    (λ wallet named. wallets-number number (row_wallets row) places.wallets.places at.wallets.places of.wallets wallet named ∙ sym market),
   )
     where
       market : groups.market row.market ≡ number
@@ -163,14 +176,6 @@ module _ (bank : CellsState) (apart : AreDistinctCells bank) (of_markets of_wall
           number-there (market_addresses world.markets) of_markets row.market places.market 0 row.market apart.markets (omega (arith, at.market.within, many-markets))
           (markets_long ∙ sym many-markets) (ap (is_same row.market) (at-market places.market d row.market at.market.within) ∙ at.market.here d)
           ∙ of.market 0
-
-      wallets : (wallet : Address) → (is_role row.coin wallet || (is_role row.pc wallet || (is_role row.discount wallet || (is_role row.referrer wallet || false)))) ≡ true
-          → groups.wallet wallet ≡ number
-      wallets wallet =
-          either (is_role row.coin wallet) _ (role-number number row.coin places.coin at.wallets.coin of.coin wallet)
-          (either (is_role row.pc wallet) _ (role-number number row.pc places.pc at.wallets.pc of.pc wallet)
-          (either (is_role row.discount wallet) _ (role-number number row.discount places.discount at.wallets.discount of.discount wallet)
-          (either (is_role row.referrer wallet) false (role-number number row.referrer places.referrer at.wallets.referrer of.referrer wallet) (λ is. absurd (false≢true is)))))
 
   pub rows-of : (rows : List PlainRow) (places : List RowPlaces) (numbers : List ℕ) → AllZip (ArePlacesIn bank) rows places
       → AllZip (IsOfGroup of_markets of_wallets) places numbers → AllZip IsRowOf numbers rows

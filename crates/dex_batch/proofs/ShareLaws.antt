@@ -15,7 +15,7 @@ use Rattle.dex_bank.specs.Cells.{AreCells, CellsState, is_market, opened_of, wor
 use Rattle.dex_bank.proofs.Stands.{its-address}
 use Rattle.dex_bank.proofs.StepWorld.{among-opened, opened_market}
 use Rattle.dex_parts.specs.Shards.{IsOfOneShard, Sharding, rows_in, world_in}
-use Rattle.dex_act.specs.declared.sight.Terms.{Terms}
+use Rattle.dex_act.specs.Steps.{Terms}
 use Rattle.dex_bank.specs.CellsInside.{terms_of}
 use Rattle.dex_batch.specs.Acting.{CanAllAct, HaveActed, IsHere}
 use Rattle.dex_batch.specs.Groups.{IsOfGroup}

@@ -5,7 +5,7 @@ use Rattle.dex_types.specs.Rows.{PlainRow}
 use Rattle.dex_cell.specs.CellState.{MarketCellState}
 use Rattle.dex_wallet.specs.CellState.{CellState}
 use Rattle.dex_bank.specs.Cells.{CellsState}
-use Rattle.dex_act.specs.declared.sight.Terms.{Terms}
+use Rattle.dex_act.specs.Steps.{Terms}
 use Rattle.dex_batch.specs.Acting.{HaveActed, HaveTheirAddress, IsHere}
 use Rattle.dex_batch.specs.Parts.{part}
 use Rattle.dex_batch.specs.Rooms.{HasRoom}

@@ -1,7 +1,7 @@
 //! Groups of rows, markets and wallets: no row of one names a market or a wallet of another.
 
 ghost use Rattle.std.specs.Prelude.{◌≡◌, ◌<◌, All, IfOk, IfSome, IsTrue, length};
-ghost use Rattle.std.specs.List.{AllZip};
+ghost use Rattle.std.specs.List.{All as Each, AllZip};
 ghost use Rattle.dex_batch.specs.Groups.{AreGroups, IsOfGroup, IsWalletOf};
 
 use crate::links::Links;
@@ -54,11 +54,7 @@ impl Groups {
         ensures { IfSome result (IsOfGroup self.now.markets.items self.now.wallets.items places.now) }
     {
         let number = self.markets.get(places.market as usize).copied()?;
-        if is_of(&self.wallets, places.coin, number)
-            && is_of(&self.wallets, places.pc, number)
-            && is_of(&self.wallets, places.discount, number)
-            && is_of(&self.wallets, places.referrer, number)
-        {
+        if are_of(&self.wallets, &places.wallets.places, number) {
             Some(number)
         } else {
             None
@@ -94,6 +90,13 @@ fn is_of(numbers: &[usize], place: u16, number: usize) -> bool
         Some(own) => *own == number,
         None => true,
     }
+}
+
+/// Whether the wallets at these places are of this group, as far as some stand there.
+fn are_of(numbers: &[usize], places: &[u16; 4], number: usize) -> bool
+    ensures { IsTrue result → Each (IsWalletOf numbers.now number) places.now }
+{
+    places.iter().all(|place| is_of(numbers, *place, number))
 }
 
 /// How many rows the largest component has.

@@ -51,10 +51,9 @@ impl Links {
         if let Some(rows) = self.rows.get_mut(market) {
             *rows = usize::saturating_add(*rows, 1);
         }
-        self.link(market, row.coin);
-        self.link(market, row.pc);
-        self.link(market, row.discount);
-        self.link(market, row.referrer);
+        for wallet in row.wallets.places.iter() {
+            self.link(market, *wallet);
+        }
     }
 
     // A row on a market names a wallet.

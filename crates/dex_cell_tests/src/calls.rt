@@ -6,7 +6,6 @@ ghost use Rattle.dex_accounts.specs.Parts.{HasOpen, parts_of};
 ghost use Rattle.dex_cancel.specs.Parts.{AreOfSoundMarket};
 ghost use Rattle.dex_crank.specs.PaidBytes.{crank_bytes};
 ghost use Rattle.dex_crank.specs.Parts as crank;
-ghost use Rattle.dex_plan.specs.Given.{bytes_on};
 ghost use Rattle.dex_market.specs.MarketAccount.{IsMarket, market_words, sizes_of};
 ghost use Rattle.dex_ring.specs.Ring.{IsEventQueue};
 ghost use Rattle.dex_slab.specs.Slab.{IsSlab, resting};
@@ -17,13 +16,11 @@ ghost use Rattle.std.specs.Prelude.{◌≡◌, IfSome};
 use dex_accounts::find_bytes;
 use dex_cancel::{CancelWhat, apply_cancel, decide_cancel};
 use dex_crank::consume;
-use dex_market::{MarketRef, RequestRef};
-use dex_match::{OrderPlan, Taker, decide_order};
-use dex_orders::{OrdersRef, OrdersState, check_orders, state_of};
-use dex_ring::{RingRef, RingView};
-use dex_slab::{SlabRef, SlabView};
-use dex_take::{TakePlan, decide_take};
-use dex_types::{Address, Lots, MarketAccounts, OrdersAccount, Refusal, Seen, Side};
+use dex_market::MarketRef;
+use dex_orders::{OrdersState, check_orders, state_of};
+use dex_ring::RingView;
+use dex_slab::SlabView;
+use dex_types::{Address, Lots, MarketAccounts, OrdersAccount, Refusal, Side};
 
 /// The bytes of the account of an address, where it is open.
 pub(crate) fn open_at(accounts: &MarketAccounts, owner: Address) -> Option<&[u8]>
@@ -35,83 +32,6 @@ pub(crate) fn open_at(accounts: &MarketAccounts, owner: Address) -> Option<&[u8]
     } else {
         None
     }
-}
-
-/// A side of the book, for reading.
-fn side_of(accounts: &MarketAccounts, side: Side) -> SlabRef<'_>
-    requires { AreSound (market_accounts_of accounts.now) }
-    ensures bytes { result.bytes.now ≡ bytes_on side (market_accounts_of accounts.now) }
-    ensures side { result.side ≡ side }
-    ensures slab { IsSlab result.bytes.now }
-{
-    match side {
-        Side::Bid => SlabRef {
-            bytes: &accounts.bids,
-            side,
-        },
-        Side::Ask => SlabRef {
-            bytes: &accounts.asks,
-            side,
-        },
-    }
-}
-
-/// What a new order of the open account with these bytes does, or why it is refused.
-fn order_by(
-    accounts: &MarketAccounts,
-    held: &[u8],
-    taker: &Taker,
-    balance: u64,
-) -> Result<OrderPlan, Refusal>
-    requires sound { AreSound (market_accounts_of accounts.now) }
-    requires open { HasOpen taker.now.account held.now (parts_of (market_accounts_of accounts.now)) }
-{
-    let market = MarketRef {
-        bytes: &accounts.market,
-    };
-    let requests = RequestRef {
-        bytes: &accounts.requests,
-    };
-    let ring = RingRef {
-        bytes: &accounts.events,
-    };
-    let orders = OrdersRef { bytes: held };
-    let own = side_of(accounts, taker.id_side);
-    let opposite = side_of(accounts, taker.id_side.opposite());
-    decide_order(
-        &market, &requests, &own, &opposite, &ring, &orders, taker, balance,
-    )
-}
-
-/// What a new order does, or why it is refused; none where its account is not open.
-pub(crate) fn order(
-    accounts: &MarketAccounts,
-    taker: &Taker,
-    balance: u64,
-) -> Option<Result<OrderPlan, Refusal>>
-    requires { AreSound (market_accounts_of accounts.now) }
-{
-    let held = open_at(accounts, taker.account)?;
-    Some(order_by(accounts, held, taker, balance))
-}
-
-/// What a take does, or why it is refused.
-pub(crate) fn take(
-    accounts: &MarketAccounts,
-    taker: &Taker,
-    min_lots: u64,
-    seen: &Seen,
-) -> Result<TakePlan, Refusal>
-    requires { AreSound (market_accounts_of accounts.now) }
-{
-    let market = MarketRef {
-        bytes: &accounts.market,
-    };
-    let ring = RingRef {
-        bytes: &accounts.events,
-    };
-    let opposite = side_of(accounts, taker.id_side.opposite());
-    decide_take(&market, &opposite, &ring, taker, min_lots, 0, seen)
 }
 
 /// The lot sizes of a market.

@@ -1,6 +1,7 @@
 //! Public calls of the step crates by their own names, beside what rows come to.
 
-use crate::calls::{cancel, crank, order, take};
+use crate::calls::{cancel, crank};
+use crate::doing::{order, take};
 use crate::exchange::Exchange;
 use crate::making::labelled;
 use dex_cancel::CancelWhat;
@@ -57,9 +58,22 @@ pub(crate) fn taker(account: Address, id_side: Side, price: u64) -> Taker {
     }
 }
 
+/// What is decided of an order on the accounts behind the rows; none where its account is not open.
+fn decided(
+    alloc: Global,
+    taker: &Taker,
+    balance: u64,
+) -> Result<Option<Result<OrderPlan, Refusal>>, Fail> {
+    let mut accounts = opened(alloc)?.into_accounts();
+    match order(alloc, &mut accounts, taker, balance)? {
+        Some((Ok((plan, _)), _)) => Ok(Some(Ok(plan))),
+        Some((Err(why), _)) => Ok(Some(Err(why))),
+        None => Ok(None),
+    }
+}
+
 #[test]
 fn a_bid_is_decided(rt: HostRuntime) -> Result<(), Fail> {
-    let accounts = opened(rt.alloc())?.into_accounts();
     let bid = taker(ben(), Side::Bid, 50);
     let plan = OrderPlan {
         deposit: 504,
@@ -75,8 +89,8 @@ fn a_bid_is_decided(rt: HostRuntime) -> Result<(), Fail> {
         needed: 504,
         balance: 503,
     };
-    assert!(rt; order(&accounts, &bid, 504) == Some(Ok(plan)));
-    assert!(rt; order(&accounts, &bid, 503) == Some(Err(short)));
+    assert!(rt; decided(rt.alloc(), &bid, 504)? == Some(Ok(plan)));
+    assert!(rt; decided(rt.alloc(), &bid, 503)? == Some(Err(short)));
     let mut exchange = opened(rt.alloc())?;
     let line = exchange.run(b"do,1,m,bob,ben,-,bob_usd,-,-,new bid 50 1 1000 abort limit 11 10")?;
     let told = "1 15 ok order 940783947759187132412 2 1 500 2 0 bob_usd debit 504 2200\n";
@@ -86,7 +100,6 @@ fn a_bid_is_decided(rt: HostRuntime) -> Result<(), Fail> {
 
 #[test]
 fn an_ask_is_decided(rt: HostRuntime) -> Result<(), Fail> {
-    let accounts = opened(rt.alloc())?.into_accounts();
     let ask = taker(amy(), Side::Ask, 40);
     let plan = OrderPlan {
         deposit: 100,
@@ -100,8 +113,8 @@ fn an_ask_is_decided(rt: HostRuntime) -> Result<(), Fail> {
     };
     let own = taker(amy(), Side::Bid, 50);
     let refused = Refusal::WouldSelfTrade { order: ASK };
-    assert!(rt; order(&accounts, &ask, 600) == Some(Ok(plan)));
-    assert!(rt; order(&accounts, &own, 5000) == Some(Err(refused)));
+    assert!(rt; decided(rt.alloc(), &ask, 600)? == Some(Ok(plan)));
+    assert!(rt; decided(rt.alloc(), &own, 5000)? == Some(Err(refused)));
     let mut exchange = opened(rt.alloc())?;
     let line = exchange.run(b"do,0,m,ann,amy,ann_coin,-,-,-,new ask 40 1 1000 abort limit 11 10")?;
     let told = "0 15 ok order 737869762948382064643 1 1 400 1 0 ann_coin debit 100 600\n";
@@ -132,9 +145,21 @@ pub(crate) fn seen(balance: u64) -> Seen {
     }
 }
 
+/// What is decided of a take with a least fill of so many lots, on the accounts behind the rows.
+fn decided_take(
+    alloc: Global,
+    taker: &Taker,
+    min_lots: u64,
+) -> Result<Result<TakePlan, Refusal>, Fail> {
+    let mut accounts = opened(alloc)?.into_accounts();
+    match take(&mut accounts, taker, min_lots, &seen(502)) {
+        Ok((plan, _)) => Ok(Ok(plan)),
+        Err(why) => Ok(Err(why)),
+    }
+}
+
 #[test]
 fn a_take_is_decided(rt: HostRuntime) -> Result<(), Fail> {
-    let accounts = opened(rt.alloc())?.into_accounts();
     let bid = taker(ben(), Side::Bid, 50);
     let plan = TakePlan {
         deposit: 502,
@@ -144,8 +169,8 @@ fn a_take_is_decided(rt: HostRuntime) -> Result<(), Fail> {
         fee: 2,
     };
     let few = Refusal::BelowMinimum { got: 1 };
-    assert!(rt; take(&accounts, &bid, 1, &seen(502)) == Ok(plan));
-    assert!(rt; take(&accounts, &bid, 2, &seen(502)) == Err(few));
+    assert!(rt; decided_take(rt.alloc(), &bid, 1)? == Ok(plan));
+    assert!(rt; decided_take(rt.alloc(), &bid, 2)? == Err(few));
     let mut exchange = opened(rt.alloc())?;
     let line = exchange.run(b"do,1,m,bob,-,bob_coin,bob_usd,-,-,take bid 50 1 1000 1 0 10")?;
     let told = "1 15 ok take 1 500 2 bob_coin credit 100 0 bob_usd debit 502 2200\n";

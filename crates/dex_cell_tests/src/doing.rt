@@ -25,7 +25,7 @@ use dex_settle::{
     decide_init, decide_settle, decide_sweep,
 };
 use dex_slab::{SlabRef, SlabView};
-use dex_take::{apply_take, decide_take};
+use dex_take::{TakePlan, apply_take, decide_take};
 use dex_types::{Address, MarketAccounts, Refusal, Reply, Seen, Side, WalletSeen};
 use std::alloc::Global;
 use std::test::Fail;
@@ -65,7 +65,7 @@ fn order_plan(
     )
 }
 
-/// A new order is decided and done.
+/// A new order is decided and done: the plan, and the reply.
 fn order_on(
     taker: &Taker,
     balance: u64,
@@ -75,7 +75,7 @@ fn order_on(
     account: &mut [u8],
     own: &mut [u8],
     opposite: &mut [u8],
-) -> Result<Reply, Refusal>
+) -> Result<(OrderPlan, Reply), Refusal>
     requires price { 1 ≤ taker.now.price }
     requires own { IsSlab own.old }
     requires opposite { IsSlab opposite.old }
@@ -86,7 +86,7 @@ fn order_on(
     let plan = order_plan(
         taker, balance, market, requests, events, account, own, opposite,
     )?;
-    Ok(apply_order(
+    let reply = apply_order(
         &plan,
         taker,
         &mut MarketView { bytes: market },
@@ -98,7 +98,8 @@ fn order_on(
         },
         &mut RingView { bytes: events },
         &mut OrdersView { bytes: account },
-    ))
+    );
+    Ok((plan, reply))
 }
 
 /// Does an order on the accounts of a market, and on a copy of the account that it is of.
@@ -107,7 +108,7 @@ fn order_among(
     held: &mut [u8],
     taker: &Taker,
     balance: u64,
-) -> Result<Reply, Refusal>
+) -> Result<(OrderPlan, Reply), Refusal>
     requires sound { AreSound (market_accounts_of accounts.old) }
     requires open { HasOpen taker.now.account held.old (market_parts (market_accounts_of accounts.old)) }
     requires price { 1 ≤ taker.now.price }
@@ -129,13 +130,14 @@ fn order_among(
 /// The bytes of an account that changed, beside what was answered.
 type Told<T> = (Result<T, Refusal>, Vec<u8>);
 
-/// A new order is decided and done: what it is answered, and its account's bytes; none where its account is not open.
+/// A new order is decided and done: its plan and reply, or why it is refused, and its account's bytes; none where its
+/// account is not open.
 pub(crate) fn order(
     alloc: Global,
     accounts: &mut MarketAccounts,
     taker: &Taker,
     balance: u64,
-) -> Result<Option<Told<Reply>>, Fail>
+) -> Result<Option<Told<(OrderPlan, Reply)>>, Fail>
     requires { AreSound (market_accounts_of accounts.old) }
 {
     let Some(open) = open_at(accounts, taker.account) else {
@@ -149,14 +151,15 @@ pub(crate) fn order(
     Ok(Some((told, held)))
 }
 
-/// A take is decided and done, with a least fill of one lot.
+/// A take is decided, with a least fill of so many lots, and done: the plan, and the reply.
 fn take_on(
     taker: &Taker,
+    min_lots: u64,
     seen: &Seen,
     market: &mut [u8],
     events: &mut [u8],
     opposite: &mut [u8],
-) -> Result<Reply, Refusal>
+) -> Result<(TakePlan, Reply), Refusal>
     requires opposite { IsSlab opposite.old }
     requires parts { taking.IsOfSound taker.now.id_side
         (taking.given market.old events.old (resting (book.opposite taker.now.id_side) opposite.old)) }
@@ -170,11 +173,11 @@ fn take_on(
         },
         &RingRef { bytes: events },
         taker,
-        1,
+        min_lots,
         0,
         seen,
     )?;
-    Ok(apply_take(
+    let reply = apply_take(
         &plan,
         taker,
         &mut MarketView { bytes: market },
@@ -183,15 +186,17 @@ fn take_on(
             side,
         },
         &mut RingView { bytes: events },
-    ))
+    );
+    Ok((plan, reply))
 }
 
-/// A take is decided and done: what it is answered.
+/// A take is decided, with a least fill of so many lots, and done: its plan and reply, or why it is refused.
 pub(crate) fn take(
     accounts: &mut MarketAccounts,
     taker: &Taker,
+    min_lots: u64,
     seen: &Seen,
-) -> Result<Reply, Refusal>
+) -> Result<(TakePlan, Reply), Refusal>
     requires { AreSound (market_accounts_of accounts.old) }
 {
     let MarketAccounts {
@@ -202,8 +207,8 @@ pub(crate) fn take(
         ..
     } = accounts;
     match taker.id_side {
-        Side::Bid => take_on(taker, seen, market, events, asks),
-        Side::Ask => take_on(taker, seen, market, events, bids),
+        Side::Bid => take_on(taker, min_lots, seen, market, events, asks),
+        Side::Ask => take_on(taker, min_lots, seen, market, events, bids),
     }
 }
 

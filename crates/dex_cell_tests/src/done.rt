@@ -35,10 +35,10 @@ fn a_bid_is_done(rt: HostRuntime) -> Result<(), Fail> {
         fee: 2,
         rested: 0,
     };
-    let Some((told, held)) = order(rt.alloc(), &mut accounts, &bid, 504)? else {
-        return Err(Fail::new("no account"));
+    let Some((Ok((_, told)), held)) = order(rt.alloc(), &mut accounts, &bid, 504)? else {
+        return Err(Fail::new("no order"));
     };
-    assert!(rt; told == Ok(reply));
+    assert!(rt; told == reply);
     let mut exchange = opened(rt.alloc())?;
     exchange.run(b"do,1,m,bob,ben,-,bob_usd,-,-,new bid 50 1 1000 abort limit 11 10")?;
     let left = exchange.cell.accounts();
@@ -57,8 +57,10 @@ fn a_take_is_done(rt: HostRuntime) -> Result<(), Fail> {
         pc: 500,
         fee: 2,
     };
-    let told = take(&mut accounts, &taker(ben(), Side::Bid, 50), &seen(502));
-    assert!(rt; told == Ok(reply));
+    let Ok((_, told)) = take(&mut accounts, &taker(ben(), Side::Bid, 50), 1, &seen(502)) else {
+        return Err(Fail::new("no take"));
+    };
+    assert!(rt; told == reply);
     let mut exchange = opened(rt.alloc())?;
     exchange.run(b"do,1,m,bob,-,bob_coin,bob_usd,-,-,take bid 50 1 1000 1 0 10")?;
     let left = exchange.cell.accounts();

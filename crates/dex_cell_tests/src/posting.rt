@@ -40,14 +40,14 @@ fn post(side: &mut ListSide, order: Order) -> Option<u64>
 #[test]
 fn the_last_order_leaves_a_full_side(rt: HostRuntime) -> Result<(), Fail> {
     let mut bids = ListSide::with_room(rt.alloc(), Side::Bid, 2)?;
-    assert_eq!(rt; post(&mut bids, order(50, 1)), None);
-    assert_eq!(rt; post(&mut bids, order(40, 2)), None);
-    assert_eq!(rt; post(&mut bids, order(30, 3)), Some(2));
-    assert_eq!(rt; bids.best().map(|order| order.client), Some(1));
-    assert_eq!(rt; bids.worst().map(|order| order.client), Some(3));
+    assert!(rt; post(&mut bids, order(50, 1)) == None);
+    assert!(rt; post(&mut bids, order(40, 2)) == None);
+    assert!(rt; post(&mut bids, order(30, 3)) == Some(2));
+    assert!(rt; bids.best().map(|order| order.client) == Some(1));
+    assert!(rt; bids.worst().map(|order| order.client) == Some(3));
     let mut one = ListSide::with_room(rt.alloc(), Side::Bid, 1)?;
-    assert_eq!(rt; post(&mut one, order(50, 1)), None);
-    assert_eq!(rt; post(&mut one, order(60, 2)), Some(1));
-    assert_eq!(rt; one.best().map(|order| order.client), Some(2));
+    assert!(rt; post(&mut one, order(50, 1)) == None);
+    assert!(rt; post(&mut one, order(60, 2)) == Some(1));
+    assert!(rt; one.best().map(|order| order.client) == Some(2));
     Ok(())
 }

@@ -25,7 +25,7 @@ fn cell(rt: &impl Abort, alloc: Global) -> Result<(WalletCell, Parcel), Fail> {
     check_wallet(&bytes)?;
     let wallet = WalletRef { bytes: &bytes };
     let (mint, amount) = (wallet.mint(), wallet.amount());
-    assert_eq!(rt; amount, 400);
+    assert!(rt; amount == 400);
     let (first, rest) = Parcel::of_supply(mint, 1000).split(amount);
     match WalletCell::new(alloc, Address([4; 32]), bytes, first, 2) {
         Ok(cell) => Ok((cell, rest)),
@@ -59,14 +59,14 @@ fn amounts_move_as_parcels(rt: HostRuntime) -> Result<(), Fail> {
     assert!(rt; back.mint() == cell.seen().mint);
     assert!(rt; cell.seen().balance == 250);
     cell.credit(MARKET, 3, 8, back);
-    assert_eq!(rt; cell.seen().balance, 300);
-    assert_eq!(rt; cell.spare(), 0);
+    assert!(rt; cell.seen().balance == 300);
+    assert!(rt; cell.spare() == 0);
     let entries = [
         moved(7, MoveKind::Debit, 150, 400),
         moved(8, MoveKind::Credit, 50, 250),
     ];
-    assert_eq!(rt; cell.entries(), entries.as_slice());
-    assert_eq!(rt; (kept.amount(), rest.amount()), (100, 600));
+    assert!(rt; cell.entries() == entries.as_slice());
+    assert!(rt; (kept.amount(), rest.amount()) == (100, 600));
     kept.give_up();
     rest.give_up();
     Ok(())

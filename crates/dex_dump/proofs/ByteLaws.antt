@@ -26,10 +26,10 @@ bytes-append [] b ha hb i = hb i
 bytes-append (x ∷ a) b ha hb zero = ha 0
 bytes-append (x ∷ a) b ha hb (suc i) = bytes-append a b (λ k. ha (suc k)) hb i
 
-bytes-take : (count : ℕ) (a : List ℕ) → IsBytes a → IsBytes (take count a)
+pub bytes-take : (count : ℕ) (a : List ℕ) → IsBytes a → IsBytes (take count a)
 bytes-take count a h = front_bytes (take count a) (drop count a) (subst IsBytes (sym (take-append-drop count a)) h)
 
-bytes-drop : (count : ℕ) (a : List ℕ) → IsBytes a → IsBytes (drop count a)
+pub bytes-drop : (count : ℕ) (a : List ℕ) → IsBytes a → IsBytes (drop count a)
 bytes-drop count a h = λ i. rw (get_or-drop count a i 0) (h (count + i))
 
 three : (a b c : ℕ) → a < 256 → b < 256 → c < 256 → IsBytes (a ∷ b ∷ c ∷ [])

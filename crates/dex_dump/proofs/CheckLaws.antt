@@ -33,7 +33,7 @@ use Rattle.dex_token.specs.Faults.{token_fault, wallet_fault}
 use Rattle.dex_token.specs.TokenAccount.{IsWallet, wallet_words}
 use Rattle.dex_token.proofs.TokenRules.{wallet_from_none}
 use Rattle.dex_state.specs.Accepted.{IsMintOf}
-use Rattle.dex_dump.specs.Checks.{address_rule, comes_before, declared_rule, lower, market_others, market_rule, orders_others, orders_rule, parts_rule, side_flags_rule, side_rule, side_size_rule, taken_rule, text_rule, token_differs, vault_others, vault_rule, wallet_others, wallet_rule, with_others, word_differs}
+use Rattle.dex_dump.specs.Checks.{address_rule, comes_before, declared_rule, lower, market_others, market_rule, orders_others, orders_rule, own_rule, parts_rule, side_flags_rule, side_rule, side_size_rule, taken_rule, text_rule, token_differs, vault_others, vault_rule, wallet_others, wallet_rule, with_others, word_differs}
 use Rattle.dex_state.specs.Addresses.{is_mint}
 use Rattle.dex_dump.specs.Reading.{PlainReading, is_among}
 
@@ -182,3 +182,13 @@ market_held reading address bytes size h =
       bids = free_held reading.taken bytes BIDS bids.1;
       asks = free_held reading.taken bytes ASKS asks.1;
     }
+
+-- a market account by itself and by its own address
+pub own_held : (address : Address) (bytes : List ℕ) → length address.0 ≡ 32 → own_rule address bytes ≡ None
+    → IsMarket bytes × ((market_words bytes).terms.own_address ≡ address)
+unfolding own_rule
+own_held address bytes size h =
+    let both = with_none bytes 388 (market_fault bytes) (address_rule bytes OWN_ADDRESS address) h in
+    let is = market_from_none bytes both.0 in
+    let none = mapped_none word_differs (difference_from OWN_ADDRESS.at (bytes_in bytes OWN_ADDRESS) address.0) (both.1 is.size) in
+    (is, address_held bytes OWN_ADDRESS address (omega (arith, is.size)) refl size none)

@@ -20,3 +20,4 @@ pub mod PassLaws
 pub mod OneAnswer
 pub mod BackLaws
 pub mod WholeLaws
+pub mod AloneLaws

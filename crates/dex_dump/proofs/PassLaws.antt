@@ -18,7 +18,7 @@ use Rattle.dex_types.specs.declared.terms.Side.{Side}
 use Rattle.dex_types.specs.AccountFaults.{text_fault}
 use Rattle.dex_types.specs.Accounts.{PlainAccounts}
 use Rattle.dex_market.specs.Faults.{address_fault, market_fault}
-use Rattle.dex_market.specs.MarketAccount.{address_in}
+use Rattle.dex_market.specs.MarketAccount.{IsMarket, address_in, market_words}
 use Rattle.dex_market.proofs.Verdicts.{none_from_market}
 use Rattle.dex_orders.specs.Faults.{are_zeros, orders_fault}
 use Rattle.dex_orders.specs.OrdersAccount.{IsOpened, IsOrders, market_of}
@@ -30,7 +30,7 @@ use Rattle.dex_token.specs.Faults.{token_fault, wallet_fault}
 use Rattle.dex_token.specs.TokenAccount.{IsWallet, wallet_words}
 use Rattle.dex_token.proofs.TokenRules.{none_from_wallet}
 use Rattle.dex_state.specs.Accepted.{IsMintOf}
-use Rattle.dex_dump.specs.Checks.{address_rule, declared_rule, lower, market_others, market_rule, orders_others, orders_rule, parts_rule, side_flags_rule, side_rule, side_size_rule, taken_rule, text_rule, token_differs, vault_others, vault_rule, wallet_others, wallet_rule, with_others, word_differs}
+use Rattle.dex_dump.specs.Checks.{address_rule, declared_rule, lower, market_others, market_rule, orders_others, orders_rule, own_rule, parts_rule, side_flags_rule, side_rule, side_size_rule, taken_rule, text_rule, token_differs, vault_others, vault_rule, wallet_others, wallet_rule, with_others, word_differs}
 use Rattle.dex_state.specs.Addresses.{is_mint}
 use Rattle.dex_dump.specs.Reading.{PlainReading, is_among}
 use Rattle.dex_dump.proofs.CheckLaws.{IsFree, IsMarketHere}
@@ -128,3 +128,9 @@ market_passes reading address bytes here =
     none_with bytes 388 (market_fault bytes) _ (none_from_market bytes here.market)
     (none_or _ _ (none_or _ _ (none_or _ _ own coin_mint) pc_mint)
     (none_or _ _ (none_or _ _ (none_or _ _ (none_or _ _ (none_or _ _ coin_vault pc_vault) requests) events) bids) asks))
+
+pub own_passes : (address : Address) (bytes : List ℕ) → IsMarket bytes → (market_words bytes).terms.own_address ≡ address → own_rule address bytes ≡ None
+unfolding own_rule
+own_passes address bytes is same =
+    none_with bytes 388 (market_fault bytes) (address_rule bytes OWN_ADDRESS address) (none_from_market bytes is)
+    (ap (option_map word_differs) (address_same bytes OWN_ADDRESS address OWN_ADDRESS.at same))

@@ -1,5 +1,5 @@
 -- What is checked of the accounts of a row, in their order, and which fault tells that a check fails.
-use Rattle.std.specs.Prelude.{◌≡◌, ℕ, Bool, ◌&&◌, ◌||◌, ◌==◌, ◌⊎◌, nat_lt, if◌then◌else◌, List, [], ◌∷◌, ◌++◌, length, slice_index, Option, Some, None}
+use Rattle.std.specs.Prelude.{◌≡◌, ℕ, Bool, ◌&&◌, ◌||◌, ◌==◌, ◌⊎◌, nat_lt, if◌then◌else◌, List, [], ◌∷◌, ◌++◌, length, map, slice_index, Option, Some, None}
 use Rattle.std.specs.Option.{option_map, option_or}
 use Rattle.dex_fields.specs.declared.field.Field.{Field}
 use Rattle.dex_fields.specs.declared.frame.Difference.{Difference}
@@ -14,7 +14,7 @@ use Rattle.dex_types.specs.declared.faults.AccountFault.{AccountFault}
 use Rattle.dex_types.specs.declared.terms.Side.{Side}
 use Rattle.dex_types.specs.declared.terms.Side.TheVariants.{Bid, Ask}
 use Rattle.dex_types.specs.AccountFaults.{flags_fault, size_fault, text_fault, word_fault}
-use Rattle.dex_types.specs.Accounts.{PlainAccounts, PlainMarketAccounts}
+use Rattle.dex_types.specs.Accounts.{PlainAccount, PlainAccounts, PlainMarketAccounts}
 use Rattle.dex_market.specs.Faults.{address_fault, market_fault, requests_fault}
 use Rattle.dex_market.specs.MarketAccount.{MarketTerms, address_in, market_terms}
 use Rattle.dex_token.specs.Faults.{mint_fault, token_fault, wallet_fault}
@@ -183,6 +183,22 @@ checks reading (Market market) =
     by_rules market.address (market_rule reading market.address market.market) ∷ part_checks (market_terms market.market) market
 checks reading (Orders market account) = by_rules account.address (orders_rule market account.bytes) ∷ []
 checks reading _ = []
+
+-- ---- the checks of a market's accounts, whatever other accounts there are
+
+-- a market account, by itself and by its own address
+unfoldable pub own_rule : Address → List ℕ → Option AccountFault
+own_rule address bytes = with_others bytes 388 (market_fault bytes) (address_rule bytes OWN_ADDRESS address)
+
+-- the check of one of its open-orders accounts
+abbrev pub orders_check : Address → PlainAccount → AccountCheck
+orders_check market account = by_rules account.address (orders_rule market account.bytes)
+
+-- the checks of all its accounts, in their order
+abbrev pub market_checks : PlainMarketAccounts → List AccountCheck
+market_checks accounts =
+    by_rules accounts.address (own_rule accounts.address accounts.market)
+    ∷ (part_checks (market_terms accounts.market) accounts ++ map (orders_check accounts.address) accounts.orders)
 
 -- ---- what holds and what fails
 

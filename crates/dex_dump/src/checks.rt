@@ -69,7 +69,10 @@ fn by_slab(account: Address, bytes: &[u8], side: Side) -> Result<(), Failed>
 }
 
 /// The lower of two faults of one account, by their kinds and then by their places.
-fn lower(fault: Option<AccountFault>, other: Option<AccountFault>) -> Option<AccountFault>
+pub(crate) fn lower(
+    fault: Option<AccountFault>,
+    other: Option<AccountFault>,
+) -> Option<AccountFault>
     ensures { result ≡ spec.lower fault other }
 {
     match (fault, other) {
@@ -119,7 +122,7 @@ fn difference(bytes: &[u8], field: Field, wanted: Address) -> Option<Difference>
     None
 }
 
-fn address_rule(bytes: &[u8], field: Field, wanted: Address) -> Option<AccountFault>
+pub(crate) fn address_rule(bytes: &[u8], field: Field, wanted: Address) -> Option<AccountFault>
     requires within { IsWithin field bytes.now }
     requires wide { field.len ≡ 32 }
     requires low { field.at < 4096 }

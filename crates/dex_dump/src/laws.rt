@@ -1,13 +1,15 @@
 //! Laws of dumps. A law is a function without a body, and its clause is the law.
 
-ghost use Rattle.std.specs.Prelude.{◌≡◌, ℕ, List, ◌++◌, Ok};
-ghost use Rattle.dex_types.specs.Accounts.{PlainAccounts};
+ghost use Rattle.std.specs.Prelude.{◌≡◌, ◌↔◌, ℕ, List, ◌++◌, Ok, length};
+ghost use Rattle.dex_types.specs.Accounts.{PlainAccounts, PlainMarketAccounts};
+ghost use Rattle.dex_accounts.specs.Accepted.{IsAccepted};
 ghost use Rattle.dex_dump_rows.specs.Lines.{Fields};
 ghost use Rattle.dex_state.specs.Accepted.{AreAccepted};
 ghost use Rattle.dex_state.specs.Held.{HoldBytes};
 ghost use Rattle.dex_types.specs.Limits.{AreLimits};
 ghost use Rattle.dex_types.specs.declared.limits.Limits.{Limits};
 ghost use Rattle.dex_dump.specs.Answers.{AnswersDump, AnswersText, AreReadAs, IsReadAs, PlainDump};
+ghost use Rattle.dex_dump.specs.Checks.{AllHold, market_checks};
 ghost use Rattle.dex_dump.specs.DumpText.{dump_rows, dump_text};
 
 /// One text is the dump of one exchange: accounts of bytes at addresses of 32 bytes that are written as one text are
@@ -35,4 +37,10 @@ pub fn what_is_written_is_read_back()
         → IsReadAs limits (dump_text accounts) accounts }
     ensures behind { (limits : Limits) (accounts : PlainAccounts) (rows : List Fields) → AreAccepted limits accounts
         → HoldBytes accounts → AreReadAs limits (dump_rows accounts ++ rows) accounts rows }
+{}
+
+/// The checks of one market's accounts all hold exactly where they are accepted.
+pub fn checks_of_a_market_hold_exactly_where_it_is_accepted()
+    ensures { (accounts : PlainMarketAccounts) → length accounts.address.0 ≡ 32
+        → AllHold (market_checks accounts) ↔ IsAccepted accounts }
 {}

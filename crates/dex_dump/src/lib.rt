@@ -1,6 +1,7 @@
 //! Dumps: all accounts of the exchange as rows of text, written and read.
 #![tactic(auto)]
 
+mod alone;
 mod checks;
 pub mod faults;
 mod laws;
@@ -11,10 +12,13 @@ mod taken;
 mod taking;
 mod writing;
 
+pub use alone::check_accounts;
+pub use checks::Failed;
 pub use dex_dump_rows::is_first_row;
 pub use faults::{DumpError, DumpFault};
 pub use laws::{
-    one_text_is_of_one_exchange, what_is_read_is_accepted, what_is_written_is_read_back,
+    checks_of_a_market_hold_exactly_where_it_is_accepted, one_text_is_of_one_exchange,
+    what_is_read_is_accepted, what_is_written_is_read_back,
 };
 pub use pieces::{Piece, Pieces};
 pub use reader::{DumpRead, read_dump, read_dump_within, read_rows};

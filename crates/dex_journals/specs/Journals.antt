@@ -8,7 +8,7 @@ use Rattle.dex_history.specs.Journal.{Call}
 use Rattle.dex_cell.specs.CellState.{IsMarketCell, MarketCellState}
 use Rattle.dex_wallet.specs.CellState.{CellState, IsWalletCell}
 use Rattle.dex_act.specs.declared.places.WalletPlaces.{WalletPlaces}
-use Rattle.dex_act.specs.declared.sight.Terms.{Terms}
+use Rattle.dex_act.specs.Steps.{Terms}
 use Rattle.dex_act.specs.declared.steps.Legs.{Legs}
 use Rattle.dex_act.specs.Steps.{HasWallets, IsTakeOrRefused}
 use Rattle.dex_act.specs.Wallets.{made_of}

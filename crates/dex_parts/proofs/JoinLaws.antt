@@ -4,9 +4,8 @@ use Rattle.std.specs.List.{All}
 use Rattle.std.proofs.lemmas.Bool.{cond-false, cond-true, cond_both, eq-eqb, eqb-true, le-ltb, lt-ltb, ltb-false, ltb-true}
 use Rattle.std.proofs.lemmas.List.{get_or-map, length-map}
 use Rattle.std.proofs.lemmas.List.Elements.{All-cons, All-head, All-nil, All-tail}
-use Rattle.dex_world.specs.declared.places.RowPlaces.{RowPlaces}
 use Rattle.dex_world.proofs.MappedLists.{All-front}
-use Rattle.dex_parts.specs.Joins.{IsWithin, Link, all_joined, joined, leg_links, links_of, relabelled, role_links, row_links}
+use Rattle.dex_parts.specs.Joins.{IsWithin, Link, all_joined, joined, place_links, relabelled}
 use Rattle.dex_parts.proofs.ListLaws.{All-behind}
 
 -- ---- how many there are
@@ -126,68 +125,33 @@ all-one labels (link ∷ links) within =
 -- ---- while rows join
 
 -- what is left of some links is within labels that others left
-pub within-behind : (labels new : List ℕ) (done links : List Link) → new ≡ all_joined labels done → All (IsWithin (length labels)) links → All (IsWithin (length new)) links
+within-behind : (labels new : List ℕ) (done links : List Link) → new ≡ all_joined labels done → All (IsWithin (length labels)) links → All (IsWithin (length new)) links
 within-behind labels new done links is within =
     subst (λ (count : ℕ). All (IsWithin count) links) (sym (ap (λ (all : List ℕ). length all) is ∙ joined-all-long labels done)) within
 
--- the links of a role that names a wallet
-pub role-within : (count markets market role : ℕ) → All (IsWithin count) (role_links markets market role) → role < 65535 → IsWithin count (market, markets + role)
-role-within count markets market role within named =
-    All-head (IsWithin count) (market, markets + role) []
-    (subst (λ (links : List Link). All (IsWithin count) links) (cond-true (ltb role 65535) ((market, markets + role) ∷ []) [] (lt-ltb role 65535 named)) within)
+-- the link of a place at which a wallet stands
+pub wallet-within : (count markets market place : ℕ) → All (IsWithin count) (place_links markets market place) → place < 65535
+    → IsWithin count (market, markets + place)
+wallet-within count markets market place within named =
+    All-head (IsWithin count) (market, markets + place) []
+    (subst (λ (links : List Link). All (IsWithin count) links) (cond-true (ltb place 65535) ((market, markets + place) ∷ []) [] (lt-ltb place 65535 named)) within)
 
--- the links of the rows that are left join what is still to be joined
-pub record AreLeft (markets : ℕ) (start labels : List ℕ) (places left : List RowPlaces) : Type 0 where
-  pub joins : all_joined labels (links_of markets left) ≡ all_joined start (links_of markets places)
-  pub within : All (IsWithin (length labels)) (links_of markets left)
+-- the links that are left join what is still to be joined
+pub record AreLeft (start labels : List ℕ) (all left : List Link) : Type 0 where
+  pub joins : all_joined labels left ≡ all_joined start all
+  pub within : All (IsWithin (length labels)) left
 
--- one row less
-pub left-less : (markets : ℕ) (start labels next last : List ℕ) (places left others : List RowPlaces) (at : RowPlaces) → AreLeft markets start labels places left
-    → left ≡ at ∷ others → next ≡ all_joined labels (row_links markets at) → last ≡ all_joined next (leg_links at others) → AreLeft markets start last places others
-left-less markets start labels next last places left others at are is row legs =
-    let rest : List Link = links_of markets others in
-    let of_row : List Link = row_links markets at in
-    let of_legs : List Link = leg_links at others in
-    let all : AreLeft markets start labels places (at ∷ others) = subst (λ (some : List RowPlaces). AreLeft markets start labels places some) is are in
-    let step : last ≡ all_joined labels (of_row ++ of_legs) = legs ∙ ap (λ (some : List ℕ). all_joined some of_legs) row ∙ sym (joined-append labels of_row of_legs) in
-    record {
-      joins = ap (λ (some : List ℕ). all_joined some rest) legs
-          ∙ ap (λ (some : List ℕ). all_joined (all_joined some of_legs) rest) row
-          ∙ sym (joined-append (all_joined labels of_row) of_legs rest)
-          ∙ sym (joined-append labels of_row (of_legs ++ rest))
-          ∙ all.joins;
-      within = within-behind labels last (of_row ++ of_legs) rest step
-          (All-behind (IsWithin (length labels)) of_legs rest (All-behind (IsWithin (length labels)) of_row (of_legs ++ rest) all.within));
-    }
+module _ (start labels : List ℕ) (all done others : List Link) (are : AreLeft start labels all (done ++ others)) where
+  -- those in front are within
+  pub first-within : All (IsWithin (length labels)) done
+  first-within = All-front (IsWithin (length labels)) done others are.within
 
--- what the next row joins, and its legs, are within
-pub row-within : (markets : ℕ) (start labels : List ℕ) (places left others : List RowPlaces) (at : RowPlaces) → AreLeft markets start labels places left → left ≡ at ∷ others
-    → All (IsWithin (length labels)) (row_links markets at)
-row-within markets start labels places left others at are is =
-    All-front (IsWithin (length labels)) (row_links markets at) (leg_links at others ++ links_of markets others)
-    (subst (λ (some : List RowPlaces). All (IsWithin (length labels)) (links_of markets some)) is are.within)
-
-pub legs-within : (markets : ℕ) (start labels next : List ℕ) (places left others : List RowPlaces) (at : RowPlaces) → AreLeft markets start labels places left
-    → left ≡ at ∷ others → next ≡ all_joined labels (row_links markets at) → All (IsWithin (length next)) (leg_links at others)
-legs-within markets start labels next places left others at are is row =
-    within-behind labels next (row_links markets at) (leg_links at others) row
-    (All-front (IsWithin (length labels)) (leg_links at others) (links_of markets others)
-    (All-behind (IsWithin (length labels)) (row_links markets at) (leg_links at others ++ links_of markets others)
-    (subst (λ (some : List RowPlaces). All (IsWithin (length labels)) (links_of markets some)) is are.within)))
-
--- the four roles of a row
-pub row-joined : (labels one two three last : List ℕ) (markets : ℕ) (at : RowPlaces) → one ≡ all_joined labels (role_links markets at.market at.coin)
-    → two ≡ all_joined one (role_links markets at.market at.pc) → three ≡ all_joined two (role_links markets at.market at.discount)
-    → last ≡ all_joined three (role_links markets at.market at.referrer) → last ≡ all_joined labels (row_links markets at)
-row-joined labels one two three last markets at coin pc discount referrer =
-    let links : ℕ → List Link = role_links markets at.market in
-    referrer
-    ∙ ap (λ (some : List ℕ). all_joined some (links at.referrer)) discount
-    ∙ sym (joined-append two (links at.discount) (links at.referrer))
-    ∙ ap (λ (some : List ℕ). all_joined some (links at.discount ++ links at.referrer)) pc
-    ∙ sym (joined-append one (links at.pc) (links at.discount ++ links at.referrer))
-    ∙ ap (λ (some : List ℕ). all_joined some (links at.pc ++ (links at.discount ++ links at.referrer))) coin
-    ∙ sym (joined-append labels (links at.coin) (links at.pc ++ (links at.discount ++ links at.referrer)))
+  -- and behind them the others are left
+  pub left-less : (next : List ℕ) → next ≡ all_joined labels done → AreLeft start next all others
+  left-less next is = record {
+    joins = ap (λ (some : List ℕ). all_joined some others) is ∙ sym (joined-append labels done others) ∙ are.joins;
+    within = within-behind labels next done others is (All-behind (IsWithin (length labels)) done others are.within);
+  }
 
 -- ---- numbers that agree with all links agree with the labels
 

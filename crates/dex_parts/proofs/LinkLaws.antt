@@ -1,19 +1,22 @@
 -- What rows join, as links: all within, and what agrees with the rows agrees with them.
-use Rattle.std.proofs.Common.{◌≡◌, ◌<◌, ◌+◌, ℕ, zero, suc, true, eqb, ltb, List, [], ◌∷◌, ◌++◌, Option, Some, None, get_or, length, refl, sym, ap, ◌∙◌, subst, arith, ⊎_elim}
-use Rattle.std.specs.List.{All}
-use Rattle.std.proofs.lemmas.Bool.{cases_eq, cond_both, eqb-true}
+use Rattle.std.proofs.Common.{◌≡◌, ◌<◌, ◌+◌, ℕ, zero, suc, true, eqb, ltb, List, [], ◌∷◌, ◌++◌, Some, get_or, length, refl, sym, ap, ◌∙◌, subst, arith, ⊎_elim}
+use Rattle.std.specs.List.{All, list_any}
+use Rattle.std.proofs.lemmas.Bool.{cases_eq, cond_both, eqb-true, or_left, or_right}
 use Rattle.std.proofs.lemmas.List.{get_or-append-add, get_or_append_left, length-append}
 use Rattle.std.proofs.lemmas.List.Elements.{All-append, All-cons, All-head, All-nil, All-tail}
 use Rattle.dex_types.specs.declared.addresses.Address.{Address}
 use Rattle.dex_world.specs.declared.places.RowPlaces.{RowPlaces}
 use Rattle.dex_types.specs.Accounts.{PlainAccounts}
+use Rattle.dex_types.specs.Addresses.{is_same}
 use Rattle.dex_types.specs.Rows.{PlainRow}
+use Rattle.dex_types.specs.Wallets.{row_wallets}
+use Rattle.dex_laws.proofs.TraderLaws.{is_same-refl}
 use Rattle.dex_world.specs.Fold.{names}
+use Rattle.dex_world.specs.Places.{ArePlacesOf}
 use Rattle.dex_world.proofs.GroupLaws.{EachTwo}
-use Rattle.dex_world.proofs.NameLaws.{coin-named, discount-named, pc-named, referrer-named}
-use Rattle.dex_script_types.specs.Places.{AreBeside, ArePlaced, IsBeside, IsMarked, IsPlaced, IsRolePlaced, market_place, wallet_place}
+use Rattle.dex_script_types.specs.Places.{AreBeside, ArePlaced, IsBeside, IsPlaced, market_place, wallet_place}
 use Rattle.dex_script_types.proofs.PlacedLaws.{market-within, wallet-within}
-use Rattle.dex_parts.specs.Joins.{IsWithin, Link, leg_links, links_of, role_links, row_links}
+use Rattle.dex_parts.specs.Joins.{IsWithin, Link, leg_links, links_of, place_links, row_links, wallet_links}
 use Rattle.dex_parts.specs.Numbers.{labels_of, numbers_to}
 use Rattle.dex_parts.proofs.JoinLaws.{Agrees, joined-all-long}
 
@@ -32,6 +35,23 @@ within-numbers markets wallets labels links is within =
 pub labels-long : (markets wallets : ℕ) (places : List RowPlaces) → length (labels_of markets wallets places) ≡ markets + wallets
 labels-long markets wallets places = joined-all-long (numbers_to (markets + wallets)) (links_of markets places) ∙ numbers-long (markets + wallets)
 
+-- what holds of a market and of each of these wallets at its place holds of their links
+each-link : (P : Link → Type 0) (start : PlainAccounts) (markets market : ℕ) (addresses : List Address) (places : List ℕ)
+    → ArePlacesOf (λ (a : Address). wallet_place a start.wallets) addresses places
+    → ((address : Address) → list_any (is_same address) addresses ≡ true → (place : ℕ) → wallet_place address start.wallets ≡ Some place → P (market, markets + place))
+    → All P (wallet_links markets market places)
+each-link P start markets market [] [] are each = All-nil P
+each-link P start markets market [] (place ∷ places) are each =
+    subst (λ (n : ℕ). All P (place_links markets market n ++ wallet_links markets market places)) (sym (All-head (λ (n : ℕ). n ≡ 65535) place places are))
+    (each-link P start markets market [] places (All-tail (λ (n : ℕ). n ≡ 65535) place places are) each)
+each-link P start markets market (first ∷ others) [] are each = absurd are
+each-link P start markets market (first ∷ others) (place ∷ places) are each =
+    All-append P (place_links markets market place) (wallet_links markets market places)
+    (cond_both (ltb place 65535) ((market, markets + place) ∷ []) [] (All P)
+    (λ some. All-cons P (market, markets + place) [] (each first (or_left (is_same first first) (list_any (is_same first) others) (is_same-refl first)) place are.0) (All-nil P))
+    (λ none. All-nil P))
+    (each-link P start markets market others places are.1 (λ address among. each address (or_right (is_same address first) (list_any (is_same address) others) among)))
+
 module _ (start : PlainAccounts) where
   abbrev markets : ℕ
   markets = length start.markets
@@ -41,25 +61,11 @@ module _ (start : PlainAccounts) where
 
   -- ---- what rows join is within
 
-  role-links-within : (role : Option Address) (market place : ℕ) → IsRolePlaced start.wallets role place → IsMarked role place → market < markets
-      → All (IsWithin (markets + wallets)) (role_links markets market place)
-  role-links-within None market place placed marked within =
-      subst (λ (n : ℕ). All (IsWithin (markets + wallets)) (role_links markets market n)) (sym marked) (All-nil (IsWithin (markets + wallets)))
-  role-links-within (Some address) market place placed marked within =
-      let below : place < wallets = wallet-within address start.wallets place placed in
-      cond_both (ltb place 65535) ((market, markets + place) ∷ []) [] (All (IsWithin (markets + wallets)))
-      (λ named. All-cons (IsWithin (markets + wallets)) (market, markets + place) [] (omega (arith, within), omega (arith, below)) (All-nil (IsWithin (markets + wallets))))
-      (λ none. All-nil (IsWithin (markets + wallets)))
-
-  row-links-within : (row : PlainRow) (at : RowPlaces) → IsPlaced start row at → IsBeside row at → All (IsWithin (markets + wallets)) (row_links markets at)
-  row-links-within row at placed beside =
-      let Within : Link → Type 0 = IsWithin (markets + wallets) in
+  row-links-within : (row : PlainRow) (at : RowPlaces) → IsPlaced start row at → All (IsWithin (markets + wallets)) (row_links markets at)
+  row-links-within row at placed =
       let on : at.market < markets = market-within row.market start.markets at.market placed.market in
-      let links : ℕ → List Link = role_links markets at.market in
-      All-append Within (links at.coin) (links at.pc ++ (links at.discount ++ links at.referrer)) (role-links-within row.coin at.market at.coin placed.coin beside.coin on)
-      (All-append Within (links at.pc) (links at.discount ++ links at.referrer) (role-links-within row.pc at.market at.pc placed.pc beside.pc on)
-      (All-append Within (links at.discount) (links at.referrer) (role-links-within row.discount at.market at.discount placed.discount beside.discount on)
-      (role-links-within row.referrer at.market at.referrer placed.referrer beside.referrer on)))
+      each-link (IsWithin (markets + wallets)) start markets at.market (row_wallets row) at.wallets.places placed.wallets.places
+      (λ address named place is. (omega (arith, on), omega (arith, wallet-within address start.wallets place is)))
 
   leg-links-within : (at : RowPlaces) (others : List RowPlaces) (rows : List PlainRow) → at.market < markets → ArePlaced start rows others
       → All (IsWithin (markets + wallets)) (leg_links at others)
@@ -71,15 +77,15 @@ module _ (start : PlainAccounts) where
       (λ same. All-cons (IsWithin (markets + wallets)) (at.market, next.market) [] (omega (arith, on), omega (arith, behind)) (All-nil (IsWithin (markets + wallets))))
       (λ apart. All-nil (IsWithin (markets + wallets)))
 
-  pub links-within : (rows : List PlainRow) (places : List RowPlaces) → ArePlaced start rows places → AreBeside rows places → All (IsWithin (markets + wallets)) (links_of markets places)
-  links-within [] [] placed beside = All-nil (IsWithin (markets + wallets))
-  links-within [] (at ∷ places) placed beside = absurd placed
-  links-within (row ∷ rows) [] placed beside = absurd placed
-  links-within (row ∷ rows) (at ∷ places) placed beside =
+  pub links-within : (rows : List PlainRow) (places : List RowPlaces) → ArePlaced start rows places → All (IsWithin (markets + wallets)) (links_of markets places)
+  links-within [] [] placed = All-nil (IsWithin (markets + wallets))
+  links-within [] (at ∷ places) placed = absurd placed
+  links-within (row ∷ rows) [] placed = absurd placed
+  links-within (row ∷ rows) (at ∷ places) placed =
       let Within : Link → Type 0 = IsWithin (markets + wallets) in
       let on : at.market < markets = market-within row.market start.markets at.market placed.0.market in
-      All-append Within (row_links markets at) (leg_links at places ++ links_of markets places) (row-links-within row at placed.0 beside.0)
-      (All-append Within (leg_links at places) (links_of markets places) (leg-links-within at places rows on placed.1) (links-within rows places placed.1 beside.1))
+      All-append Within (row_links markets at) (leg_links at places ++ links_of markets places) (row-links-within row at placed.0)
+      (All-append Within (leg_links at places) (links_of markets places) (leg-links-within at places rows on placed.1) (links-within rows places placed.1))
 
   pub markets-on : (rows : List PlainRow) (places : List RowPlaces) → ArePlaced start rows places → All (λ (at : RowPlaces). at.market < markets) places
   markets-on [] [] placed = All-nil (λ (at : RowPlaces). at.market < markets)
@@ -117,26 +123,10 @@ module _ (start : PlainAccounts) (tell : ℕ → ℕ) where
   LegsAgree one other = one.number ≡ other.number → (market other_market : ℕ) → market_place one.market start.markets ≡ Some market
       → market_place other.market start.markets ≡ Some other_market → tell market ≡ tell other_market
 
-  role-agrees : (row : PlainRow) (role : Option Address) (market place : ℕ) → RowAgrees row → market_place row.market start.markets ≡ Some market
-      → ((wallet : Address) → role ≡ Some wallet → names row wallet ≡ true) → IsRolePlaced start.wallets role place → IsMarked role place
-      → All (Agrees tell) (role_links many market place)
-  role-agrees row None market place agrees on named placed marked =
-      subst (λ (n : ℕ). All (Agrees tell) (role_links many market n)) (sym marked) (All-nil (Agrees tell))
-  role-agrees row (Some wallet) market place agrees on named placed marked =
-      cond_both (ltb place 65535) ((market, many + place) ∷ []) [] (All (Agrees tell))
-      (λ is. All-cons (Agrees tell) (market, many + place) [] (agrees market place wallet on (named wallet refl) placed) (All-nil (Agrees tell)))
-      (λ none. All-nil (Agrees tell))
-
-  row-agrees : (row : PlainRow) (at : RowPlaces) → RowAgrees row → IsPlaced start row at → IsBeside row at → All (Agrees tell) (row_links many at)
-  row-agrees row at agrees placed beside =
-      let links : ℕ → List Link = role_links many at.market in
-      All-append (Agrees tell) (links at.coin) (links at.pc ++ (links at.discount ++ links at.referrer))
-      (role-agrees row row.coin at.market at.coin agrees placed.market (coin-named row) placed.coin beside.coin)
-      (All-append (Agrees tell) (links at.pc) (links at.discount ++ links at.referrer)
-      (role-agrees row row.pc at.market at.pc agrees placed.market (pc-named row) placed.pc beside.pc)
-      (All-append (Agrees tell) (links at.discount) (links at.referrer)
-      (role-agrees row row.discount at.market at.discount agrees placed.market (discount-named row) placed.discount beside.discount)
-      (role-agrees row row.referrer at.market at.referrer agrees placed.market (referrer-named row) placed.referrer beside.referrer)))
+  row-agrees : (row : PlainRow) (at : RowPlaces) → RowAgrees row → IsPlaced start row at → All (Agrees tell) (row_links many at)
+  row-agrees row at agrees placed =
+      each-link (Agrees tell) start many at.market (row_wallets row) at.wallets.places placed.wallets.places
+      (λ wallet named place is. agrees at.market place wallet placed.market named is)
 
   leg-agrees : (row : PlainRow) (at : RowPlaces) (rows : List PlainRow) (places : List RowPlaces) → All (LegsAgree row) rows → IsPlaced start row at → IsBeside row at
       → ArePlaced start rows places → AreBeside rows places → All (Agrees tell) (leg_links at places)
@@ -157,7 +147,7 @@ module _ (start : PlainAccounts) (tell : ℕ → ℕ) where
   links-agree (row ∷ rows) [] agree legs placed beside = absurd placed
   links-agree (row ∷ rows) (at ∷ places) agree legs placed beside =
       All-append (Agrees tell) (row_links many at) (leg_links at places ++ links_of many places)
-      (row-agrees row at (All-head RowAgrees row rows agree) placed.0 beside.0)
+      (row-agrees row at (All-head RowAgrees row rows agree) placed.0)
       (All-append (Agrees tell) (leg_links at places) (links_of many places)
       (leg-agrees row at rows places legs.0 placed.0 beside.0 placed.1 beside.1)
       (links-agree rows places (All-tail RowAgrees row rows agree) legs.1 placed.1 beside.1))

@@ -1,21 +1,23 @@
 -- Scripts fall into the shards that joined labels tell.
-use Rattle.std.proofs.Common.{◌≡◌, ◌<◌, ◌≤◌, ◌+◌, ◌||◌, ℕ, zero, suc, true, false, ◌-◌, cond, eqb, ltb, List, [], ◌∷◌, ◌++◌, Option, Some, None, drop, get_or, length, map, take, refl, sym, ap, ◌∙◌, subst, arith, ⊎_elim}
-use Rattle.std.specs.List.{All, AllPairs}
+use Rattle.std.proofs.Common.{◌≡◌, ◌<◌, ◌≤◌, ◌+◌, ℕ, zero, suc, true, false, ◌-◌, cond, eqb, ltb, List, [], ◌∷◌, ◌++◌, Option, Some, None, drop, get_or, length, map, take, refl, sym, ap, ◌∙◌, subst, arith, ⊎_elim}
+use Rattle.std.specs.List.{All, AllPairs, list_any}
 use Rattle.std.proofs.lemmas.Bool.{both_ways, cases_eq, cond-false, cond-true, eq-eqb, false≢true, le-ltb, lt-ltb, ne_eqb, or_cases}
 use Rattle.std.proofs.lemmas.List.{get_or-drop, get_or-map, get_or-take, length-drop, length-map, length-take-le}
 use Rattle.std.proofs.lemmas.List.Elements.{All-cons, All-head, All-nil}
 use Rattle.dex_types.specs.declared.addresses.Address.{Address}
 use Rattle.dex_world.specs.declared.places.RowPlaces.{RowPlaces}
 use Rattle.dex_types.specs.Accounts.{PlainAccount, PlainAccounts, PlainMarketAccounts}
+use Rattle.dex_types.specs.Addresses.{is_same}
 use Rattle.dex_types.specs.Rows.{PlainRow}
+use Rattle.dex_types.specs.Wallets.{row_wallets}
 use Rattle.dex_laws.proofs.TraderLaws.{is_same-true}
-use Rattle.dex_world.specs.Fold.{is_role, names}
+use Rattle.dex_world.specs.Fold.{names}
+use Rattle.dex_world.specs.Places.{ArePlacesOf}
 use Rattle.dex_world.proofs.GroupLaws.{EachTwo}
 use Rattle.dex_world.proofs.MappedLists.{All-front, zip-map}
-use Rattle.dex_world.proofs.NameLaws.{in_roles, names-roles}
-use Rattle.dex_script_types.specs.Places.{AreBeside, ArePlaced, IsBeside, IsPlaced, IsRolePlaced, market_place, wallet_place}
+use Rattle.dex_script_types.specs.Places.{AreBeside, ArePlaced, IsBeside, IsPlaced, market_place, wallet_place}
 use Rattle.dex_script_types.proofs.PlacedLaws.{market-here, market-within, wallet-here, wallet-within}
-use Rattle.dex_parts.specs.Joins.{IsWithin, Link, leg_links, links_of, role_links, row_links}
+use Rattle.dex_parts.specs.Joins.{IsWithin, Link, leg_links, links_of, place_links, row_links, wallet_links}
 use Rattle.dex_parts.specs.Numbers.{in_market, labels_of, market_shards, numbers_to, row_shards, wallet_shards}
 use Rattle.dex_parts.specs.Sharded.{AreShardsOf, number_at, sharding_by}
 use Rattle.dex_parts.specs.Shards.{AreOfOneShard, FallsInto, IsOfOneShard, Sharding}
@@ -65,51 +67,37 @@ module _ (start : PlainAccounts) where
 
     -- ---- a row and its wallets
 
-    role-falls : (role : Option Address) (market place : ℕ) (wallet : Address) → market < markets → IsRolePlaced start.wallets role place
-        → All (HasOne labels) (role_links markets market place) → is_role role wallet ≡ true → sharding.wallet wallet ≡ get_or of_markets market 0
-    role-falls None market place wallet on placed one is = absurd (false≢true is)
-    role-falls (Some address) market place wallet on placed one is =
-        let below : place < wallets = wallet-within address start.wallets place placed in
-        let named : place < 65535 = omega (arith, below, few) in
+    wallet-falls : (market place : ℕ) (wallet : Address) → market < markets → wallet_place wallet start.wallets ≡ Some place
+        → All (HasOne labels) (place_links markets market place) → sharding.wallet wallet ≡ get_or of_markets market 0
+    wallet-falls market place wallet on placed one =
+        let below : place < wallets = wallet-within wallet start.wallets place placed in
+        let some : place < 65535 = omega (arith, below, few) in
         let link : HasOne labels (market, markets + place) =
         All-head (HasOne labels) (market, markets + place) []
-        (subst (All (HasOne labels)) (cond-true (ltb place 65535) ((market, markets + place) ∷ []) [] (lt-ltb place 65535 named)) one) in
-        ap (λ (found : Option ℕ). number_at found of_wallets)
-        (ap (λ (a : Address). wallet_place a start.wallets) (is_same-true wallet address is) ∙ placed)
+        (subst (All (HasOne labels)) (cond-true (ltb place 65535) ((market, markets + place) ∷ []) [] (lt-ltb place 65535 some)) one) in
+        ap (λ (found : Option ℕ). number_at found of_wallets) placed
         ∙ wallet-shard place below
         ∙ ap (in_market markets) (sym link)
         ∙ sym (market-shard market on)
 
+    wallets-fall : (addresses : List Address) (places : List ℕ) (market : ℕ) → market < markets → ArePlacesOf (λ (a : Address). wallet_place a start.wallets) addresses places
+        → All (HasOne labels) (wallet_links markets market places) → (wallet : Address) → list_any (is_same wallet) addresses ≡ true
+        → sharding.wallet wallet ≡ get_or of_markets market 0
+    wallets-fall [] places market on are one wallet among = absurd (false≢true among)
+    wallets-fall (first ∷ others) [] market on are one wallet among = absurd are
+    wallets-fall (first ∷ others) (place ∷ places) market on are one wallet among =
+        ⊎_elim
+        (λ (same : is_same wallet first ≡ true).
+        wallet-falls market place wallet on (ap (λ (a : Address). wallet_place a start.wallets) (is_same-true wallet first same) ∙ are.0)
+        (All-front (HasOne labels) (place_links markets market place) (wallet_links markets market places) one))
+        (λ (behind : list_any (is_same wallet) others ≡ true).
+        wallets-fall others places market on are.1 (All-behind (HasOne labels) (place_links markets market place) (wallet_links markets market places) one) wallet behind)
+        (or_cases (is_same wallet first) (list_any (is_same wallet) others) among)
+
     row-falls : (row : PlainRow) (at : RowPlaces) → IsPlaced start row at → All (HasOne labels) (row_links markets at) → IsOfOneShard sharding row
     row-falls row at placed one = λ wallet named.
-        let on : at.market < markets = market-within row.market start.markets at.market placed.market in
-        let links : ℕ → List Link = role_links markets at.market in
-        let behind_coin : All (HasOne labels) (links at.pc ++ (links at.discount ++ links at.referrer)) =
-        All-behind (HasOne labels) (links at.coin) (links at.pc ++ (links at.discount ++ links at.referrer)) one in
-        let behind_pc : All (HasOne labels) (links at.discount ++ links at.referrer) = All-behind (HasOne labels) (links at.pc) (links at.discount ++ links at.referrer) behind_coin in
-        let market : get_or of_markets at.market 0 ≡ sharding.market row.market = ap (λ (found : Option ℕ). number_at found of_markets) (sym placed.market) in
-        let falls = λ (role : Option Address) (place : ℕ). role-falls role at.market place wallet on in
-        let coin = λ (is : is_role row.coin wallet ≡ true). falls row.coin at.coin placed.coin (All-front (HasOne labels) (links at.coin) (links at.pc ++ (links at.discount ++ links at.referrer)) one) is in
-        let pc = λ (is : is_role row.pc wallet ≡ true). falls row.pc at.pc placed.pc (All-front (HasOne labels) (links at.pc) (links at.discount ++ links at.referrer) behind_coin) is in
-        let discount = λ (is : is_role row.discount wallet ≡ true).
-        falls row.discount at.discount placed.discount (All-front (HasOne labels) (links at.discount) (links at.referrer) behind_pc) is in
-        let referrer = λ (is : is_role row.referrer wallet ≡ true).
-        falls row.referrer at.referrer placed.referrer (All-behind (HasOne labels) (links at.discount) (links at.referrer) behind_pc) is in
-        by-role row wallet (sym (names-roles row wallet) ∙ named) (sharding.wallet wallet ≡ get_or of_markets at.market 0) coin pc discount referrer ∙ market
-      where
-        by-role : (row : PlainRow) (wallet : Address) → in_roles row wallet ≡ true → (Goal : Type 0) → (is_role row.coin wallet ≡ true → Goal)
-            → (is_role row.pc wallet ≡ true → Goal) → (is_role row.discount wallet ≡ true → Goal) → (is_role row.referrer wallet ≡ true → Goal) → Goal
-        by-role row wallet any Goal coin pc discount referrer =
-            let of_referrer = is_role row.referrer wallet || false in
-            let of_discount = is_role row.discount wallet || of_referrer in
-            let of_pc = is_role row.pc wallet || of_discount in
-            ⊎_elim coin
-            (λ (more : of_pc ≡ true). ⊎_elim pc
-            (λ (others : of_discount ≡ true). ⊎_elim discount
-            (λ (last : of_referrer ≡ true). ⊎_elim referrer (λ (none : false ≡ true). absurd (false≢true none)) (or_cases (is_role row.referrer wallet) false last))
-            (or_cases (is_role row.discount wallet) of_referrer others))
-            (or_cases (is_role row.pc wallet) of_discount more))
-            (or_cases (is_role row.coin wallet) of_pc any)
+        wallets-fall (row_wallets row) at.wallets.places at.market (market-within row.market start.markets at.market placed.market) placed.wallets.places one wallet named
+        ∙ ap (λ (found : Option ℕ). number_at found of_markets) (sym placed.market)
 
     rows-fall : (rows : List PlainRow) (places : List RowPlaces) → ArePlaced start rows places → All (HasOne labels) (links_of markets places) → All (IsOfOneShard sharding) rows
     rows-fall [] [] placed one = All-nil (IsOfOneShard sharding)
@@ -189,7 +177,7 @@ module _ (script : PlainScript) (places : List RowPlaces) (facts : AreRows scrip
   long = labels-long market_count (length start.wallets) places
 
   within : All (IsWithin (length (numbers_to count))) links
-  within = subst (λ (n : ℕ). All (IsWithin n) links) (sym (numbers-long count)) (links-within start script.rows places placed beside)
+  within = subst (λ (n : ℕ). All (IsWithin n) links) (sym (numbers-long count)) (links-within start script.rows places placed)
 
   one : All (HasOne labels) links
   one = all-one (numbers_to count) links within
@@ -347,11 +335,11 @@ module _ (script : PlainScript) (places : List RowPlaces) (facts : AreRows scrip
 
 module _ (start : PlainAccounts) (rows : List PlainRow) (places own : List RowPlaces) (markets wallets : ℕ) (many : length start.markets ≡ markets)
     (more : length start.wallets ≡ wallets) (same : own ≡ places) (placed : ArePlaced start rows places) where
-  pub own-within : AreBeside rows places → All (IsWithin (markets + wallets)) (links_of markets own)
-  own-within beside =
+  pub own-within : All (IsWithin (markets + wallets)) (links_of markets own)
+  own-within =
       subst (λ (some : List RowPlaces). All (IsWithin (markets + wallets)) (links_of markets some)) (sym same)
       (subst (λ (n : ℕ). All (IsWithin (markets + n)) (links_of markets places)) more
-      (subst (λ (n : ℕ). All (IsWithin (n + length start.wallets)) (links_of n places)) many (links-within start rows places placed beside)))
+      (subst (λ (n : ℕ). All (IsWithin (n + length start.wallets)) (links_of n places)) many (links-within start rows places placed)))
 
   pub own-on : All (λ (at : RowPlaces). at.market < markets) own
   own-on =

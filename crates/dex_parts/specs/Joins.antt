@@ -28,16 +28,18 @@ all_joined labels (link ∷ links) = all_joined (joined labels link) links
 
 -- ---- what rows join, where wallets stand behind so many markets
 
--- a market and a wallet, if the role names one
-abbrev pub role_links : ℕ → ℕ → ℕ → List Link
-role_links markets market role = if nat_lt role 65535 then (market, markets + role) ∷ [] else []
+-- a market and the wallet at a place, if one stands there
+abbrev pub place_links : ℕ → ℕ → ℕ → List Link
+place_links markets market place = if nat_lt place 65535 then (market, markets + place) ∷ [] else []
+
+-- a market and the wallets at several
+abbrev pub wallet_links : ℕ → ℕ → List ℕ → List Link
+wallet_links markets market [] = []
+wallet_links markets market (place ∷ places) = place_links markets market place ++ wallet_links markets market places
 
 -- the market of a row, and its wallets
 abbrev pub row_links : ℕ → RowPlaces → List Link
-row_links markets at =
-    role_links markets at.market at.coin
-    ++ (role_links markets at.market at.pc
-    ++ (role_links markets at.market at.discount ++ role_links markets at.market at.referrer))
+row_links markets at = wallet_links markets at.market at.wallets.places
 
 -- the markets of the legs of a swap: a row, and the one behind it, if that has its number
 abbrev pub leg_links : RowPlaces → List RowPlaces → List Link

@@ -1,12 +1,12 @@
 //! Labels of markets and wallets, made one where rows join them.
 
 ghost use Rattle.std.specs.Prelude.{◌≡◌, All, length, map};
-ghost use Rattle.dex_parts.specs.Joins.{IsWithin, all_joined, joined, leg_links, links_of, relabelled};
-ghost use Rattle.dex_parts.specs.Joins.{role_links, row_links};
+ghost use Rattle.dex_parts.specs.Joins.{IsWithin, all_joined, joined, leg_links, links_of, place_links};
+ghost use Rattle.dex_parts.specs.Joins.{relabelled, row_links};
 
 use dex_world::RowPlaces;
 
-/// The place of a role that names no wallet.
+/// The place at which no wallet stands.
 const NO_WALLET: u16 = u16::MAX;
 
 /// The label, where one is taken for another.
@@ -39,13 +39,13 @@ fn join(labels: &mut [u32], one: usize, other: usize)
     }
 }
 
-/// Joins the market of a row with the wallet of a role, if the role names one. Wallets stand behind so many markets.
-fn join_role(labels: &mut [u32], markets: u16, market: u16, role: u16)
-    requires within { All (IsWithin (length labels.old)) (role_links markets market role) }
-    ensures { labels.new ≡ all_joined labels.old (role_links markets market role) }
+/// Joins a market with the wallet at a place, if one stands there. Wallets stand behind so many markets.
+fn join_wallet(labels: &mut [u32], markets: u16, market: u16, place: u16)
+    requires within { All (IsWithin (length labels.old)) (place_links markets market place) }
+    ensures { labels.new ≡ all_joined labels.old (place_links markets market place) }
 {
-    if role < NO_WALLET {
-        join(labels, market as usize, markets as usize + role as usize);
+    if place < NO_WALLET {
+        join(labels, market as usize, markets as usize + place as usize);
     }
 }
 
@@ -54,10 +54,11 @@ fn join_row(labels: &mut [u32], markets: u16, at: &RowPlaces)
     requires within { All (IsWithin (length labels.old)) (row_links markets at.now) }
     ensures { labels.new ≡ all_joined labels.old (row_links markets at.entry.now) }
 {
-    join_role(labels, markets, at.market, at.coin);
-    join_role(labels, markets, at.market, at.pc);
-    join_role(labels, markets, at.market, at.discount);
-    join_role(labels, markets, at.market, at.referrer);
+    let mut left: &[u16] = &at.wallets.places;
+    'wallets: while let Some((place, others)) = left.split_first() {
+        join_wallet(labels, markets, at.market, *place);
+        left = others;
+    }
 }
 
 /// Joins the markets of a swap's legs: those of a row and the one behind it, if that has its number.

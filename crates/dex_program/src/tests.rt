@@ -62,9 +62,9 @@ fn run<R: Threads + Wait + Sync, P: Pace + Sync>(
 fn a_report_is_written_whole(rt: HostRuntime) -> Result<(), Fail> {
     for line in ["replay", "run", "batch 3"] {
         let (status, sink) = run(&rt, rt.alloc(), line, ONE_LANE, &NoPace)?;
-        assert_eq!(rt; status, Status::Ok);
+        assert!(rt; status == Status::Ok);
         let text = sink.bytes();
-        assert_eq!(rt; text.len(), SIZE);
+        assert!(rt; text.len() == SIZE);
         assert!(rt; text.starts_with(FRONT));
         assert!(rt; text.ends_with(b"\nenddump\nend\n"));
     }
@@ -116,11 +116,11 @@ fn rows_that_share_nothing_meet(rt: HostRuntime) -> Result<(), Fail> {
             met: AtomicU64::new(0),
         };
         let (status, sink) = run(&rt, rt.alloc(), line, APART, &pace)?;
-        assert_eq!(rt; status, Status::Ok);
-        assert_eq!(rt; pace.met.into_inner(), 2, "{line}");
+        assert!(rt; status == Status::Ok);
+        assert!(rt; pace.met.into_inner() == 2);
 
         // They share nothing, so they leave what a replay leaves.
-        assert_eq!(rt; sink.bytes(), replayed.bytes(), "{line}");
+        assert!(rt; sink.bytes() == replayed.bytes());
     }
     Ok(())
 }
@@ -193,7 +193,7 @@ fn counted<R: Threads + Wait + Sync>(
 fn rows_that_share_are_inside_one_at_a_time(rt: HostRuntime) -> Result<(), Fail> {
     for script in TOGETHER {
         for line in ["run", "batch 4"] {
-            assert_eq!(rt; counted(&rt, rt.alloc(), line, script)?, (4, 0), "{line}");
+            assert!(rt; counted(&rt, rt.alloc(), line, script)? == (4, 0));
         }
     }
     Ok(())
@@ -215,6 +215,6 @@ do,1,n,bob,-,-,-,-,-,settle
 // A swap is inside once, under the turns of both its markets.
 #[test]
 fn a_swap_is_inside_once_with_both_its_markets(rt: HostRuntime) -> Result<(), Fail> {
-    assert_eq!(rt; counted(&rt, rt.alloc(), "run", SWAPS)?, (5, 0));
+    assert!(rt; counted(&rt, rt.alloc(), "run", SWAPS)? == (5, 0));
     Ok(())
 }

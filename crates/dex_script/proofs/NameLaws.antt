@@ -1,20 +1,21 @@
 -- The places that are kept for look-ups.
-use Rattle.std.proofs.Common.{◌≡◌, ◌∙◌, ◌+◌, ◌-◌, ◌<◌, ◌≤◌, ◌||◌, ℕ, zero, suc, Bool, true, false, not, cond, List, [], ◌∷◌, Option, Some, None, ap, arith, drop, get_or, length, map, refl, subst, sym}
-use Rattle.std.specs.List.{list_any, position, position_from}
-use Rattle.std.specs.Option.{is_some}
+use Rattle.std.proofs.Common.{◌≡◌, ◌∙◌, ◌+◌, ◌-◌, ◌<◌, ◌≤◌, ◌&&◌, ◌||◌, ℕ, zero, suc, Bool, true, false, not, cond, List, [], ◌∷◌, Option, Some, None, ap, arith, drop, get_or, is_some, length, map, refl, sym}
+use Rattle.std.specs.HashMap as hash
+use Rattle.std.specs.List.{position, position_from}
+use Rattle.std.proofs.lemmas.Bool.{and_from}
 use Rattle.std.proofs.lemmas.Iterator.Adapters.{position_from-zero}
-use Rattle.std.proofs.lemmas.Option.{same_Some}
 use Rattle.dex_types.specs.declared.addresses.Address.{Address}
 use Rattle.dex_types.specs.Accounts.{PlainAccount, PlainAccounts, PlainMarketAccounts}
 use Rattle.dex_types.specs.Addresses.{is_same}
 use Rattle.dex_laws.proofs.TraderLaws.{is_same-sym}
 use Rattle.dex_state.specs.Addresses.{address_of}
-use Rattle.dex_statement.specs.Stated.{PlainParties}
-use Rattle.dex_script_types.specs.Known.{has_market, is_known_role}
-use Rattle.dex_script_types.specs.Places.{market_place, wallet_place}
+use Rattle.dex_statement.specs.Stated.{PlainInstruction, PlainParties}
+use Rattle.dex_script_types.specs.Found.{is_found}
+use Rattle.dex_script_types.specs.Known.{is_known_role}
+use Rattle.dex_script_types.proofs.FoundLaws.{all-found, is_found-same, position-any, wallets-same}
 use Rattle.dex_script.specs.declared.names.Names.{Names}
 use Rattle.dex_script.specs.declared.names.Stand.{Stand}
-use Rattle.dex_script.specs.Names.{AreAt, AreNames, IsRoleAt, StandAt, all_places, market_address, places_of, role_place}
+use Rattle.dex_script.specs.Names.{AreAt, AreNames, FindsAmong, FindsBy, FindsIn, StandAt, are_here, market_address, market_among, wallet_among}
 use Rattle.dex_script.specs.Rows.{is_unknown}
 
 -- ---- the first place, from the last item to the first
@@ -68,107 +69,69 @@ are-names names start markets wallets at markets_are wallets_are = record {
   wallets = λ address. at.wallets address ∙ ap (position (is_same address)) wallets_are ∙ by-address address_of (is_same address) start.wallets;
 }
 
--- ---- a place is found where a test passes
+-- ---- who finds each market and wallet where another does finds what an instruction row names where that one does
 
-some-any : {X : Type 0} (test : X → Bool) (i : ℕ) (xs : List X) → is_some (position_from test i xs) ≡ list_any test xs
-some-any test i [] = refl
-some-any test i (x ∷ xs) = here (test x) i (position_from test (i + 1) xs) (list_any test xs) (some-any test (i + 1) xs)
-  where
-    here : (b : Bool) (i : ℕ) (rest : Option ℕ) (any : Bool) → is_some rest ≡ any → is_some (cond b (Some i) rest) ≡ b || any
-    here true i rest any e = refl
-    here false i rest any e = e
+finds-same : (market market' wallet wallet' : Address → Option ℕ) (parties : PlainParties) (found : Option Stand)
+    → ((address : Address) → market address ≡ market' address) → ((address : Address) → wallet address ≡ wallet' address)
+    → FindsBy market wallet parties found → FindsBy market' wallet' parties found
+finds-same market market' wallet wallet' parties None markets wallets none =
+    rw (
+      sym (markets parties.market),
+      sym (is_found-same wallet wallet' wallets parties.coin),
+      sym (is_found-same wallet wallet' wallets parties.pc),
+      sym (is_found-same wallet wallet' wallets parties.discount),
+      sym (is_found-same wallet wallet' wallets parties.referrer),
+    ) none
+finds-same market market' wallet wallet' parties (Some at) markets wallets is = record {
+  market = sym (markets parties.market) ∙ is.market;
+  wallets =
+      wallets-same wallet wallet' wallets parties.coin parties.pc parties.discount parties.referrer at.wallets
+      is.wallets;
+}
 
-position-any : {X : Type 0} (test : X → Bool) (xs : List X) → is_some (position test xs) ≡ list_any test xs
-position-any test xs = ap is_some (position_from-zero test xs) ∙ some-any test 0 xs
-
-market-known : (address : Address) (markets : List PlainMarketAccounts) → is_some (market_place address markets) ≡ has_market address markets
-market-known address markets = position-any (λ (market : PlainMarketAccounts). is_same address market.address) markets
-
--- where a role's wallet stands among these
-abbrev role_in : List PlainAccount → Option Address → Option ℕ
-role_in wallets role = role_place (λ address. wallet_place address wallets) role
-
-role-known : (wallets : List PlainAccount) (role : Option Address) → is_some (role_in wallets role) ≡ is_known_role wallets role
-role-known wallets None = refl
-role-known wallets (Some address) = position-any (λ (wallet : PlainAccount). is_same address wallet.address) wallets
-
-role-at : (wallets : List PlainAccount) (role : Option Address) (place : ℕ) → role_in wallets role ≡ Some place → IsRoleAt wallets role place
-role-at wallets None place is = (tt, sym (same_Some 65535 place is))
-role-at wallets (Some address) place is = (is, tt)
+-- so names tell what the accounts tell
+pub by-names : (names : Names) (start : PlainAccounts) (parties : PlainParties) (found : Option Stand)
+    → AreNames names start → FindsIn names parties found → FindsAmong start parties found
+by-names names start parties found are is =
+    finds-same (hash.get is_same names.markets) (market_among start) (hash.get is_same names.wallets)
+    (wallet_among start) parties found are.markets are.wallets is
 
 -- ---- what is not found is unknown
 
-differ : (places : Stand) → ◌≡◌ {A = Option Stand} None (Some places) → ⊥
-differ places is = cc
-
-missing : (places : Stand) → ◌≡◌ {A = Option Stand} (Some places) None → ⊥
-missing places is = cc
-
-none-of : (m c p d r : Option ℕ) → all_places m c p d r ≡ None
-    → not (is_some m) || not (is_some c) || not (is_some p) || not (is_some d) || not (is_some r) ≡ true
-none-of None c p d r is = refl
-none-of (Some m) None p d r is = refl
-none-of (Some m) (Some c) None d r is = refl
-none-of (Some m) (Some c) (Some p) None r is = refl
-none-of (Some m) (Some c) (Some p) (Some d) None is = refl
-none-of (Some m) (Some c) (Some p) (Some d) (Some r) is = absurd (missing _ is)
-
--- all are found, at these places
-record AreFound (m c p d r : Option ℕ) (places : Stand) : Type 0 where
-  market : m ≡ Some places.market
-  coin : c ≡ Some places.coin
-  pc : p ≡ Some places.pc
-  discount : d ≡ Some places.discount
-  referrer : r ≡ Some places.referrer
-
-all-of : (m c p d r : Option ℕ) (places : Stand) → all_places m c p d r ≡ Some places → AreFound m c p d r places
-all-of None c p d r places is = absurd (differ places is)
-all-of (Some m) None p d r places is = absurd (differ places is)
-all-of (Some m) (Some c) None d r places is = absurd (differ places is)
-all-of (Some m) (Some c) (Some p) None r places is = absurd (differ places is)
-all-of (Some m) (Some c) (Some p) (Some d) None places is = absurd (differ places is)
-all-of (Some m) (Some c) (Some p) (Some d) (Some r) places is =
-    subst (AreFound (Some m) (Some c) (Some p) (Some d) (Some r)) (same_Some _ places is)
-    (record { market = refl; coin = refl; pc = refl; discount = refl; referrer = refl })
+all-or-one : (m c p d r : Bool) → not m || not c || not p || not d || not r ≡ not (m && (c && p && d && r))
+all-or-one false c p d r = refl
+all-or-one true false p d r = refl
+all-or-one true true false d r = refl
+all-or-one true true true false r = refl
+all-or-one true true true true r = refl
 
 module _ (start : PlainAccounts) (parties : PlainParties) where
-  -- the test of unknown names, by the places that are found
-  unknown-by : is_unknown start parties
-      ≡ not (is_some (market_place parties.market start.markets)) || not (is_some (role_in start.wallets parties.coin))
-      || not (is_some (role_in start.wallets parties.pc)) || not (is_some (role_in start.wallets parties.discount))
-      || not (is_some (role_in start.wallets parties.referrer))
+  role-known : (role : Option Address) → is_found (wallet_among start) role ≡ is_known_role start.wallets role
+  role-known None = refl
+  role-known (Some address) = position-any (λ (wallet : PlainAccount). is_same address wallet.address) start.wallets
+
+  -- the test of unknown names, by what is found
+  pub unknown-by : is_unknown start parties ≡ not (are_here (market_among start) (wallet_among start) parties)
   unknown-by =
       rw (
-        market-known parties.market start.markets,
-        role-known start.wallets parties.coin,
-        role-known start.wallets parties.pc,
-        role-known start.wallets parties.discount,
-        role-known start.wallets parties.referrer,
-      ) refl
+        position-any (λ (market : PlainMarketAccounts). is_same parties.market market.address) start.markets,
+        role-known parties.coin,
+        role-known parties.pc,
+        role-known parties.discount,
+        role-known parties.referrer,
+      ) (all-or-one _ _ _ _ _)
 
-  pub unknown : places_of start parties ≡ None → is_unknown start parties ≡ true
-  unknown none = unknown-by ∙ none-of _ _ _ _ _ none
+  pub unknown : FindsAmong start parties None → is_unknown start parties ≡ true
+  unknown none = unknown-by ∙ ap not none
 
-  found : (places : Stand) → places_of start parties ≡ Some places
-      → AreFound (market_place parties.market start.markets) (role_in start.wallets parties.coin) (role_in start.wallets parties.pc)
-      (role_in start.wallets parties.discount) (role_in start.wallets parties.referrer) places
-  found places is = all-of _ _ _ _ _ places is
-
-  pub known : (places : Stand) → places_of start parties ≡ Some places → is_unknown start parties ≡ false
+  pub known : (places : Stand) → StandAt start parties places → is_unknown start parties ≡ false
   known places is =
-      let are = found places is in unknown-by ∙ rw (are.market, are.coin, are.pc, are.discount, are.referrer) refl
+      let all =
+      all-found (wallet_among start) parties.coin parties.pc parties.discount parties.referrer places.wallets
+      is.wallets in
+      unknown-by ∙ ap not (and_from (is_some (market_among start parties.market)) _ (ap is_some is.market) all)
 
-  pub stand : (places : Stand) → places_of start parties ≡ Some places → StandAt start parties places
-  stand places is =
-      let are = found places is in
-      record {
-        market = are.market;
-        coin = role-at start.wallets parties.coin places.coin are.coin;
-        pc = role-at start.wallets parties.pc places.pc are.pc;
-        discount = role-at start.wallets parties.discount places.discount are.discount;
-        referrer = role-at start.wallets parties.referrer places.referrer are.referrer;
-      }
-
-  -- names stand in accounts that are these
-  pub stand-in : (other : PlainAccounts) (places : Stand) → other ≡ start → places_of start parties ≡ Some places → StandAt other parties places
-  stand-in other places same is = subst (λ (s : PlainAccounts). StandAt s parties places) (sym same) (stand places is)
+-- what is found by words that are these, among accounts that are these
+pub found-in : (start other : PlainAccounts) (words seen : PlainInstruction) (found told : Option Stand)
+    → other ≡ start → seen ≡ words → found ≡ told → FindsAmong start seen.parties found → FindsAmong other words.parties told
+found-in start other words seen found told same is tells finds = rw (same, sym is, sym tells) finds

@@ -1,5 +1,5 @@
 -- Rows that are read after the bare markets and wallets of a script, and added to it, are read after the script.
-use Rattle.std.proofs.Common.{◌≡◌, ◌∙◌, ◌+◌, ◌-◌, ◌^◌, ◌≤◌, ◌==◌, ℕ, ℤ, Bool, true, false, not, nat_le, List, [], ◌∷◌, ◌++◌, Option, Some, None, Result, Ok, Err, ap, append_assoc, append-nil, arith, map, max, refl, subst, sym}
+use Rattle.std.proofs.Common.{◌≡◌, ◌∙◌, ◌+◌, ◌-◌, ◌^◌, ◌≤◌, ◌==◌, ℕ, ℤ, Bool, true, false, not, nat_le, List, [], ◌∷◌, ◌++◌, Option, Result, Ok, Err, ap, append_assoc, append-nil, arith, map, max, refl, subst, sym}
 use Rattle.std.specs.List.{AllZip}
 use Rattle.std.proofs.lemmas.Bool.{lt-leb}
 use Rattle.std.proofs.lemmas.Iterator.Adapters.{position_from-zero}
@@ -19,37 +19,40 @@ use Rattle.dex_statement.specs.Faults.{◌>>=◌}
 use Rattle.dex_statement.specs.Stated.{PlainInstruction, PlainParties, PlainSwap}
 use Rattle.dex_statement.specs.Statements.{statement_of}
 use Rattle.dex_statement.specs.Words.{Fields}
-use Rattle.dex_script_types.specs.Places.{ArePlaced, IsBeside, IsPlaced, IsRolePlaced, wallet_place}
+use Rattle.dex_script_types.specs.Found.{is_found}
+use Rattle.dex_script_types.specs.Places.{ArePlaced, IsBeside, IsPlaced}
+use Rattle.dex_script_types.proofs.FoundLaws.{is_found-same, wallets-same}
 use Rattle.dex_script.specs.Drafts.{PlainDraft}
-use Rattle.dex_script.specs.declared.names.Stand.{Stand}
-use Rattle.dex_script.specs.Names.{AreFew, IsReading, places_of, role_place}
+use Rattle.dex_script.specs.Names.{AreFew, IsReading, are_here, market_among, wallet_among}
 use Rattle.dex_script.specs.Pieces.{AreAlike, HaveSamePlaces, IsUnderway, bare, bare_market, bare_wallet, beside, joined, number_after}
 use Rattle.dex_script.specs.Rows.{IsSetup, exceeds_row, instruction_row, is_bad_swap, is_full, is_unknown, with_clock, with_instruction, with_item, with_known, with_legs, with_program, with_row, with_statement, with_swap, with_two}
 use Rattle.dex_script.specs.Scripts.{Refusal, draft_after, fault_in}
 use Rattle.dex_script.proofs.FaultLaws.{bind-ok, differ, ok-same, or-none, unless-ok}
 use Rattle.dex_script.proofs.ItemRows.{first_leg, instruction-row, second_leg, swap-row}
-use Rattle.dex_script.proofs.NameLaws.{known, position-map, unknown}
+use Rattle.dex_script.proofs.NameLaws.{position-map, unknown-by}
 use Rattle.dex_script.proofs.OrderLaws.{by-row, first-row, through}
 use Rattle.dex_script.proofs.RowParts.{market-row, mint-row, msrm-row, orders-row, srm-row, wallet-row}
 
 -- ---- what is known among the one accounts is known among the others
 
 module _ (one other : PlainAccounts) (same : HaveSamePlaces one other) where
-  role-same : (role : Option Address) → role_place (λ address. wallet_place address one.wallets) role ≡ role_place (λ address. wallet_place address other.wallets) role
-  role-same None = refl
-  role-same (Some address) = same.wallets address
+  role-same : (role : Option Address) → is_found (wallet_among one) role ≡ is_found (wallet_among other) role
+  role-same role = is_found-same (wallet_among one) (wallet_among other) same.wallets role
 
-  places-same : (parties : PlainParties) → places_of one parties ≡ places_of other parties
-  places-same parties =
-      rw (same.markets parties.market, role-same parties.coin, role-same parties.pc, role-same parties.discount, role-same parties.referrer) refl
-
-  known-by : (parties : PlainParties) (found : Option Stand) → places_of one parties ≡ found → is_unknown one parties ≡ false
-      → is_unknown other parties ≡ false
-  known-by parties None is not = absurd (differ (sym (unknown one parties is) ∙ not))
-  known-by parties (Some at) is not = known other parties at (sym (places-same parties) ∙ is)
+  here-same : (parties : PlainParties)
+      → are_here (market_among one) (wallet_among one) parties ≡ are_here (market_among other) (wallet_among other) parties
+  here-same parties =
+      rw (
+        same.markets parties.market,
+        role-same parties.coin,
+        role-same parties.pc,
+        role-same parties.discount,
+        role-same parties.referrer,
+      ) refl
 
   pub known-there : (parties : PlainParties) → is_unknown one parties ≡ false → is_unknown other parties ≡ false
-  known-there parties = known-by parties (places_of one parties) refl
+  known-there parties is =
+      unknown-by other parties ∙ ap not (sym (here-same parties)) ∙ sym (unknown-by one parties) ∙ is
 
 -- ---- no setup row is without a fault behind an instruction row
 
@@ -293,10 +296,6 @@ after-both number draft (fields ∷ rows) more =
 -- ---- what a reader knows of a piece, and of a script with it
 
 module _ (one other : PlainAccounts) (same : HaveSamePlaces one other) where
-  role-there : (role : Option Address) (place : ℕ) → IsRolePlaced one.wallets role place → IsRolePlaced other.wallets role place
-  role-there None place is = is
-  role-there (Some address) place is = sym (same.wallets address) ∙ is
-
   placed-there : (rows : List PlainRow) (places : List RowPlaces) → ArePlaced one rows places → ArePlaced other rows places
   placed-there [] [] are = tt
   placed-there [] (place ∷ places) are = absurd are
@@ -304,10 +303,9 @@ module _ (one other : PlainAccounts) (same : HaveSamePlaces one other) where
   placed-there (row ∷ rows) (place ∷ places) (is, are) = (
     record {
       market = sym (same.markets row.market) ∙ is.market;
-      coin = role-there row.coin place.coin is.coin;
-      pc = role-there row.pc place.pc is.pc;
-      discount = role-there row.discount place.discount is.discount;
-      referrer = role-there row.referrer place.referrer is.referrer;
+      wallets =
+          wallets-same (wallet_among one) (wallet_among other) same.wallets row.coin row.pc row.discount row.referrer
+          place.wallets is.wallets;
     },
     placed-there rows places are,
   )

@@ -164,10 +164,7 @@ pub fn push_placed(
         number,
         lane: words.lane,
         market: at.market,
-        coin: at.coin,
-        pc: at.pc,
-        discount: at.discount,
-        referrer: at.referrer,
+        wallets: at.wallets,
     });
     rows.push_reserved(take_row(number, now, words));
 }

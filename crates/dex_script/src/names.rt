@@ -11,21 +11,18 @@ ghost use Rattle.dex_script.specs.Telling.{start_of};
 
 use crate::draft::Start;
 use crate::market::DeclaredMarket;
-use dex_script_types::{addresses_of_wallets, push_address};
+use dex_script_types::{FindsWallets, addresses_of_wallets, push_address, wallets_at};
 use dex_statement::Parties;
 use dex_types::{Address, NoMemory};
+use dex_world::RowWallets;
 use std::alloc::Global;
 use std::collections::HashMap;
 
-/// Where the market and the wallets of a row stand in the lists of those with which its script starts; `u16::MAX` for a
-/// role that names none.
+/// Where the market and the wallets of a row stand in the lists of those with which its script starts.
 #[derive(Clone, Copy)]
 pub struct Stand {
     pub market: u16,
-    pub coin: u16,
-    pub pc: u16,
-    pub discount: u16,
-    pub referrer: u16,
+    pub wallets: RowWallets,
 }
 
 /// The markets and the wallets with which a script starts, each at its place.
@@ -60,33 +57,36 @@ impl Names {
 
     /// Where the market and the wallets that an instruction row names stand, if all of them are here.
     pub fn places_of(&self, parties: &Parties) -> Option<Stand>
-        ensures { result ≡ spec.places_in self.now parties.now }
+        ensures { spec.FindsIn self.now parties.now result }
     {
-        Some(Stand {
-            market: place_in(&self.markets, parties.market)?,
-            coin: role_place(&self.wallets, parties.coin)?,
-            pc: role_place(&self.wallets, parties.pc)?,
-            discount: role_place(&self.wallets, parties.discount)?,
-            referrer: role_place(&self.wallets, parties.referrer)?,
-        })
+        let market = place_among(&self.markets, parties.market)?;
+        let wallets = wallets_at(
+            self,
+            parties.coin,
+            parties.pc,
+            parties.discount,
+            parties.referrer,
+        )?;
+        Some(Stand { market, wallets })
+    }
+}
+
+impl FindsWallets for Names {
+    ghost use Rattle.std.specs.HashMap as hash;
+    ghost use Rattle.dex_types.specs.Addresses.{is_same};
+
+    ghost place = { λ names. hash.get is_same names.wallets };
+
+    fn find(&self, address: Address) -> Option<u16> {
+        place_among(&self.wallets, address)
     }
 }
 
 /// Where an address stands, if it is here.
-fn place_in(places: &HashMap<Address, u16>, address: Address) -> Option<u16>
+fn place_among(places: &HashMap<Address, u16>, address: Address) -> Option<u16>
     ensures { result ≡ hash.get is_same places.now address }
 {
     places.get(&address).copied()
-}
-
-/// Where the wallet of a role stands, if it is here; `u16::MAX` for a role that names none.
-fn role_place(places: &HashMap<Address, u16>, role: Option<Address>) -> Option<u16>
-    ensures { result ≡ spec.role_place (hash.get is_same places.now) role }
-{
-    match role {
-        None => Some(u16::MAX),
-        Some(address) => place_in(places, address),
-    }
 }
 
 /// Puts an address at a place.

@@ -4,7 +4,7 @@ ghost use Rattle.std.specs.Prelude.{◌≡◌, ℕ, [], IfOk};
 ghost use Rattle.dex_types.specs.Limits.{AreLimits};
 ghost use Rattle.dex_script_types.specs.Facts.{IsScript};
 ghost use Rattle.dex_script.specs.Drafts.{no_rows};
-ghost use Rattle.dex_script.specs.Names.{IsReading, places_of};
+ghost use Rattle.dex_script.specs.Names.{FindsAmong, IsReading};
 ghost use Rattle.dex_script.specs.Rows as spec;
 ghost use Rattle.dex_script.specs.Rows.{IsSetup};
 ghost use Rattle.dex_script.specs.Telling.{TellsAdded, draft_of};
@@ -30,7 +30,7 @@ const MANY: usize = 262_144;
 const ROWS: usize = 512;
 
 /// For the places of so many rows at once.
-const PLACES: usize = 6_600;
+const PLACES: usize = 5_500;
 
 /// A script as far as its rows are read, the places of each row, and, from its first instruction row on, the names of
 /// its markets and wallets. A contract sees it as what the rows say.
@@ -233,7 +233,7 @@ impl Reader {
     /// Where the market and the wallets that an instruction row names stand, if all are declared. Makes the names where
     /// they are not there yet.
     fn places_of(&mut self, alloc: Global, parties: &Parties) -> Result<Option<Stand>, NoMemory>
-        ensures places { IfOk result (λ found. found ≡ places_of self.old.script.start parties.now) }
+        ensures places { IfOk result (FindsAmong self.old.script.start parties.now) }
         ensures same { self.new ≡ self.old }
     {
         match &self.names {
@@ -249,7 +249,7 @@ impl Reader {
         alloc: Global,
         parties: &Parties,
     ) -> Result<Option<Stand>, NoMemory>
-        ensures places { IfOk result (λ found. found ≡ places_of self.old.script.start parties.now) }
+        ensures places { IfOk result (FindsAmong self.old.script.start parties.now) }
         ensures same { self.new ≡ self.old }
     {
         let names = Names::of_start(alloc, &self.draft.start)?;

@@ -1,4 +1,5 @@
 pub mod Apart
+pub mod FoundLaws
 pub mod ItemCounts
 pub mod PlacedLaws
 pub mod Roles

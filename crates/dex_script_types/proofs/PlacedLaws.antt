@@ -11,9 +11,12 @@ use Rattle.dex_world.specs.declared.places.RowPlaces.{RowPlaces}
 use Rattle.dex_types.specs.Accounts.{PlainAccount, PlainAccounts, PlainMarketAccounts}
 use Rattle.dex_types.specs.Addresses.{is_same}
 use Rattle.dex_types.specs.Rows.{PlainRow, row_of}
+use Rattle.dex_types.specs.Wallets.{row_wallets}
 use Rattle.dex_laws.proofs.TraderLaws.{is_same-true}
+use Rattle.dex_world.specs.Places.{ArePlacesOf, AreWalletsAt, IsIndexOf, coin_at, discount_at, pc_at, place_at, referrer_at}
 use Rattle.dex_script_types.specs.PlainScript.{PlainScript}
-use Rattle.dex_script_types.specs.Places.{AreBeside, ArePlaced, IsBeside, IsPlace, IsPlaced, market_addresses, market_place, wallet_addresses, wallet_place}
+use Rattle.dex_script_types.specs.Places.{AreBeside, ArePlaced, IsBeside, IsMarked, IsPlace, IsPlaced, IsRolePlaced, market_addresses, market_place, wallet_addresses, wallet_place}
+use Rattle.dex_script_types.proofs.FoundLaws.{found-at, role-marked}
 
 -- each row has places
 pub placed-long : (start : PlainAccounts) (rows : List PlainRow) (places : List RowPlaces) → ArePlaced start rows places
@@ -38,7 +41,12 @@ row-at R rows places are index row at within =
 
 -- what stands beside no row
 abbrev pub nowhere : RowPlaces
-nowhere = record { number = 0; lane = 0; market = 0; coin = 0; pc = 0; discount = 0; referrer = 0 }
+nowhere = record {
+  number = 0;
+  lane = 0;
+  market = 0;
+  wallets = record { places = []; coin = 4; pc = 4; discount = 4; referrer = 4 };
+}
 
 -- what stands at a place that is within
 pub item_at : {A : Type 0} (items : List A) (place : ℕ) → place < length items → A
@@ -90,6 +98,58 @@ pub wallet-here : (address : Address) (wallets : List PlainAccount) (place : ℕ
 wallet-here address wallets place default is =
     sym (is_same-true address (get_or wallets place default).address
     (position-Some (λ (w : PlainAccount). is_same address w.address) wallets place default is).1)
+
+-- ---- the places of a row's roles
+
+-- where a wallet stands among these
+abbrev place_among : List PlainAccount → Address → Option ℕ
+place_among wallets address = wallet_place address wallets
+
+role-placed : (wallets : List PlainAccount) (addresses : List Address) (places : List ℕ)
+    (role : Option Address) (index : ℕ)
+    → ArePlacesOf (place_among wallets) addresses places → IsIndexOf addresses role index
+    → IsRolePlaced wallets role (get_or places index 65535)
+role-placed wallets addresses places None index are is = tt
+role-placed wallets addresses places (Some address) index are is =
+    found-at (place_among wallets) addresses places index address are is
+
+module _ (start : PlainAccounts) (row : PlainRow) (at : RowPlaces) (is : IsPlaced start row at) where
+  pub coin-placed : IsRolePlaced start.wallets row.coin (coin_at at)
+  coin-placed =
+      role-placed start.wallets (row_wallets row) at.wallets.places row.coin at.wallets.coin is.wallets.places
+      is.wallets.of_coin
+
+  pub pc-placed : IsRolePlaced start.wallets row.pc (pc_at at)
+  pc-placed =
+      role-placed start.wallets (row_wallets row) at.wallets.places row.pc at.wallets.pc is.wallets.places
+      is.wallets.of_pc
+
+  pub discount-placed : IsRolePlaced start.wallets row.discount (discount_at at)
+  discount-placed =
+      role-placed start.wallets (row_wallets row) at.wallets.places row.discount at.wallets.discount is.wallets.places
+      is.wallets.of_discount
+
+  pub referrer-placed : IsRolePlaced start.wallets row.referrer (referrer_at at)
+  referrer-placed =
+      role-placed start.wallets (row_wallets row) at.wallets.places row.referrer at.wallets.referrer is.wallets.places
+      is.wallets.of_referrer
+
+-- what stands beside a row whose wallets stand somewhere
+pub stands-beside : (place_of : Address → Option ℕ) (row : PlainRow) (at : RowPlaces)
+    → AreWalletsAt place_of row.coin row.pc row.discount row.referrer at.wallets
+    → at.number ≡ row.number → at.lane ≡ row.lane → IsBeside row at
+stands-beside place_of row at is number lane =
+    let marked : (role : Option Address) (index : ℕ) → IsIndexOf (row_wallets row) role index
+    → IsMarked role (place_at at.wallets index) = λ role index of.
+    role-marked place_of row.coin row.pc row.discount row.referrer role at.wallets.places index is.places of in
+    record {
+      number = number;
+      lane = lane;
+      coin = marked row.coin at.wallets.coin is.of_coin;
+      pc = marked row.pc at.wallets.pc is.of_pc;
+      discount = marked row.discount at.wallets.discount is.of_discount;
+      referrer = marked row.referrer at.wallets.referrer is.of_referrer;
+    }
 
 -- ---- places among addresses
 

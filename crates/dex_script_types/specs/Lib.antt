@@ -1,5 +1,6 @@
 pub mod Facts
 pub mod Firsts
+pub mod Found
 pub mod Known
 pub mod Places
 pub mod PlainScript

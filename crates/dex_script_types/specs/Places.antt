@@ -7,6 +7,7 @@ use Rattle.dex_types.specs.Accounts.{PlainAccount, PlainAccounts, PlainMarketAcc
 use Rattle.dex_types.specs.Addresses.{is_same}
 use Rattle.dex_types.specs.Rows.{PlainRow}
 use Rattle.dex_world.specs.Groups.{grouped}
+use Rattle.dex_world.specs.Places.{AreWalletsAt, coin_at, discount_at, pc_at, referrer_at}
 use Rattle.dex_script_types.specs.PlainScript.{PlainScript}
 
 -- the place of the first market of an address
@@ -25,10 +26,9 @@ IsRolePlaced wallets (Some address) place = wallet_place address wallets ≡ Som
 -- the market and the wallets of a row stand at these places
 pub record IsPlaced (start : PlainAccounts) (row : PlainRow) (places : RowPlaces) : Type 0 where
   pub market : market_place row.market start.markets ≡ Some places.market
-  pub coin : IsRolePlaced start.wallets row.coin places.coin
-  pub pc : IsRolePlaced start.wallets row.pc places.pc
-  pub discount : IsRolePlaced start.wallets row.discount places.discount
-  pub referrer : IsRolePlaced start.wallets row.referrer places.referrer
+  pub wallets :
+      AreWalletsAt (λ (address : Address). wallet_place address start.wallets)
+      row.coin row.pc row.discount row.referrer places.wallets
 
 -- each row has its places beside it
 abbrev pub ArePlaced : PlainAccounts → List PlainRow → List RowPlaces → Type 0
@@ -43,10 +43,10 @@ IsMarked (Some address) place = Unit {0}
 pub record IsBeside (row : PlainRow) (at : RowPlaces) : Type 0 where
   pub number : at.number ≡ row.number
   pub lane : at.lane ≡ row.lane
-  pub coin : IsMarked row.coin at.coin
-  pub pc : IsMarked row.pc at.pc
-  pub discount : IsMarked row.discount at.discount
-  pub referrer : IsMarked row.referrer at.referrer
+  pub coin : IsMarked row.coin (coin_at at)
+  pub pc : IsMarked row.pc (pc_at at)
+  pub discount : IsMarked row.discount (discount_at at)
+  pub referrer : IsMarked row.referrer (referrer_at at)
 
 -- this stands beside each row
 abbrev pub AreBeside : List PlainRow → List RowPlaces → Type 0

@@ -7,6 +7,6 @@ mod row_list;
 mod script;
 
 pub use addresses::{addresses_of_markets, addresses_of_wallets, push_address, push_named};
-pub use placing::{is_role, place_in};
+pub use placing::{FindsWallets, is_role, wallets_at};
 pub use row_list::RowList;
 pub use script::Script;

@@ -1,13 +1,102 @@
-//! Where the wallets that a row names stand, as the places beside it tell.
+//! Where the wallets of a row stand, as whoever finds a wallet by its address tells.
 
-ghost use Rattle.std.specs.Prelude.{◌≡◌, IfSome, None, Some, false};
-ghost use Rattle.dex_types.specs.Accounts.{PlainAccounts};
-ghost use Rattle.dex_types.specs.Rows.{row_of};
+ghost use Rattle.std.specs.Prelude.{◌≡◌, ℕ, IfSome, None, Option, Some, false};
+ghost use Rattle.std.specs.List.{position};
+ghost use Rattle.dex_types.specs.declared.addresses.Address.{Address as AddressOf};
 ghost use Rattle.dex_world.specs.Fold as fold;
-ghost use Rattle.dex_script_types.specs.Places.{IsPlaced, wallet_place};
+ghost use Rattle.dex_world.specs.Places.{AreWalletsAt, IsIndexOf};
+ghost use Rattle.dex_locks.specs.Places.{front};
+ghost use Rattle.dex_script_types.specs.Found as spec;
 
-use dex_types::{Address, Row, is_same};
-use dex_world::RowPlaces;
+use dex_locks::plan_wallets;
+use dex_types::{Address, is_same};
+use dex_world::RowWallets;
+
+/// Who finds a wallet by its address.
+pub trait FindsWallets {
+    /// The place of the wallet of an address, if it is one of theirs.
+    ghost place: { Self → AddressOf → Option ℕ };
+
+    /// The place of the wallet of this address, if it is one of theirs.
+    fn find(&self, address: Address) -> Option<u16>
+        ensures { result ≡ place self.now address };
+}
+
+/// Where the wallets that four roles name stand, if all are found. Each is looked for once.
+pub fn wallets_at<F: FindsWallets>(
+    finder: &F,
+    coin: Option<Address>,
+    pc: Option<Address>,
+    discount: Option<Address>,
+    referrer: Option<Address>,
+) -> Option<RowWallets>
+    ensures found { IfSome result (AreWalletsAt (F.place finder.now) coin pc discount referrer) }
+    ensures none { result ≡ None → spec.are_found (F.place finder.now) coin pc discount referrer ≡ false }
+{
+    let wallets = plan_wallets(&coin, &pc, &discount, &referrer);
+    let places = places_by(finder, &wallets)?;
+    Some(RowWallets {
+        places,
+        coin: index_of(&wallets, coin),
+        pc: index_of(&wallets, pc),
+        discount: index_of(&wallets, discount),
+        referrer: index_of(&wallets, referrer),
+    })
+}
+
+/// Where these wallets stand, if all are found; `u16::MAX` for none.
+fn places_by<F: FindsWallets>(finder: &F, wallets: &[Option<Address>; 4]) -> Option<[u16; 4]>
+    ensures { result ≡ spec.places_by (F.place finder.now) wallets.now }
+{
+    all_four(
+        place_of(finder, wallets[0]),
+        place_of(finder, wallets[1]),
+        place_of(finder, wallets[2]),
+        place_of(finder, wallets[3]),
+    )
+}
+
+/// Where this wallet stands, if it is found; `u16::MAX` for none.
+fn place_of<F: FindsWallets>(finder: &F, wallet: Option<Address>) -> Option<u16>
+    ensures { result ≡ spec.role_place (F.place finder.now) wallet }
+{
+    match wallet {
+        None => Some(u16::MAX),
+        Some(address) => finder.find(address),
+    }
+}
+
+/// Four places, if all are there.
+fn all_four(
+    first: Option<u16>,
+    second: Option<u16>,
+    third: Option<u16>,
+    fourth: Option<u16>,
+) -> Option<[u16; 4]>
+    ensures { result ≡ spec.all_four first second third fourth }
+{
+    Some([first?, second?, third?, fourth?])
+}
+
+/// The index of a role's wallet, where it is one of these; 4 of a role that names none.
+fn index_of(wallets: &[Option<Address>; 4], role: Option<Address>) -> u8
+    ensures { (index : ℕ) → IsIndexOf (front wallets.now) role index → result ≡ index }
+{
+    match role {
+        None => 4,
+        Some(address) => match find(wallets, address) {
+            Some(index) => index as u8,
+            None => 4,
+        },
+    }
+}
+
+/// The index of the first of these that is this wallet.
+fn find(wallets: &[Option<Address>], address: Address) -> Option<usize>
+    ensures { result ≡ position (λ wallet. fold.is_role wallet address) wallets.now }
+{
+    wallets.iter().position(|wallet| is_role(*wallet, address))
+}
 
 /// Whether a role names a wallet.
 pub fn is_role(role: Option<Address>, address: Address) -> bool
@@ -16,25 +105,5 @@ pub fn is_role(role: Option<Address>, address: Address) -> bool
     match role {
         Some(wallet) => is_same(address, wallet),
         None => false,
-    }
-}
-
-/// The place of a wallet, if the row names it.
-pub fn place_in(row: &Row, places: &RowPlaces, address: Address) -> Option<usize>
-    ensures place { IfSome result (λ place. (start : PlainAccounts)
-        → IsPlaced start (row_of row.entry.now) places.entry.now
-        → wallet_place address start.wallets ≡ Some place) }
-    ensures none { result ≡ None → fold.names (row_of row.entry.now) address ≡ false }
-{
-    if is_role(row.coin, address) {
-        Some(places.coin as usize)
-    } else if is_role(row.pc, address) {
-        Some(places.pc as usize)
-    } else if is_role(row.discount, address) {
-        Some(places.discount as usize)
-    } else if is_role(row.referrer, address) {
-        Some(places.referrer as usize)
-    } else {
-        None
     }
 }

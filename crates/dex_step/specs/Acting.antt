@@ -56,8 +56,8 @@ pub record KeepsAccounts (before after : PlainMarketAccounts) : Type 0 where
   pub accepted : IsAccepted before → IsAccepted after
 
 -- a market's accounts by what each holds
-abbrev pub accounts_with : Address → Address → List ℕ → List ℕ → List ℕ → List ℕ → List ℕ → List ℕ → List ℕ → List PlainAccount
-    → PlainMarketAccounts
+abbrev pub accounts_with : Address → Address → List ℕ → List ℕ → List ℕ → List ℕ → List ℕ → List ℕ → List ℕ
+    → List PlainAccount → PlainMarketAccounts
 accounts_with address authority market coin_vault pc_vault requests events bids asks orders = record {
   address = address;
   authority = authority;

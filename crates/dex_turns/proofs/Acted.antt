@@ -16,7 +16,7 @@ use Rattle.dex_world.specs.Items.{doing}
 use Rattle.dex_world.proofs.ItemLaws.{not-refused}
 use Rattle.dex_script_types.specs.Facts.{IsLeg}
 use Rattle.dex_turns.specs.Submitted.{written_by}
-use Rattle.dex_act.specs.declared.sight.Terms.{Terms}
+use Rattle.dex_act.specs.Steps.{Terms}
 use Rattle.dex_act.specs.declared.steps.RowDone.{RowDone}
 use Rattle.dex_act.specs.Steps.{IsRecorded, IsStepOn, IsTakeOrRefused, made_by}
 use Rattle.dex_journals.specs.Journals.{IsBankMarket, market_more}
@@ -47,7 +47,7 @@ has-call terms row waits done stamp before after cells left step more kept = rec
   kept = kept;
 }
 
-pub is-told : (script : PlainScript) (row : PlainRow) (cells : List CellState) (seen : Seen) → HasHands script row cells → seen ≡ seen_by row (world_with script cells)
+pub is-told : (script : PlainScript) (row : PlainRow) (cells : List CellState) (seen : Seen) → HasHands script cells → seen ≡ seen_by row (world_with script cells)
     → Sees (asked_of row) seen → (waits : Bool) (m : Market) (stamp : ℕ) → IsTold script (record { item = made_by waits row seen m; stamp = stamp })
 is-told script row cells seen hand seen_is sees waits m stamp =
     let s : Step = row_step (doing waits row) seen m in

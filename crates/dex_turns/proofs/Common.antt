@@ -1,6 +1,6 @@
 -- The names that many proofs of this crate and of those above it cite, passed on from one place. Declares nothing.
 pub use Rattle.dex_accounts.specs.Decoded.{market_in}
-pub use Rattle.dex_act.specs.Wallets.{Fits, SeesCells, is_among, made_of, roles_of, wallet_state_of}
+pub use Rattle.dex_act.specs.Wallets.{made_of, wallet_state_of}
 pub use Rattle.dex_cell.specs.CellState.{MarketCellState}
 pub use Rattle.dex_state.specs.Accepted.{AreAccepted}
 pub use Rattle.dex_world.proofs.MappedLists.{All-unmap, any-here, any-there, filter-of, filter-swap, list_any-map}
@@ -17,10 +17,8 @@ pub use Rattle.dex_journals.specs.Journals.{BankMarketState, BankWalletState, Is
 pub use Rattle.dex_journals.specs.Lanes.{AreAllOrNone, IsAsOthers, IsLane, MovesEach, number_in}
 pub use Rattle.dex_journals.specs.StampedCalls.{calls_on, entries_in, entries_on, entry_made}
 pub use Rattle.dex_script_types.proofs.Apart.{market-once, wallet-once}
-pub use Rattle.dex_script_types.proofs.Roles.{roles-all}
 pub use Rattle.dex_script_types.specs.PlainScript.{PlainScript}
 pub use Rattle.dex_script_types.specs.Facts.{IsRowOf, IsScript}
-pub use Rattle.dex_script_types.specs.Known.{has_account}
 pub use Rattle.dex_script_types.specs.Places.{IsPlace, market_addresses, wallet_addresses}
 pub use Rattle.dex_script_types.specs.Sight.{IsSight, IsWalletSeen}
 pub use Rattle.dex_turns.specs.Outline.{terms_of, world_with}
@@ -31,5 +29,5 @@ pub use Rattle.dex_turns.specs.Bank.{BankState, IsBank, IsMarketGate, IsWalletGa
 pub use Rattle.dex_turns.specs.Inside.{call_made}
 pub use Rattle.dex_turns.specs.Seats.{IsMarketPass, IsPass, IsSeat, IsSeatOf, IsWalletPass, SeatState}
 pub use Rattle.dex_turns.specs.Submitted.{AreNext, HasCalled, HasSubmitted, HaveSubmitted, IsNext, Where}
-pub use Rattle.dex_turns.specs.Turns.{AreInHand, AreReady, HasCall, HasEntry, HasLeft, HaveGrown, IsReady, MayDraw, MayEnter, MayLeave, MayName, OneGrows}
+pub use Rattle.dex_turns.specs.Turns.{AreInHand, AreReady, HasCall, HasEntry, HasLeft, HaveGrown, IsReady, MayDraw, MayEnter, MayLeave, OneGrows}
 pub use Rattle.dex_wallet.specs.CellState.{CellState, IsWalletCell, balance_of}

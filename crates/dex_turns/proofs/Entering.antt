@@ -1,16 +1,15 @@
 -- The turn of a row's market: what is known when it is taken, and when it is left.
 use Rattle.std.proofs.Common.{◌≡◌, ℕ, ◌==◌, List, ◌++◌, length, sym, ap, ◌∙◌, subst, arith}
 use Rattle.dex_world.proofs.Common.{Call, PlainMarketAccounts, PlainRow}
-use Rattle.dex_turns.proofs.Common.{AddsOne, BankMarketState, Extends, GateView, HasCall, HasCalled, Idle, MarketOrigin, MayEnter, PassView, PlainScript, Stamped, added, market_calls, of_lane, rows_of_market}
+use Rattle.dex_turns.proofs.Common.{AddsOne, BankMarketState, Extends, HasCall, HasCalled, Idle, MarketOrigin, MayEnter, PlainScript, Stamped, added, market_calls, of_lane, rows_of_market}
 use Rattle.dex_journals.specs.Journals.{calls_by, market_origin}
+use Rattle.dex_turns.specs.Bank.{MarketGate}
+use Rattle.dex_turns.specs.Seats.{MarketPass}
 use Rattle.dex_turns.specs.Turns.{IsMarketOut, MayCall}
 use Rattle.dex_turns.proofs.Counts.{length-stamped}
 use Rattle.dex_turns.proofs.LeavingTurns.{has-called, market-adds}
 
-abbrev pub MarketPass : Type 0
-MarketPass = PassView (Stamped Call) MarketOrigin
-
-module _ (script : PlainScript) (row : PlainRow) (gate : GateView (Stamped Call) MarketOrigin) (before out : MarketPass) (market : BankMarketState)
+module _ (script : PlainScript) (row : PlainRow) (gate : MarketGate) (before out : MarketPass) (market : BankMarketState)
     (enter : MayEnter script row gate before) (is_out : IsMarketOut gate before out market) where
   start-is : market.cell.start ≡ gate.origin.start
   start-is = ap (λ (o : MarketOrigin). o.start) is_out.origin

@@ -26,8 +26,7 @@ use Rattle.dex_world.proofs.Common.{All-head, WalletEntry}
 use Rattle.dex_gate.specs.GateView.{GateView}
 use Rattle.dex_gate.specs.declared.stage.Stage.TheVariants.{Idle, Out}
 use Rattle.dex_journals.specs.Journals.{MarketOrigin, WalletOrigin}
-use Rattle.dex_turns.proofs.Entering.{MarketPass}
-use Rattle.dex_turns.proofs.Growing.{WalletPass}
+use Rattle.dex_turns.specs.Seats.{MarketPass, WalletPass}
 use Rattle.dex_types.specs.Wallets.{is_lower}
 use Rattle.dex_turns.specs.Turns.{AreRising, HoldsTurn, IsAboveMarkets, IsAboveWallets, leg_markets, leg_wallets}
 

@@ -1,20 +1,21 @@
 -- The turns of two markets, taken in the one order and told in the other; and which order it is.
-use Rattle.std.proofs.Common.{◌≡◌, ℕ, Bool, true, false, cond, List, [], ◌∷◌, Some, get_or, sym, ap, ◌∙◌, subst, ⊎_elim}
+use Rattle.std.proofs.Common.{◌≡◌, ℕ, Bool, true, false, List, [], ◌∷◌, Some, sym, ap, ◌∙◌, subst, ⊎_elim}
 use Rattle.std.specs.List.{All}
-use Rattle.std.proofs.lemmas.Bool.{cond-false, cond-true}
-use Rattle.dex_world.proofs.Common.{Address, All-head, All-nil, All-weaker, Call, cases_Bool, is_same, is_same-refl, is_same-sym}
-use Rattle.dex_types.specs.Wallets.{is_lower, with_address}
+use Rattle.std.proofs.lemmas.Bool.{cond-false}
+use Rattle.dex_world.proofs.Common.{Address, All-head, All-nil, All-weaker, cases_Bool, is_same}
+use Rattle.dex_types.specs.Wallets.{is_lower}
 use Rattle.dex_history.proofs.AddressOrder.{AreRising, with_address-rising}
-use Rattle.dex_turns.proofs.Common.{BankMarketState, GateView, Idle, MarketOrigin, Stamped}
+use Rattle.dex_turns.proofs.Common.{BankMarketState, Idle}
+use Rattle.dex_turns.specs.Bank.{MarketGate}
 use Rattle.std.proofs.lemmas.List.Elements.{All-set}
 use Rattle.dex_turns.specs.Turns.{AreIdle, HoldsTurn, IsAboveMarkets, IsBelow, IsHomeAt, IsOutAt}
 use Rattle.dex_turns.specs.declared.two_turns.TwoTurns.{TwoTurns}
 use Rattle.dex_turns.specs.Submitted.{Where}
 use Rattle.dex_turns.specs.TwoTurns.{HaveTaken, exchanged}
-use Rattle.dex_turns.proofs.Entering.{MarketPass}
+use Rattle.dex_turns.specs.Seats.{MarketPass}
 use Rattle.dex_turns.proofs.TwoPlaces.{set-swap}
 
-pub exchanged-taken : (one two : GateView (Stamped Call) MarketOrigin) (place next : ℕ) (before after : List MarketPass) (last : ℕ) (turns : TwoTurns) → (place ≡ next → ⊥)
+pub exchanged-taken : (one two : MarketGate) (place next : ℕ) (before after : List MarketPass) (last : ℕ) (turns : TwoTurns) → (place ≡ next → ⊥)
     → HaveTaken two one next place before after last turns → HaveTaken one two place next before after last (exchanged turns)
 exchanged-taken one two place next before after last turns apart taken = record {
   out = record {
@@ -31,16 +32,16 @@ exchanged-taken one two place next before after last turns apart taken = record 
   stamp = taken.stamp;
 }
 
-abbrev pub IsHeldBelow : GateView (Stamped Call) MarketOrigin → MarketPass → Type 0
-IsHeldBelow gate pass = HoldsTurn pass → (other : GateView (Stamped Call) MarketOrigin) → pass.gate ≡ Some other → IsBelow other gate
+abbrev pub IsHeldBelow : MarketGate → MarketPass → Type 0
+IsHeldBelow gate pass = HoldsTurn pass → (other : MarketGate) → pass.gate ≡ Some other → IsBelow other gate
 
 -- where no turn of a market is out, each is above all
-pub idle-below : (gate : GateView (Stamped Call) MarketOrigin) (passes : List MarketPass) → AreIdle passes → IsAboveMarkets gate passes
+pub idle-below : (gate : MarketGate) (passes : List MarketPass) → AreIdle passes → IsAboveMarkets gate passes
 idle-below gate passes idle =
     All-weaker (λ (pass : MarketPass). pass.stage ≡ Idle) (IsHeldBelow gate) (λ pass is holds other at. absurd (holds is)) passes idle
 
 -- where the lower market's turn alone is out, the higher one is above all whose turns the lane has
-pub taken-below : (lower higher : GateView (Stamped Call) MarketOrigin) (place : ℕ) (before after : List MarketPass) (market : BankMarketState) → IsBelow lower higher
+pub taken-below : (lower higher : MarketGate) (place : ℕ) (before after : List MarketPass) (market : BankMarketState) → IsBelow lower higher
     → AreIdle before → IsHomeAt lower place before → IsOutAt lower place before after market → IsAboveMarkets higher after
 taken-below lower higher place before after market order idle home out =
     subst (All (IsHeldBelow higher)) (sym out.is)
@@ -50,21 +51,16 @@ taken-below lower higher place before after market order idle home out =
     one holds other at =
         let both : Some lower ≡ Some other = sym (ap (λ (p : MarketPass). p.gate) (out.taken out.out).pass ∙ home.home out.out) ∙ at in
         let other_is : other ≡ lower = (cc) in
-        subst (λ (gate : GateView (Stamped Call) MarketOrigin). IsBelow gate higher) (sym other_is) order
+        subst (λ (gate : MarketGate). IsBelow gate higher) (sym other_is) order
 
 -- ---- which of two addresses is the lower
 
-pub order-told : (a b d : Address) (markets : List Address) (test : Bool) → is_same a b ≡ false → markets ≡ with_address a (with_address b []) → test ≡ is_same (get_or markets 0 d) a
-    → Where test (is_lower a b ≡ true) (is_lower b a ≡ true)
-order-told a b d markets test apart told test_is =
+pub one-lower : (a b : Address) → is_same a b ≡ false → Where (is_lower a b) (is_lower a b ≡ true) (is_lower b a ≡ true)
+one-lower a b apart =
     let Told : Bool → Type 0 = λ t. Where t (is_lower a b ≡ true) (is_lower b a ≡ true) in
-    let chosen : with_address a (b ∷ []) ≡ cond (is_lower a b) (a ∷ b ∷ []) (b ∷ a ∷ []) = cond-false _ _ _ apart in
-    ⊎_elim
-    (λ (low : is_lower a b ≡ true).
-    let first : get_or markets 0 d ≡ a = ap (λ (l : List Address). get_or l 0 d) (told ∙ chosen ∙ cond-true _ _ _ low) in
-    subst Told (sym (test_is ∙ ap (λ (x : Address). is_same x a) first ∙ is_same-refl a)) low)
+    ⊎_elim (λ (low : is_lower a b ≡ true). subst Told (sym low) low)
     (λ (high : is_lower a b ≡ false).
-    let first : get_or markets 0 d ≡ b = ap (λ (l : List Address). get_or l 0 d) (told ∙ chosen ∙ cond-false _ _ _ high) in
-    let rising : AreRising (b ∷ a ∷ []) = subst AreRising (chosen ∙ cond-false _ _ _ high) (with_address-rising a (b ∷ []) (All-nil _, tt)) in
-    subst Told (sym (test_is ∙ ap (λ (x : Address). is_same x a) first ∙ is_same-sym b a ∙ apart)) (All-head (λ (x : Address). is_lower b x ≡ true) a [] rising.0))
+    let rising : AreRising (b ∷ a ∷ []) =
+    subst AreRising (cond-false (is_same a b) _ _ apart ∙ cond-false (is_lower a b) _ _ high) (with_address-rising a (b ∷ []) (All-nil _, tt)) in
+    subst Told (sym high) (All-head (λ (x : Address). is_lower b x ≡ true) a [] rising.0))
     (cases_Bool (is_lower a b))

@@ -1,9 +1,11 @@
 -- Passes in declared order, one of which takes a turn.
 use Rattle.std.proofs.Common.{◌≡◌, ℕ, zero, suc, ◌<◌, ◌≤◌, Bool, true, false, ◌||◌, List, [], ◌∷◌, ◌++◌, length, set, get_or, Some, refl, sym, ap, ◌∙◌, subst, arith}
-use Rattle.dex_world.proofs.Common.{Address, All-tail, AllZip, PlainAccount, WalletEntry, false≢true, is_same, is_same-refl, is_same-sym, list_any, or_parts, or_right}
-use Rattle.dex_turns.proofs.Common.{AllThree, GateView, IsPass, MayDraw, OneGrows, PassView, PlainScript, Stamped, WalletOrigin, Where}
+use Rattle.dex_world.proofs.Common.{Address, All-tail, AllZip, PlainAccount, false≢true, is_same, is_same-refl, is_same-sym, list_any, or_parts, or_right}
+use Rattle.dex_turns.proofs.Common.{AllThree, GateView, IsPass, MayDraw, OneGrows, PassView, PlainScript, Where}
 use Rattle.std.specs.List.{All}
 use Rattle.dex_turns.proofs.Rising.{IsAbove, rising-once}
+use Rattle.dex_turns.specs.Bank.{WalletGate}
+use Rattle.dex_turns.specs.Seats.{WalletPass}
 use Rattle.dex_turns.specs.Turns.{AreRising}
 use Rattle.dex_turns.specs.Submitted.{HasMade}
 use Rattle.dex_turns.specs.Submitted.{HasWritten, Written}
@@ -16,7 +18,7 @@ module _ {A : Type 0} (key : A → Address) where
   Differ [] = Unit {0}
   Differ (x ∷ xs) = (list_any (λ y. is_same (key x) (key y)) xs ≡ false) × Differ xs
 
-  none-at : (address : Address) (xs : List A) (place : ℕ) (d : A) → place < length xs → list_any (λ y. is_same address (key y)) xs ≡ false
+  pub none-at : (address : Address) (xs : List A) (place : ℕ) (d : A) → place < length xs → list_any (λ y. is_same address (key y)) xs ≡ false
       → is_same address (key (get_or xs place d)) ≡ false
   none-at address [] place d within none = absurd (omega (arith, within))
   none-at address (x ∷ xs) zero d within none = (or_parts (is_same address (key x)) (list_any (λ y. is_same address (key y)) xs) none).0
@@ -53,9 +55,6 @@ module _ {A : Type 0} (key : A → Address) where
         (others x apart b m all.0, set-three xs before mid place out left differ.1 (omega (arith, within)) here all.1 one)
 
 -- ---- the passes for wallets
-
-abbrev pub WalletPass : Type 0
-WalletPass = PassView (Stamped WalletEntry) WalletOrigin
 
 module _ (address : Address) (others : List Address) where
   -- one pass holds its turn, the others may draw as before
@@ -182,7 +181,7 @@ module _ {S E O : Type 0} (test : S → Bool) (new : S → List E) (Legal : S �
       one true has = ap (λ (x : PassView E O). x.gate) has.pass ∙ are.0
       one false same = ap (λ (x : PassView E O). x.gate) same ∙ are.0
 
-abbrev pub IsAtGate : GateView (Stamped WalletEntry) WalletOrigin → WalletPass → Type 0
+abbrev pub IsAtGate : WalletGate → WalletPass → Type 0
 IsAtGate gate pass = pass.gate ≡ Some gate
 
 -- a pass that holds a turn is of its gate

@@ -1,7 +1,7 @@
 -- The cells in hand, when they are those of all wallets that a row names: what it sees, and what it leaves.
 use Rattle.std.proofs.Common.{◌≡◌, ℕ, true, List, [], ◌∷◌, ◌++◌, length, map, Option, Some, None, refl, sym, ap, ◌∙◌, subst, arith}
 use Rattle.dex_world.proofs.Common.{Address, All-cons, All-head, All-nil, All-tail, All-weaker, AllZip, Call, Movement, PlainAccount, PlainRow, Reply, Seen, Sees, Transfers, WalletSeen, WalletState, asked_of, cond-true, cond_both, entry_by, filter, is_same, is_same-refl, list_any, movement_of, names, or_left, or_right, places-movements, role_at, row_wallets, seen_by, wallet_acted, wallet_at, wallet_entry_by, wallet_moved}
-use Rattle.dex_turns.proofs.Common.{All-unmap, AreInHand, CellState, HasEntry, IsReady, IsSight, IsWalletCell, IsWalletSeen, MovesEach, PlainScript, Stamped, WalletWords, any-here, any-there, balance_of, entries_in, entry_made, is_among, made_of, wallet_state_of, wallet_words, wallet_words-with_amount, world_with}
+use Rattle.dex_turns.proofs.Common.{All-unmap, AreInHand, CellState, HasEntry, IsReady, IsSight, IsWalletCell, IsWalletSeen, MovesEach, PlainScript, Stamped, WalletWords, any-here, any-there, balance_of, entries_in, entry_made, made_of, wallet_state_of, wallet_words, wallet_words-with_amount, world_with}
 use Rattle.std.specs.List.{All, Any}
 use Rattle.std.proofs.lemmas.List.{append-nil}
 use Rattle.dex_history.proofs.WalletLaws.{movements-named}
@@ -12,8 +12,8 @@ use Rattle.dex_act.specs.Wallets.{AreApart, ArePlacesAmong}
 use Rattle.dex_act.proofs.CellLists.{is_among-any}
 use Rattle.dex_world.proofs.KeptMoves.{moves-kept}
 use Rattle.dex_turns.specs.Submitted.{written_by}
-use Rattle.dex_turns.specs.Turns.{IsOfStart}
-use Rattle.dex_turns.proofs.Rising.{AreOnce}
+use Rattle.dex_turns.specs.Turns.{AreRising}
+use Rattle.dex_turns.proofs.Rising.{AreOnce, rising-once}
 
 abbrev address_in : CellState → Address
 address_in cell = cell.address
@@ -32,32 +32,18 @@ each-any (first ∷ others) =
     (All-weaker (λ (address : Address). list_any (is_same address) others ≡ true) (λ (address : Address). list_any (is_same address) (first ∷ others) ≡ true)
     (λ address among. or_right (is_same address first) (list_any (is_same address) others) among) others (each-any others))
 
--- a wallet of the script, with room for an entry where the row names it
-pub record IsUsable (script : PlainScript) (row : PlainRow) (cell : CellState) : Type 0 where
-  pub kept : IsWalletCell cell
-  pub start : IsOfStart script.start.wallets cell
-  pub spare : names row cell.address ≡ true → HasSpare cell
-
--- the cells are of wallets of the script, no two of one, and those that the row names are among them
-pub record HasHands (script : PlainScript) (row : PlainRow) (cells : List CellState) : Type 0 where
-  pub usable : All (IsUsable script row) cells
+-- the cells are of wallets of the script, each with room for an entry, and no two of one
+pub record HasHands (script : PlainScript) (cells : List CellState) : Type 0 where
+  pub ready : All (IsReady script) cells
   pub once : AreOnce (map address_in cells)
-  pub here : All (λ (address : Address). is_among address cells ≡ true) (row_wallets row)
 
--- all cells are in hand of an item that names the row's wallets
-pub has-hands : (script : PlainScript) (row : PlainRow) (named : List Address) (cells : List CellState) → AreInHand script named [] cells → AreOnce named
-    → ((address : Address) → names row address ≡ true → list_any (is_same address) named ≡ true) → HasHands script row cells
-has-hands script row named cells hand once own = record {
-  usable =
-      All-weaker (IsReady script) (IsUsable script row) (λ cell ready. record { kept = ready.kept; start = ready.start; spare = λ named. ready.spare }) cells hand.ready;
-  once = subst AreOnce (sym are) once;
-  here =
-      All-weaker (λ (address : Address). names row address ≡ true) (λ (address : Address). is_among address cells ≡ true)
-      (λ address of. is_among-any address cells ∙ ap (λ (l : List Address). list_any (is_same address) l) are ∙ own address of) (row_wallets row) (each-any (row_wallets row));
-}
-  where
-    are : map address_in cells ≡ named
-    are = sym (append-nil (map address_in cells)) ∙ hand.are
+-- the cells of all wallets of an item are in hand, in their order
+pub hands-are : (script : PlainScript) (named : List Address) (cells : List CellState) → AreInHand script named [] cells → map address_in cells ≡ named
+hands-are script named cells hand = sym (append-nil (map address_in cells)) ∙ hand.are
+
+pub has-hands : (script : PlainScript) (named : List Address) (cells : List CellState) → AreInHand script named [] cells → AreRising named → HasHands script cells
+has-hands script named cells hand rising =
+    record { ready = hand.ready; once = subst AreOnce (sym (hands-are script named cells hand)) (rising-once named rising) }
 
 -- ---- what is seen of one of them
 
@@ -84,17 +70,17 @@ stands : (P : PlainAccount → Type 0) (earlier later : List PlainAccount) (wall
 stands P [] later wallet is = any-here P wallet later is
 stands P (one ∷ earlier) later wallet is = any-there P one (earlier ++ wallet ∷ later) (stands P earlier later wallet is)
 
-cell-sight : (script : PlainScript) (row : PlainRow) (cell : CellState) → IsUsable script row cell → IsWalletSeen script.start.wallets (Some (seen_of cell))
-cell-sight script row cell ready =
+cell-sight : (script : PlainScript) (cell : CellState) → IsReady script cell → IsWalletSeen script.start.wallets (Some (seen_of cell))
+cell-sight script cell ready =
     subst (Any (IsOf (seen_of cell))) (sym ready.start.is)
     (stands (IsOf (seen_of cell)) ready.start.earlier ready.start.later (record { address = cell.address; bytes = cell.start }) (seen-so cell ready.kept))
 
-at-sight : (script : PlainScript) (row : PlainRow) (address : Address) (list : List CellState) → All (IsUsable script row) list → IsWalletSeen script.start.wallets (wallet_at address (map wallet_state_of list))
-at-sight script row address [] ready = tt
-at-sight script row address (cell ∷ others) ready =
+at-sight : (script : PlainScript) (address : Address) (list : List CellState) → All (IsReady script) list → IsWalletSeen script.start.wallets (wallet_at address (map wallet_state_of list))
+at-sight script address [] ready = tt
+at-sight script address (cell ∷ others) ready =
     cond_both (is_same address cell.address) (Some (seen_of cell)) (wallet_at address (map wallet_state_of others)) (IsWalletSeen script.start.wallets)
-    (λ same. cell-sight script row cell (All-head (IsUsable script row) cell others ready))
-    (λ apart. at-sight script row address others (All-tail (IsUsable script row) cell others ready))
+    (λ same. cell-sight script cell (All-head (IsReady script) cell others ready))
+    (λ apart. at-sight script address others (All-tail (IsReady script) cell others ready))
 
 -- where the item is a row, each of the cells is named
 pub cells-named : (script : PlainScript) (row : PlainRow) (cells : List CellState) → AreInHand script (row_wallets row) [] cells
@@ -102,16 +88,16 @@ pub cells-named : (script : PlainScript) (row : PlainRow) (cells : List CellStat
 cells-named script row cells hand =
     All-unmap (λ (address : Address). names row address ≡ true) address_in cells
     (subst (λ (l : List Address). All (λ (address : Address). list_any (is_same address) l ≡ true) (map address_in cells))
-    (sym (append-nil (map address_in cells)) ∙ hand.are) (each-any (map address_in cells)))
+    (hands-are script (row_wallets row) cells hand) (each-any (map address_in cells)))
 
-module _ (script : PlainScript) (row : PlainRow) (cells : List CellState) (hand : HasHands script row cells) where
+module _ (script : PlainScript) (row : PlainRow) (cells : List CellState) (hand : HasHands script cells) where
   -- ---- the row can act on them
 
   pub has-wallets : (places : WalletPlaces) → ArePlacesAmong cells row places → HasWallets row places cells
   has-wallets places at = record {
     apart = apart-cells cells hand.once;
-    kept = All-weaker (IsUsable script row) IsWalletCell (λ cell ready. ready.kept) cells hand.usable;
-    spare = All-weaker (IsUsable script row) (λ (cell : CellState). names row cell.address ≡ true → HasSpare cell) (λ cell ready. ready.spare) cells hand.usable;
+    kept = All-weaker (IsReady script) IsWalletCell (λ cell ready. ready.kept) cells hand.ready;
+    spare = All-weaker (IsReady script) (λ (cell : CellState). names row cell.address ≡ true → HasSpare cell) (λ cell ready named. ready.spare) cells hand.ready;
     at = at;
   }
 
@@ -119,7 +105,7 @@ module _ (script : PlainScript) (row : PlainRow) (cells : List CellState) (hand 
 
   role-sight : (role : Option Address) → IsWalletSeen script.start.wallets (role_at role (map wallet_state_of cells))
   role-sight None = tt
-  role-sight (Some address) = at-sight script row address cells hand.usable
+  role-sight (Some address) = at-sight script address cells hand.ready
 
   pub sight : IsSight script (seen_by row (world_with script cells))
   sight = record {

@@ -1,15 +1,49 @@
--- The cells in hand of two legs that share no wallet: what both write.
-use Rattle.std.proofs.Common.{◌≡◌, ℕ, ◌||◌, Bool, true, false, cond, List, [], ◌∷◌, ◌++◌, length, map, refl, sym, ap, ◌∙◌, arith, ⊎_elim}
+-- The cells in hand of two legs that share no wallet: where they stand, and what both write.
+use Rattle.std.proofs.Common.{◌≡◌, ℕ, ◌||◌, Bool, true, false, cond, List, [], ◌∷◌, ◌++◌, length, map, Option, None, refl, sym, ap, subst, ◌∙◌, arith, ⊎_elim}
 use Rattle.dex_world.proofs.Common.{Address, All-head, All-tail, AllZip, Call, Market, PlainRow, Seen, Sees, ShareNothing, Step, WalletEntry, asked_of, cases_Bool, false≢true, movement_of, names, row_step, wallet_acted, wallet_moved}
 use Rattle.dex_turns.proofs.Common.{CellState, HasEntry, IsWalletCell, Stamped, entries_in, made_of, wallet_state_of}
 use Rattle.std.specs.List.{All}
 use Rattle.std.proofs.lemmas.List.{append-nil}
 use Rattle.dex_act.specs.Acted.{HaveActed}
+use Rattle.dex_act.specs.Wallets.{ArePlacesAmong, IsRoleAt, hand_places}
+use Rattle.dex_act.proofs.InHand.{role-in-hand}
+use Rattle.dex_script_types.specs.Facts.{AreLegs}
+use Rattle.dex_world.specs.declared.places.RowWallets.{RowWallets}
+use Rattle.dex_world.specs.Places.{AreWalletsAt, IsIndexOf}
+use Rattle.dex_turns.specs.Turns.{leg_wallets}
 use Rattle.dex_world.specs.Items.{doing}
 use Rattle.dex_turns.specs.Submitted.{written_by, written_by_two}
 use Rattle.dex_act.specs.Steps.{made_by}
 use Rattle.dex_turns.proofs.Counts.{entries-one}
 use Rattle.dex_turns.proofs.InHand.{has-entry, moves-each}
+
+-- ---- where they stand
+
+-- the wallets of both stand at their indexes, where theirs alone are in hand
+pub legs-at : (first second : PlainRow) → AreLegs first second → (wallets : RowWallets) (place_of : Address → Option ℕ) (cells : List CellState)
+    → map (λ (cell : CellState). cell.address) cells ≡ leg_wallets first second → AreWalletsAt place_of first.coin first.pc second.coin second.pc wallets
+    → ArePlacesAmong cells first (hand_places wallets)
+    × ArePlacesAmong cells second (record { coin = wallets.discount; pc = wallets.referrer; discount = wallets.discount; referrer = wallets.referrer })
+legs-at first second legs wallets place_of cells are at =
+    let none : (role : Option Address) (place : ℕ) → role ≡ None → IsRoleAt cells role place =
+    λ role place is. subst (λ (role : Option Address). IsRoleAt cells role place) (sym is) tt in
+    let own : (role : Option Address) (index : ℕ) → IsIndexOf (leg_wallets first second) role index → IsRoleAt cells role index =
+    λ role index is. role-in-hand cells (leg_wallets first second) role index are is in (
+      record {
+        coin = own first.coin wallets.coin at.of_coin;
+        pc = own first.pc wallets.pc at.of_pc;
+        discount = none first.discount wallets.discount legs.first.discount;
+        referrer = none first.referrer wallets.referrer legs.first.referrer;
+      },
+      record {
+        coin = own second.coin wallets.discount at.of_discount;
+        pc = own second.pc wallets.referrer at.of_referrer;
+        discount = none second.discount wallets.discount legs.second.discount;
+        referrer = none second.referrer wallets.referrer legs.second.referrer;
+      },
+    )
+
+-- ---- what they write
 
 module _ (first second : PlainRow) (share : ShareNothing first second) (one_waits two_waits : Bool) (one_seen two_seen : Seen) (m n : Market) (stamp : ℕ)
     (one_sees : Sees (asked_of first) one_seen) (two_sees : Sees (asked_of second) two_seen) (lanes : first.lane ≡ second.lane) where

@@ -9,8 +9,8 @@ use Rattle.dex_script_types.specs.Facts.{AreLegs}
 use Rattle.dex_journals.proofs.LaneGrowth.{lane-more}
 use Rattle.dex_turns.specs.Submitted.{HasMade, LegMarketGrows, LegWalletGrows, MarketGrows, WhereEither, written_by_two}
 use Rattle.dex_turns.specs.Turns.{HaveLegsTold, leg_wallets}
-use Rattle.dex_turns.proofs.Entering.{MarketPass}
-use Rattle.dex_turns.proofs.Growing.{Differ, WalletPass, set-three}
+use Rattle.dex_turns.specs.Seats.{MarketPass, WalletPass}
+use Rattle.dex_turns.proofs.Growing.{Differ, set-three}
 use Rattle.dex_turns.proofs.LegNames.{named-is}
 use Rattle.dex_turns.proofs.RowMore.{legs-more}
 use Rattle.dex_turns.proofs.SeatAfter.{IsAfter, as-seen, entries-more, markets-grow, none-in}

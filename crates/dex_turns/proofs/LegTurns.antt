@@ -1,20 +1,20 @@
--- The turns of the markets of two legs: what is known when they are taken, and when they are left.
+-- The turn of the market of a row, and those of two legs: what is known when they are taken, and when they are left.
 use Rattle.std.proofs.Common.{◌≡◌, ℕ, ◌<◌, List, get_or, length, set, Some, refl, sym, ap, ◌∙◌, subst, arith}
 use Rattle.dex_world.proofs.Common.{Call, PlainMarketAccounts, PlainRow, asked_of, false≢true, is_same, is_same-refl}
-use Rattle.dex_turns.proofs.Common.{AddsOne, AllThree, AwayView, BankMarketState, BankState, Extends, GateView, HasCall, HasCalled, IsBank, MarketOrigin, MayEnter, PlainScript, Stamped, market_calls}
-use Rattle.std.proofs.lemmas.List.{length-set}
+use Rattle.dex_turns.proofs.Common.{AddsOne, AllThree, BankMarketState, BankState, Extends, HasCall, HasCalled, IsBank, MayEnter, PlainScript, Stamped, market_calls}
+use Rattle.std.proofs.lemmas.List.{get_or-set_same, length-set}
 use Rattle.dex_gate.specs.declared.stage.Stage.TheVariants.{Out}
 use Rattle.dex_script_types.specs.Facts.{AreLegs}
-use Rattle.dex_turns.specs.Submitted.{LegMarketGrows}
-use Rattle.dex_turns.specs.Turns.{AreOutAt, HasSeenAt, IsAwayFor, IsHomeAt, IsMarketOut, MayCallBoth, MayEnterAt, MayLeaveAt, left_with}
+use Rattle.dex_turns.specs.Bank.{MarketGate}
+use Rattle.dex_turns.specs.Submitted.{LegMarketGrows, MarketGrows}
+use Rattle.dex_turns.specs.Turns.{AreOutAt, HasSeenAt, IsAwayFor, IsHomeAt, IsMarketOut, IsOutAt, MarketAway, MayCall, MayCallBoth, MayEnterAt, MayLeaveAt, left_with}
 use Rattle.dex_turns.proofs.Distinct.{markets-differ}
-use Rattle.dex_turns.proofs.Entering.{MarketPass, adds, called, may-call, still-from}
+use Rattle.dex_turns.proofs.Entering.{adds, called, may-call, still-from}
+use Rattle.dex_turns.specs.Seats.{MarketPass}
 use Rattle.dex_turns.proofs.LegSeat.{legs-grow}
+use Rattle.dex_turns.proofs.SeatAfter.{markets-grow}
 use Rattle.dex_world.proofs.MappedLists.{same-get}
-use Rattle.dex_turns.proofs.TwoPlaces.{get-first, get-second, set-both}
-
-abbrev MarketGate : Type 0
-MarketGate = GateView (Stamped Call) MarketOrigin
+use Rattle.dex_turns.proofs.TwoPlaces.{get-first, get-second, set-again, set-both}
 
 -- ---- one of them
 
@@ -37,7 +37,7 @@ module _ (bank : BankState) (row : PlainRow) (place : ℕ) (passes : List Market
   pub home-at : IsHomeAt gate place passes
   home-at = record { within = may.within.2; home = λ pass. (enter pass).home; idle = λ pass. (enter pass).idle }
 
-module _ (script : PlainScript) (row : PlainRow) (gate : MarketGate) (before out : MarketPass) (market after : BankMarketState) (away : AwayView (Stamped Call) MarketOrigin)
+module _ (script : PlainScript) (row : PlainRow) (gate : MarketGate) (before out : MarketPass) (market after : BankMarketState) (away : MarketAway)
     (place : ℕ) (passes : List MarketPass) (enter : MayEnter script row gate before) (is_out : IsMarketOut gate before out market)
     (away_is : away ≡ record { gate = Some gate; number = before.number; start = market_calls market }) (at : (pass : MarketPass) → get_or passes place pass ≡ out)
     (call : Stamped Call) (has : HasCall call market after) where
@@ -45,13 +45,13 @@ module _ (script : PlainScript) (row : PlainRow) (gate : MarketGate) (before out
   may-leave : place < length passes → call.item.asked.lane ≡ row.lane → MayLeaveAt gate place passes away after
   may-leave within lane = record {
     within = within;
-    away_home = ap (λ (a : AwayView (Stamped Call) MarketOrigin). a.gate) away_is;
+    away_home = ap (λ (a : MarketAway). a.gate) away_is;
     home = λ pass. ap (λ (p : MarketPass). p.gate) (at pass ∙ is_out.pass) ∙ enter.home;
-    number = λ pass. ap (λ (a : AwayView (Stamped Call) MarketOrigin). a.number) away_is ∙ sym (ap (λ (p : MarketPass). p.number) (at pass ∙ is_out.pass));
-    out = λ pass. ap (λ (p : MarketPass). p.stage) (at pass ∙ is_out.pass) ∙ ap (λ (a : AwayView (Stamped Call) MarketOrigin). Out a.start) (sym away_is);
+    number = λ pass. ap (λ (a : MarketAway). a.number) away_is ∙ sym (ap (λ (p : MarketPass). p.number) (at pass ∙ is_out.pass));
+    out = λ pass. ap (λ (p : MarketPass). p.stage) (at pass ∙ is_out.pass) ∙ ap (λ (a : MarketAway). Out a.start) (sym away_is);
     origin = still-from script row gate before out market enter is_out call after has;
     adds =
-        subst (λ (a : AwayView (Stamped Call) MarketOrigin). AddsOne (λ (c : Stamped Call). c.item.asked.lane) a.number a.start (market_calls after)) (sym away_is)
+        subst (λ (a : MarketAway). AddsOne (λ (c : Stamped Call). c.item.asked.lane) a.number a.start (market_calls after)) (sym away_is)
         (adds script row gate before out market enter is_out call after has lane);
   }
 
@@ -59,12 +59,52 @@ module _ (script : PlainScript) (row : PlainRow) (gate : MarketGate) (before out
   left-is : (pass : MarketPass) → left_with (get_or passes place pass) away.start (market_calls after) ≡ left_with out (market_calls market) (market_calls after)
   left-is pass =
       ap (λ (p : MarketPass). left_with p away.start (market_calls after)) (at pass)
-      ∙ ap (λ (a : AwayView (Stamped Call) MarketOrigin). left_with out a.start (market_calls after)) away_is
+      ∙ ap (λ (a : MarketAway). left_with out a.start (market_calls after)) away_is
 
   has-called : HasSeenAt place passes (market_calls after) → HasCalled call gate.origin.start before (left_with out (market_calls market) (market_calls after))
   has-called seen =
       called script row gate before out market enter is_out call after has (left_with out (market_calls market) (market_calls after)) refl
       (subst (λ (p : MarketPass). Extends p.seen (market_calls after)) (at out) (seen out))
+
+-- the market of a row alone
+module _ (bank : BankState) (row : PlainRow) (place : ℕ) (passes taken : List MarketPass) (gate : MarketGate) (market : BankMarketState) (away : MarketAway)
+    (may : MayEnterAt bank row passes place) (gate_is : (default : MarketGate) → gate ≡ get_or bank.markets place default) (out : IsOutAt gate place passes taken market) where
+  pub may-call-one : MayCall row market
+  may-call-one = may-call bank.script row gate (get_or passes place out.out) out.out market (enter bank row place passes gate may gate_is out.out) (out.taken out.out)
+
+  at-taken : (pass : MarketPass) → get_or taken place pass ≡ out.out
+  at-taken pass = ap (λ (l : List MarketPass). get_or l place pass) out.is ∙ get_or-set_same passes place out.out pass may.within.2
+
+  module _ (away_is : IsAwayFor gate place passes market away) (call : Stamped Call) (asked : call.item.asked ≡ asked_of row) (after : BankMarketState)
+      (has : HasCall call market after) where
+    pub one-leave : MayLeaveAt gate place taken away after
+    one-leave =
+        may-leave bank.script row gate (get_or passes place out.out) out.out market after away place taken (enter bank row place passes gate may gate_is out.out) (out.taken out.out)
+        (away_is out.out) at-taken call has (omega (arith, ap length out.is, length-set passes place out.out, may.within.2)) (ap (λ a. a.lane) asked)
+
+    abbrev left_one : MarketPass
+    left_one = left_with out.out (market_calls market) (market_calls after)
+
+    -- its pass has grown, and no other
+    pub one-grown : IsBank bank → length passes ≡ length bank.script.start.markets → (end : List MarketPass)
+        → ((default : MarketPass) → end ≡ set taken place (left_with (get_or taken place default) away.start (market_calls after)))
+        → HasSeenAt place taken (market_calls after) → AllThree (MarketGrows row call) bank.script.start.markets passes end
+    one-grown kept many end end_is seen =
+        let is : end ≡ set passes place left_one =
+        end_is out.out
+        ∙ ap (set taken place)
+        (left-is bank.script row gate (get_or passes place out.out) out.out market after away place taken (enter bank row place passes gate may gate_is out.out) (out.taken out.out)
+        (away_is out.out) at-taken call has out.out)
+        ∙ ap (λ (l : List MarketPass). set l place left_one) out.is
+        ∙ set-again passes place out.out left_one in
+        subst (AllThree (MarketGrows row call) bank.script.start.markets passes) (sym is)
+        (markets-grow row call asked bank.script.start.markets passes place (get_or passes place out.out) left_one
+        (markets-differ bank.script.start kept.script.start.accepted) may.within.0 many may.here
+        (same-get passes place out.out (get_or passes place out.out) may.within.2)
+        (λ d e.
+        subst (λ (s : PlainMarketAccounts). HasCalled call s (get_or passes place e) left_one) (start-at bank row place passes gate may gate_is d)
+        (has-called bank.script row gate (get_or passes place e) out.out market after away place taken (enter bank row place passes gate may gate_is e) (out.taken e) (away_is e)
+        at-taken call has seen)))
 
 -- ---- both
 
@@ -76,7 +116,7 @@ module _ (bank : BankState) (first second : PlainRow) (legs : AreLegs first seco
       let one : first.market ≡ second.market = sym (one_may.here d) ∙ ap (λ (n : ℕ). (get_or bank.script.start.markets n d).address) same ∙ two_may.here d in
       false≢true (sym legs.apart.markets ∙ ap (is_same first.market) (sym one) ∙ is_same-refl first.market)
 
-  module _ (taken : List MarketPass) (gate gate_next : MarketGate) (m n : BankMarketState) (away away_next : AwayView (Stamped Call) MarketOrigin)
+  module _ (taken : List MarketPass) (gate gate_next : MarketGate) (m n : BankMarketState) (away away_next : MarketAway)
       (gate_is : (default : MarketGate) → gate ≡ get_or bank.markets place default) (next_is : (default : MarketGate) → gate_next ≡ get_or bank.markets next default)
       (out : AreOutAt gate gate_next place next passes taken m n) where
     apart : place ≡ next → ⊥

@@ -15,6 +15,7 @@ mod SeatAfter
 mod RowMore
 mod LegHands
 mod LegNames
+mod LegPlaces
 mod LegReady
 mod LegReplies
 mod LegSeat

@@ -23,7 +23,7 @@ is_less-itself (byte ∷ bytes) =
     ∙ ap (λ (b : Bool). b && is_less bytes bytes) (eq-eqb byte byte refl)
     ∙ is_less-itself bytes
 
-is_lower-apart : (address other : Address) → is_lower address other ≡ true → is_same address other ≡ false
+pub is_lower-apart : (address other : Address) → is_lower address other ≡ true → is_same address other ≡ false
 is_lower-apart address other lower =
     ⊎_elim
     (λ (same : is_same address other ≡ true).

@@ -1,18 +1,16 @@
 -- A seat before and after a row.
 use Rattle.std.proofs.Common.{◌≡◌, ℕ, zero, suc, ◌<◌, ◌≤◌, ◌==◌, Bool, true, false, cond, List, [], ◌∷◌, ◌++◌, length, set, get_or, take, Some, refl, sym, ap, ◌∙◌, subst, arith}
 use Rattle.dex_world.proofs.Common.{Address, All-filter, All-push, All-tail, All-weaker, AllZip, AllZip-long, Asked, Call, IsLegal, IsWalletLegal, PlainAccount, PlainMarketAccounts, PlainRow, Reply, WalletEntry, asked_of, asked_wallets, eqb-true, filter-append, filter_passes, get_or-map, is_same, is_same-refl, is_same-sym, length-map, is_held, list_any, names, row_wallets, rows_of_lane}
-use Rattle.dex_turns.proofs.Common.{AllThree, AreNext, AreReady, BankState, GateView, HasCalled, HasSubmitted, HaveGrown, IsBank, IsMarketGate, IsMarketPass, IsNext, IsPlace, IsRowOf, IsScript, IsSeat, IsSeatOf, IsSight, IsWalletPass, MarketOrigin, MayDraw, MayEnter, MayName, MovesEach, PlainScript, SeatState, Stamped, Where, balance_of, calls_on, entries_in, entries_on, list_any-map, market_addresses, market_in, rows_of_market, rows_of_wallet}
+use Rattle.dex_turns.proofs.Common.{AllThree, AreNext, AreReady, BankState, GateView, HasCalled, HasSubmitted, HaveGrown, IsBank, IsMarketGate, IsMarketPass, IsNext, IsPlace, IsRowOf, IsScript, IsSeat, IsSeatOf, IsSight, IsWalletPass, MarketOrigin, MayDraw, MayEnter, MovesEach, PlainScript, SeatState, Stamped, Where, balance_of, calls_on, entries_in, entries_on, market_addresses, market_in, rows_of_market, rows_of_wallet}
 use Rattle.std.specs.List.{All}
 use Rattle.std.proofs.lemmas.List.{append-nil, append_assoc}
 use Rattle.dex_stamps.specs.Stamped.{items_of}
 use Rattle.dex_turns.specs.Submitted.{MarketGrows, WalletGrows}
 use Rattle.dex_turns.specs.Turns.{IsTold, MayEnterAt}
 use Rattle.dex_turns.proofs.Counts.{IsAhead, calls-left, entries-left, entries-one}
-use Rattle.dex_turns.proofs.Distinct.{markets-differ}
-use Rattle.dex_turns.proofs.Entering.{MarketPass}
+use Rattle.dex_turns.specs.Seats.{MarketPass, WalletPass}
 use Rattle.dex_journals.proofs.LaneGrowth.{lane-more}
-use Rattle.dex_turns.proofs.Growing.{Differ, WalletPass, gates-grown, passes-grown, set-three}
-use Rattle.dex_turns.proofs.LegNames.{row-names}
+use Rattle.dex_turns.proofs.Growing.{Differ, gates-grown, passes-grown, set-three}
 use Rattle.dex_turns.proofs.RowMore.{row-more}
 use Rattle.dex_world.proofs.MappedLists.{same-get}
 use Rattle.dex_turns.proofs.Taking.{all-midst, zip-at}
@@ -89,9 +87,6 @@ module _ (bank : BankState) (row : PlainRow) (before : SeatState) (ahead : IsAhe
       (all-ahead (IsRowOf before.script.start) lane_rows (length before.calls) row ahead
       (All-filter (λ (r : PlainRow). r.lane == before.lane) (IsRowOf before.script.start) before.script.rows script-kept.rows.each))
 
-  pub market-known : list_any (is_same row.market) (market_addresses bank.script) ≡ true
-  market-known = list_any-map (is_same row.market) (λ (accounts : PlainMarketAccounts). accounts.address) bank.script.start.markets ∙ row-fits.market
-
   module _ (kept : IsSeat before) where
     -- its lane has made fewer entries than it has rows, on each wallet that it names
     pub entries-free : (address : Address) → names row address ≡ true
@@ -107,9 +102,6 @@ module _ (bank : BankState) (row : PlainRow) (before : SeatState) (ahead : IsAhe
         subst (λ (n : ℕ). length (calls_on address before.calls) < length (rows_of_market n address bank.script.rows)) (sym lane-is)
         (subst (λ (s : PlainScript). length (calls_on address before.calls) < length (rows_of_market before.lane address s.rows)) of.script
         (calls-left before.script before.lane row before.calls kept.calls ahead address on))
-
-    pub names-own : MayName bank.script (row_wallets row)
-    names-own = row-names bank.script row row-fits
 
     pub ready : AreReady bank row.lane (row_wallets row) before.wallets
     ready = record {
@@ -270,10 +262,9 @@ as-seen bank Submitted before view after calls same are known =
     subst (λ (v : SeatState). IsAfter bank Submitted v (record after { calls = calls })) same
     (subst (λ (l : List (Stamped Call)). IsAfter bank Submitted before (record after { calls = l })) (sym are) known)
 
-module _ (bank : BankState) (row : PlainRow) (before : SeatState) (next : IsNext row before) (bank_kept : IsBank bank) (of : IsSeatOf bank before) (kept : IsSeat before)
-    (place : ℕ) (at : IsPlace row.market (market_addresses bank.script) place) (call : Stamped Call) (asked : call.item.asked ≡ asked_of row)
-    (own : is_held call.item ≡ false) (told : IsTold bank.script call) (above : before.last < call.stamp) (gate : GateView (Stamped Call) MarketOrigin) (pass left : MarketPass) (gate_is : gate ≡ get_or bank.markets place gate)
-    (pass_is : pass ≡ get_or before.markets place pass) (called : HasCalled call gate.origin.start pass left) (wallets : List WalletPass)
+module _ (bank : BankState) (row : PlainRow) (before : SeatState) (next : IsNext row before) (of : IsSeatOf bank before) (kept : IsSeat before) (call : Stamped Call)
+    (asked : call.item.asked ≡ asked_of row) (own : is_held call.item ≡ false) (told : IsTold bank.script call) (above : before.last < call.stamp) (markets : List MarketPass)
+    (markets_grown : AllThree (MarketGrows row call) bank.script.start.markets before.markets markets) (wallets : List WalletPass)
     (grown : HaveGrown bank (row_wallets row) (written_by call) before.wallets wallets) where
   abbrev pub seat_after : SeatState
   seat_after = record {
@@ -281,20 +272,9 @@ module _ (bank : BankState) (row : PlainRow) (before : SeatState) (next : IsNext
     script = before.script;
     calls = before.calls ++ call ∷ [];
     last = call.stamp;
-    markets = set before.markets place left;
+    markets = markets;
     wallets = wallets;
   }
-
-  markets-grown : AllThree (MarketGrows row call) bank.script.start.markets before.markets (set before.markets place left)
-  markets-grown =
-      let inside_passes = within-passes bank row before (next-ahead row before next) bank_kept of kept place at in
-      let inside = within bank row before (next-ahead row before next) bank_kept of kept place at in
-      markets-grow row call asked bank.script.start.markets before.markets place pass left (markets-differ bank.script.start bank_kept.script.start.accepted) inside
-      (AllZip-long (IsMarketPass before.lane before.calls) bank.script.start.markets before.markets (passes-kept bank row before (next-ahead row before next) bank_kept of kept place at))
-      (here bank row before (next-ahead row before next) bank_kept of kept place at) pass_is
-      (λ d e.
-      subst (λ (p : MarketPass). HasCalled call (get_or bank.script.start.markets place d) p left) (pass_is ∙ same-get before.markets place pass e inside_passes)
-      (subst (λ (s : PlainMarketAccounts). HasCalled call s pass left) (gate-start bank row before (next-ahead row before next) bank_kept of kept place at d gate gate_is) called))
 
   seat-submitted : HasSubmitted row call.item.entry.reply before seat_after
   seat-submitted = record {
@@ -307,7 +287,7 @@ module _ (bank : BankState) (row : PlainRow) (before : SeatState) (next : IsNext
     lane = refl;
     script = refl;
     calls = refl;
-    markets = subst (λ (s : PlainScript). AllThree (MarketGrows row call) s.start.markets before.markets (set before.markets place left)) (sym of.script) markets-grown;
+    markets = subst (λ (s : PlainScript). AllThree (MarketGrows row call) s.start.markets before.markets markets) (sym of.script) markets_grown;
     wallets = subst (λ (s : PlainScript). AllThree (WalletGrows row call) s.start.wallets before.wallets wallets) (sym of.script) grown;
   }
 
@@ -316,8 +296,8 @@ module _ (bank : BankState) (row : PlainRow) (before : SeatState) (next : IsNext
     script = of.script;
     markets =
         gates-grown (λ (start : PlainMarketAccounts). is_same row.market start.address) (λ (start : PlainMarketAccounts). call ∷ [])
-        (λ (start : PlainMarketAccounts) (seen : List (Stamped Call)). IsLegal (market_in start) (items_of seen)) bank.script.start.markets bank.markets before.markets
-        (set before.markets place left) markets-grown of.markets;
+        (λ (start : PlainMarketAccounts) (seen : List (Stamped Call)). IsLegal (market_in start) (items_of seen)) bank.script.start.markets bank.markets before.markets markets
+        markets_grown of.markets;
     wallets =
         gates-grown (λ (start : PlainAccount). names row start.address) (λ (start : PlainAccount). entries_in start.address call)
         (λ (start : PlainAccount) (seen : List (Stamped WalletEntry)). IsWalletLegal (balance_of start.bytes) (items_of seen)) bank.script.start.wallets bank.wallets
@@ -335,8 +315,7 @@ module _ (bank : BankState) (row : PlainRow) (before : SeatState) (next : IsNext
             kept.below own told_here above);
         below = below-more row call asked before.script before.last before.calls kept.below above;
         markets =
-            market-passes row call asked before.lane before.calls before.script.start.markets before.markets (set before.markets place left) kept.markets
-            seat-submitted.markets;
+            market-passes row call asked before.lane before.calls before.script.start.markets before.markets markets kept.markets seat-submitted.markets;
         wallets =
             wallet-passes row call asked before.lane before.calls before.script.start.wallets before.wallets wallets told.moves kept.wallets seat-submitted.wallets;
       }

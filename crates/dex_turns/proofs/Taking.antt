@@ -1,23 +1,25 @@
 -- The turn of an item's next wallet: what is known when it is taken, and when it is left.
-use Rattle.std.proofs.Common.{◌≡◌, ℕ, zero, suc, ◌+◌, ◌-◌, ◌<◌, ◌==◌, true, false, List, [], ◌∷◌, ◌++◌, drop, length, map, set, take, get_or, Option, Some, None, refl, sym, ap, ◌∙◌, subst, arith}
-use Rattle.dex_world.proofs.Common.{Address, All-head, All-push, All-tail, AllZip, AllZip-long, PlainAccount, WalletEntry, get_or-map, is_same, is_same-refl, length-map, list_any, or_left}
+use Rattle.std.proofs.Common.{◌≡◌, ℕ, zero, suc, ◌+◌, ◌-◌, ◌<◌, ◌==◌, true, false, List, [], ◌∷◌, ◌++◌, drop, length, map, set, take, get_or, Some, None, refl, sym, ap, ◌∙◌, subst, arith, ⊎_elim}
+use Rattle.dex_world.proofs.Common.{Address, All-head, All-push, All-tail, AllZip, AllZip-long, PlainAccount, WalletEntry, cases_Bool, cond-false, cond-true, eq-eqb, eqb-true, get_or-map, is_same, is_same-refl, length-map, list_any, or_left}
 use Rattle.dex_world.proofs.MappedLists.{same-get}
-use Rattle.dex_turns.proofs.InHand.{each-any}
-use Rattle.dex_turns.proofs.Common.{AllThree, AreInHand, AreReady, BankState, CellState, GateView, HasEntry, HasLeft, HaveGrown, Idle, IsBank, IsPlace, IsReady, IsWalletGate, MayDraw, MayLeave, OneGrows, PlainScript, Stamped, TrailState, WalletOrigin, added, entries_by, left_by, of_lane, rows_of_wallet, wallet_addresses, wallet_entries}
+use Rattle.dex_world.specs.Places.{ArePlacesOf}
+use Rattle.dex_turns.proofs.Common.{AllThree, AreInHand, AreReady, BankState, CellState, HasEntry, HasLeft, HaveGrown, Idle, IsBank, IsPlace, IsReady, IsWalletGate, MayDraw, MayLeave, OneGrows, Stamped, TrailState, WalletOrigin, added, entries_by, left_by, of_lane, rows_of_wallet, wallet_addresses, wallet_entries}
 use Rattle.std.specs.List.{All}
 use Rattle.std.proofs.Math.Seq.{take-length}
+use Rattle.std.proofs.lemmas.List.{length-append}
+use Rattle.std.proofs.lemmas.Option.{none-some}
 use Rattle.dex_gate.specs.declared.stage.Stage.TheVariants.{Out}
-use Rattle.dex_locks.specs.Places.{front}
 use Rattle.dex_journals.specs.Journals.{wallet_origin}
 use Rattle.dex_journals.proofs.WalletLaws.{spare-wallet}
-use Rattle.dex_script_types.proofs.PlacedLaws.{wallet-placed}
-use Rattle.dex_script_types.specs.Places.{wallet_place}
-use Rattle.dex_turns.specs.Turns.{AreRising, IsAboveWallets, IsOut, IsWalletOutAt, MayName, first_in}
+use Rattle.dex_script_types.proofs.PlacedLaws.{wallet-placed, wallet-within}
+use Rattle.dex_turns.specs.Bank.{WalletGate}
+use Rattle.dex_turns.specs.Seats.{WalletPass}
+use Rattle.dex_turns.specs.Turns.{AreRising, IsAboveWallets, IsOut, IsWalletOutAt, first_in, left_of, place_of}
 use Rattle.dex_types.specs.Wallets.{is_lower}
 use Rattle.dex_turns.proofs.Rising.{IsAbove, rising-behind, rising-once}
 use Rattle.dex_turns.proofs.Counts.{length-stamped}
 use Rattle.dex_turns.proofs.Distinct.{wallets-differ}
-use Rattle.dex_turns.proofs.Growing.{Differ, IsAtGate, WalletPass, drawn-ready, gates-set, one-grows, still-out}
+use Rattle.dex_turns.proofs.Growing.{IsAtGate, drawn-ready, gates-set, one-grows, still-out}
 use Rattle.dex_turns.proofs.LeavingTurns.{has-moved}
 use Rattle.dex_turns.specs.Submitted.{HasWritten, Written}
 
@@ -60,301 +62,293 @@ pub all-midst : {A : Type 0} (P : A → Type 0) (before : List A) (x : A) (behin
 all-midst P [] x behind all = All-head P x behind all
 all-midst P (y ∷ before) x behind all = all-midst P before x behind (All-tail P y (before ++ x ∷ behind) all)
 
--- ---- the wallets of an item
-
-abbrev address_in : CellState → Address
-address_in cell = cell.address
-
--- ---- the next wallet of an item
-
-module _ (bank : BankState) (named : List Address) (lane : ℕ) (address : Address) (others : List Address) (hands : List CellState) (passes : List WalletPass)
-    (may : MayName bank.script named) (hand : AreInHand bank.script named (address ∷ others) hands) (ready : AreReady bank lane (address ∷ others) passes) where
-  abbrev starts : List PlainAccount
-  starts = bank.script.start.wallets
-
-  -- it is one of the item's
-  pub known : list_any (is_same address) named ≡ true
-  known =
-      all-midst (λ (a : Address). list_any (is_same a) named ≡ true) (map address_in hands) address others
-      (subst (All (λ (a : Address). list_any (is_same a) named ≡ true)) (sym hand.are) (each-any named))
-
-  -- and lower than those after it, so none of them
-  rising : AreRising (address ∷ others)
-  rising = rising-behind (map address_in hands) (address ∷ others) (subst AreRising (sym hand.are) may.rising)
-
-  pub none : list_any (is_same address) others ≡ false
-  none = (rising-once (address ∷ others) rising).0
-
-  module _ (kept : IsBank bank) (place : ℕ) (at : IsPlace address (wallet_addresses bank.script) place) where
-    pub within : place < length starts
-    within = subst (λ (n : ℕ). place < n) (length-map starts (λ (account : PlainAccount). account.address)) at.within
-
-    pub here : (d : PlainAccount) → (get_or starts place d).address ≡ address
-    here d = sym (get_or-map (λ (account : PlainAccount). account.address) starts place d address within) ∙ at.here address
-
-    pub within-gates : place < length bank.wallets
-    within-gates = omega (arith, within, AllZip-long (IsWalletGate bank.script) starts bank.wallets kept.wallets)
-
-    pub within-passes : place < length passes
-    within-passes = omega (arith, within, AllZip-long (MayDraw bank.script lane (address ∷ others)) starts passes ready.each)
-
-    pub gate-at : (g : GateView (Stamped WalletEntry) WalletOrigin) (p : WalletPass) → (get_or passes place p).gate ≡ Some (get_or bank.wallets place g)
-    gate-at g p = zip-at IsAtGate bank.wallets passes place g p ready.gates within-gates
-
-    pub idle-at : (d : PlainAccount) (p : WalletPass) → (get_or passes place p).stage ≡ Idle
-    idle-at d p =
-        (zip-at (MayDraw bank.script lane (address ∷ others)) starts passes place d p ready.each within).idle
-        (ap (λ (a : Address). list_any (is_same a) (address ∷ others)) (here d) ∙ or_left (is_same address address) (list_any (is_same address) others) (is_same-refl address))
-
-    -- the wallets whose turns are out are below it
-    pub above : (gate : GateView (Stamped WalletEntry) WalletOrigin) → gate ≡ get_or bank.wallets place gate → IsAboveWallets gate passes
-    above gate gate_is k p behind holds other at =
-        let account : PlainAccount = record { address = address; bytes = [] } in
-        let behind_starts : k < length starts = omega (arith, behind, AllZip-long (MayDraw bank.script lane (address ∷ others)) starts passes ready.each) in
-        let behind_gates : k < length bank.wallets = omega (arith, behind_starts, AllZip-long (IsWalletGate bank.script) starts bank.wallets kept.wallets) in
-        let may_draw = zip-at (MayDraw bank.script lane (address ∷ others)) starts passes k account p ready.each behind_starts in
-        let both : Some (get_or bank.wallets k other) ≡ Some other = sym (zip-at IsAtGate bank.wallets passes k other p ready.gates behind_gates) ∙ at in
-        let other_is : other ≡ get_or bank.wallets k other = (cc) in
-        let other_start : other.origin.start.address ≡ (get_or starts k account).address =
-        ap (λ (g : GateView (Stamped WalletEntry) WalletOrigin). g.origin.start.address) other_is
-        ∙ ap (λ (o : WalletOrigin). o.start.address) (zip-at (IsWalletGate bank.script) starts bank.wallets k account other kept.wallets behind_starts).origin in
-        let own_start : gate.origin.start.address ≡ address =
-        ap (λ (g : GateView (Stamped WalletEntry) WalletOrigin). g.origin.start.address) gate_is
-        ∙ ap (λ (o : WalletOrigin). o.start.address) (zip-at (IsWalletGate bank.script) starts bank.wallets place account gate kept.wallets within).origin
-        ∙ here account in
-        subst (λ (a : Address). is_lower a gate.origin.start.address ≡ true) (sym other_start)
-        (subst (λ (a : Address). is_lower (get_or starts k account).address a ≡ true) (sym own_start)
-        (All-head (IsAbove (get_or starts k account).address) address others (may_draw.below holds)))
-
-    -- its turn is out
-    module _ (d : PlainAccount) (gate : GateView (Stamped WalletEntry) WalletOrigin) (before out : WalletPass) (trail : TrailState)
-        (gate_is : gate ≡ get_or bank.wallets place gate) (before_is : before ≡ get_or passes place before) (is_out : IsOut gate before out trail) where
-      abbrev start : PlainAccount
-      start = get_or starts place d
-
-      is_gate : IsWalletGate bank.script start gate
-      is_gate =
-          subst (IsWalletGate bank.script start) (sym gate_is) (zip-at (IsWalletGate bank.script) starts bank.wallets place d gate kept.wallets within)
-
-      may_draw : MayDraw bank.script lane (address ∷ others) start before
-      may_draw =
-          subst (MayDraw bank.script lane (address ∷ others) start) (sym before_is)
-          (zip-at (MayDraw bank.script lane (address ∷ others)) starts passes place d before ready.each within)
-
-      origin : wallet_origin (left_by trail) ≡ record { start = start; script = bank.script }
-      origin = is_out.origin ∙ is_gate.origin
-
-      cell-address : trail.before.address ≡ start.address
-      cell-address = ap (λ (o : WalletOrigin). o.start.address) origin
-
-      pub cell-here : trail.before.address ≡ address
-      cell-here = cell-address ∙ here d
-
-      cell-start : trail.before.start ≡ start.bytes
-      cell-start = ap (λ (o : WalletOrigin). o.start.bytes) origin
-
-      cell-script : trail.script ≡ bank.script
-      cell-script = ap (λ (o : WalletOrigin). o.script) origin
-
-      -- the lane has an entry to make
-      mine : of_lane (λ (e : Stamped WalletEntry). e.item.lane) lane (wallet_entries (left_by trail)) ≡ before.mine
-      mine =
-          ap (λ (n : ℕ). of_lane (λ (e : Stamped WalletEntry). e.item.lane) n (wallet_entries (left_by trail))) (sym may_draw.number)
-          ∙ ap (λ (l : List (Stamped WalletEntry)). of_lane (λ (e : Stamped WalletEntry). e.item.lane) before.number (added l (wallet_entries (left_by trail)))) (sym is_gate.opening)
-          ∙ is_out.mine
-
-      pub few : entries_by lane trail.before.entries < length (rows_of_wallet lane trail.before.address trail.script.rows)
-      few =
-          let count : entries_by lane trail.before.entries ≡ length before.mine =
-          sym (length-stamped (λ (e : WalletEntry). e.lane == lane) trail.before.entries trail.stamps is_out.kept.counted) ∙ ap length mine in
-          let among : list_any (is_same start.address) (address ∷ others) ≡ true =
-          ap (λ (a : Address). list_any (is_same a) (address ∷ others)) (here d) ∙ or_left (is_same address address) (list_any (is_same address) others) (is_same-refl address) in
-          let left : length before.mine < length (rows_of_wallet lane start.address bank.script.rows) = may_draw.left among in
-          let rows : length (rows_of_wallet lane trail.before.address trail.script.rows) ≡ length (rows_of_wallet lane start.address bank.script.rows) =
-          ap (λ (a : Address). length (rows_of_wallet lane a trail.script.rows)) cell-address
-          ∙ ap (λ (s : PlainScript). length (rows_of_wallet lane start.address s.rows)) cell-script in
-          omega (arith, count, left, rows)
-
-      -- its cell is ready, and in hand with the others
-      ready-cell : IsReady bank.script trail.before
-      ready-cell =
-          let split = splits-at starts place d within in
-          let same : record { address = trail.before.address; bytes = trail.before.start } ≡ start =
-          ap (λ (a : Address). record { address = a; bytes = trail.before.start }) cell-address ∙ ap (λ (b : List ℕ). record { address = start.address; bytes = b }) cell-start in
-          record {
-            kept = is_out.kept.cell;
-            spare = spare-wallet (left_by trail) is_out.kept lane few;
-            start = record {
-              earlier = split.earlier;
-              later = split.later;
-              is = split.is ∙ ap (λ (x : PlainAccount). split.earlier ++ x ∷ split.later) (sym same);
-            };
-          }
-
-      pub in-hand : AreInHand bank.script named others (hands ++ trail.before ∷ [])
-      in-hand = record {
-        ready = All-push (IsReady bank.script) hands trail.before hand.ready ready-cell;
-        are = shift hands ∙ ap (λ (a : Address). map address_in hands ++ a ∷ others) cell-here ∙ hand.are;
-      }
-        where
-          shift : (cells : List CellState) → map address_in (cells ++ trail.before ∷ []) ++ others ≡ map address_in cells ++ trail.before.address ∷ others
-          shift [] = refl
-          shift (cell ∷ cells) = ap (λ (l : List Address). cell.address ∷ l) (shift cells)
-
-      -- the other passes may draw
-      pub ready-others : AreReady bank lane others (set passes place out)
-      ready-others =
-          let Pass : Type 0 = WalletPass in
-          record {
-            gates =
-                gates-set bank.wallets passes place out ready.gates
-                (λ p. ap (λ (x : Pass). x.gate) is_out.pass ∙ ap (λ (x : Pass). x.gate) before_is ∙ ap (λ (x : Pass). x.gate) (same-get passes place before p within-passes));
-            each =
-                drawn-ready address others bank.script lane starts passes place out ready.each rising within here
-                (λ p. ap (λ (x : Pass). x.number) is_out.pass ∙ ap (λ (x : Pass). x.number) (before_is ∙ same-get passes place before p within-passes));
-          }
-
-      -- ---- and left
-
-      module _ (written : Written) (mid : List WalletPass) (asked : written.lane ≡ lane) (grown : HaveGrown bank others written (set passes place out) mid) where
-        pub mid-is : (p : WalletPass) → get_or mid place p ≡ out
-        mid-is p = still-out others written starts passes mid place out address none within here grown p
-
-        pub within-mid : place < length mid
-        within-mid = omega (arith, within, (three-long (OneGrows others written) starts (set passes place out) mid grown).1)
-
-        pub may-leave : (now : WalletPass) (cell : CellState) → now ≡ get_or mid place now → HasEntry written trail.before cell → trail.last < written.stamp
-            → MayLeave written gate now trail cell
-        may-leave now cell now_is entry above =
-            let is : now ≡ record before { stage = Out (wallet_entries (left_by trail)) } = now_is ∙ mid-is now ∙ is_out.pass in
-            record {
-              home = ap (λ (p : WalletPass). p.gate) is ∙ ap (λ (p : WalletPass). p.gate) before_is ∙ gate-at gate before ∙ ap (λ (g : _). Some g) (sym gate_is);
-              out = ap (λ (p : WalletPass). p.stage) is;
-              origin = is_out.origin;
-              entry = entry;
-              number = asked ∙ sym may_draw.number ∙ sym (ap (λ (p : WalletPass). p.number) is);
-              lane = subst (λ (n : ℕ). entries_by n trail.before.entries < length (rows_of_wallet n trail.before.address trail.script.rows)) (sym asked) few;
-              stamp = above;
-            }
-
-        pub number-mid : (now : WalletPass) → now ≡ get_or mid place now → now.number ≡ before.number
-        number-mid now now_is = ap (λ (p : WalletPass). p.number) (now_is ∙ mid-is now ∙ is_out.pass)
-
-        pub have-grown : (now left : WalletPass) → Differ (λ (account : PlainAccount). account.address) starts → now ≡ get_or mid place now → HasLeft written trail now left
-            → HaveGrown bank (address ∷ others) written passes (set mid place left)
-        have-grown now left differ now_is has =
-            let moved : HasWritten written start before left =
-            has-moved written start trail before now left (Out (wallet_entries (left_by trail))) (ap (λ (p : WalletPass). p.stage) before_is ∙ idle-at d before)
-            (now_is ∙ mid-is now ∙ is_out.pass) has cell-address cell-start in
-            one-grows address others written starts passes mid place out left differ within here grown
-            (λ x p.
-            subst (λ (q : WalletPass). HasWritten written (get_or starts place x) q left) (before_is ∙ same-get passes place before p within-passes)
-            (subst (λ (s : PlainAccount). HasWritten written s before left) (same-get starts place d x within) moved))
-
--- ---- all that is known of the turn of the next wallet
-
--- what was known before it, and what was taken
-pub record Facts (bank : BankState) (named : List Address) (lane : ℕ) (address : Address) (others : List Address) (hands : List CellState)
-    (passes taken : List WalletPass) (place : ℕ) (gate : GateView (Stamped WalletEntry) WalletOrigin) (before out : WalletPass) (trail : TrailState) : Type 0 where
-  pub taken_is : taken ≡ set passes place out
-  pub may : MayName bank.script named
-  pub hand : AreInHand bank.script named (address ∷ others) hands
-  pub ready : AreReady bank lane (address ∷ others) passes
-  pub kept : IsBank bank
-  pub at : IsPlace address (wallet_addresses bank.script) place
-  pub gate_is : gate ≡ get_or bank.wallets place gate
-  pub before_is : before ≡ get_or passes place before
-  pub is_out : IsOut gate before out trail
-
-module _ {bank : BankState} {named : List Address} {lane : ℕ} {address : Address} {others : List Address} {hands : List CellState}
-    {passes taken : List WalletPass} {place : ℕ} {gate : GateView (Stamped WalletEntry) WalletOrigin} {before out : WalletPass} {trail : TrailState}
-    (f : Facts bank named lane address others hands passes taken place gate before out trail) where
-  abbrev any_start : PlainAccount
-  any_start = record { address = address; bytes = [] }
-
-  pub facts-hand : AreInHand bank.script named others (hands ++ trail.before ∷ [])
-  facts-hand =
-      in-hand bank named lane address others hands passes f.may f.hand f.ready f.kept place f.at any_start gate before out trail f.gate_is f.before_is f.is_out
-
-  pub facts-ready : AreReady bank lane others taken
-  facts-ready =
-      subst (AreReady bank lane others) (sym f.taken_is)
-      (ready-others bank named lane address others hands passes f.may f.hand f.ready f.kept place f.at any_start gate before out trail f.gate_is f.before_is f.is_out)
-
-  module _ (written : Written) (mid : List WalletPass) (asked : written.lane ≡ lane) (have_grown : HaveGrown bank others written taken mid) where
-    grown : HaveGrown bank others written (set passes place out) mid
-    grown = subst (λ (l : List WalletPass). HaveGrown bank others written l mid) f.taken_is have_grown
-
-    pub facts-mid : place < length mid
-    facts-mid =
-        within-mid bank named lane address others hands passes f.may f.hand f.ready f.kept place f.at any_start gate before out trail f.gate_is f.before_is f.is_out written mid asked
-        grown
-
-    module _ (now : WalletPass) (now_is : now ≡ get_or mid place now) where
-      pub facts-number : now.number ≡ before.number
-      facts-number =
-          number-mid bank named lane address others hands passes f.may f.hand f.ready f.kept place f.at any_start gate before out trail f.gate_is f.before_is f.is_out written mid
-          asked grown now now_is
-
-      pub facts-leave : (cell : CellState) → HasEntry written trail.before cell → trail.last < written.stamp → MayLeave written gate now trail cell
-      facts-leave cell entry above =
-          may-leave bank named lane address others hands passes f.may f.hand f.ready f.kept place f.at any_start gate before out trail f.gate_is f.before_is f.is_out written mid
-          asked grown now cell now_is entry above
-
-      pub facts-grown : (left : WalletPass) → HasLeft written trail now left → HaveGrown bank (address ∷ others) written passes (set mid place left)
-      facts-grown left has =
-          have-grown bank named lane address others hands passes f.may f.hand f.ready f.kept place f.at any_start gate before out trail f.gate_is f.before_is f.is_out written mid
-          asked grown now left (wallets-differ bank.script.start f.kept.script.start.accepted) now_is has
-
 -- ---- the wallets still to come
 
--- those after the first
-abbrev pub rest_of : List (Option Address) → List (Option Address)
-rest_of others = take (length others - 1) (drop 1 others)
+-- the places after the first
+abbrev pub rest_of : List ℕ → List ℕ
+rest_of places = take (length places - 1) (drop 1 places)
 
-pub front-some : (others : List (Option Address)) (address : Address) → first_in others ≡ Some address → front others ≡ address ∷ front (rest_of others)
-front-some [] address is = absurd (cc)
-front-some (None ∷ others) address is = absurd (cc)
-front-some (Some first ∷ others) address is =
-    let same : first ≡ address = (cc) in
-    let all : take (length (Some first ∷ others) - 1) others ≡ others =
-    ap (λ (n : ℕ). take n others) (omega arith) ∙ take-length others in
-    ap (λ (a : Address). a ∷ front others) same ∙ ap (λ (l : List (Option Address)). address ∷ front l) (sym all)
+rest-is : (place : ℕ) (places : List ℕ) → rest_of (place ∷ places) ≡ places
+rest-is place places = ap (λ (n : ℕ). take n places) (omega arith) ∙ take-length places
 
-pub rest-long : (others : List (Option Address)) (address : Address) → first_in others ≡ Some address → length others ≡ length (rest_of others) + 1
-rest-long [] address is = absurd (cc)
-rest-long (first ∷ others) address is =
-    let all : take (length (first ∷ others) - 1) others ≡ others =
-    ap (λ (n : ℕ). take n others) (omega arith) ∙ take-length others in
-    omega (arith, ap length all)
+pub rest-long : (places : List ℕ) (place : ℕ) → first_in places ≡ Some place → length places ≡ length (rest_of places) + 1
+rest-long [] place is = absurd (none-some place is)
+rest-long (first ∷ places) place is = omega (arith, ap length (rest-is first places))
 
-pub front-none : (others : List (Option Address)) → first_in others ≡ None → front others ≡ []
-front-none [] is = refl
-front-none (None ∷ others) is = refl
-front-none (Some first ∷ others) is = absurd (cc)
+-- the first of some places, where there is one
+some-first : (first place : ℕ) (places : List ℕ) → first_in (first ∷ places) ≡ Some place → first ≡ place
+some-first first place places is =
+    ⊎_elim (λ (none : (first == 65535) ≡ true). absurd (none-some place (sym (cond-true (first == 65535) None (Some first) none) ∙ is)))
+    (λ (some : (first == 65535) ≡ false).
+    let same : Some first ≡ Some place = sym (cond-false (first == 65535) None (Some first) some) ∙ is in
+    (cc))
+    (cases_Bool (first == 65535))
 
--- where none is still to come the passes are as they were
+-- and where there is none
+none-first : (first : ℕ) (places : List ℕ) → first_in (first ∷ places) ≡ None → first ≡ 65535
+none-first first places is =
+    ⊎_elim (λ (none : (first == 65535) ≡ true). eqb-true first 65535 none)
+    (λ (some : (first == 65535) ≡ false). absurd (none-some first (sym is ∙ cond-false (first == 65535) None (Some first) some)))
+    (cases_Bool (first == 65535))
+
+drop-more : {A : Type 0} (n : ℕ) (xs : List A) (x : A) (rest : List A) → drop n xs ≡ x ∷ rest → drop (suc n) xs ≡ rest
+drop-more zero [] x rest is = absurd (omega (arith, ap length is))
+drop-more zero (y ∷ xs) x rest is = (cc)
+drop-more (suc n) [] x rest is = absurd (omega (arith, ap length is))
+drop-more (suc n) (y ∷ xs) x rest is = drop-more n xs x rest is
+
+-- where none is still to come, the cells of all are in hand
+pub none-left : (bank : BankState) (left : List Address) (places : List ℕ) → IsBank bank → ArePlacesOf (place_of bank.script) left places → first_in places ≡ None
+    → left ≡ []
+none-left bank [] places kept at none = refl
+none-left bank (address ∷ left) [] kept at none = absurd at
+none-left bank (address ∷ left) (place ∷ places) kept at none =
+    absurd (omega (
+      arith,
+      none-first place places none,
+      wallet-within address bank.script.start.wallets place at.0,
+      kept.script.start.accepted.few_wallets,
+      kept.script.start.accepted.within.wallets,
+    ))
+
+-- and the passes are as they were
 pub grown-none : (written : Written) (starts : List PlainAccount) (passes : List WalletPass) → length passes ≡ length starts → AllThree (OneGrows [] written) starts passes passes
 grown-none written [] [] long = tt
 grown-none written [] (p ∷ passes) long = absurd (omega (arith, long))
 grown-none written (start ∷ starts) [] long = absurd (omega (arith, long))
 grown-none written (start ∷ starts) (p ∷ passes) long = (refl, grown-none written starts passes (omega (arith, long)))
 
--- ---- all that is known, as it is known before the turn
+abbrev address_in : CellState → Address
+address_in cell = cell.address
 
-pub facts-of : (bank : BankState) (named : List Address) (lane : ℕ) (address : Address) (others : List (Option Address)) (hands : List CellState) (passes taken : List WalletPass)
-    (place : ℕ) (gate : GateView (Stamped WalletEntry) WalletOrigin) (trail : TrailState) → first_in others ≡ Some address → MayName bank.script named
-    → AreInHand bank.script named (front others) hands → AreReady bank lane (front others) passes → IsBank bank → wallet_place address bank.script.start.wallets ≡ Some place
-    → gate ≡ get_or bank.wallets place gate → place < length passes → (out : IsWalletOutAt gate place passes taken trail)
-    → Facts bank named lane address (front (rest_of others)) hands passes taken place gate (get_or passes place out.out) out.out trail
-facts-of bank named lane address others hands passes taken place gate trail first may hand ready kept at gate_is within out = record {
-  taken_is = out.is;
-  may = may;
-  hand = subst (λ (l : List Address). AreInHand bank.script named l hands) (front-some others address first) hand;
-  ready = subst (λ (l : List Address). AreReady bank lane l passes) (front-some others address first) ready;
-  kept = kept;
-  at = wallet-placed bank.script address place at;
-  gate_is = gate_is;
-  before_is = same-get passes place out.out (get_or passes place out.out) within;
-  is_out = out.taken out.out;
-}
+-- ---- the next wallet of an item
+
+-- what is known before its turn: it is the first of those that are still to come, and stands at this place
+pub record Coming (bank : BankState) (named : List Address) (lane : ℕ) (hands : List CellState) (passes : List WalletPass) (places : List ℕ) (place : ℕ)
+    : Type 0 where
+  pub address : Address
+  pub others : List Address
+  pub left : left_of named hands ≡ address ∷ others
+  pub kept : IsBank bank
+  pub rising : AreRising (address ∷ others)
+  pub hand : AreInHand bank.script named (address ∷ others) hands
+  pub ready : AreReady bank lane (address ∷ others) passes
+  pub at : IsPlace address (wallet_addresses bank.script) place
+  pub behind : ArePlacesOf (place_of bank.script) others (rest_of places)
+
+pub coming : (bank : BankState) (named : List Address) (lane : ℕ) (hands : List CellState) (passes : List WalletPass) (places : List ℕ) (place : ℕ) → IsBank bank
+    → AreRising named → AreInHand bank.script named (left_of named hands) hands → AreReady bank lane (left_of named hands) passes
+    → ArePlacesOf (place_of bank.script) (left_of named hands) places → first_in places ≡ Some place → Coming bank named lane hands passes places place
+coming bank named lane hands passes places place kept rising hand ready at first = found (left_of named hands) places refl at first
+  where
+    found : (left : List Address) (from : List ℕ) → left_of named hands ≡ left → ArePlacesOf (place_of bank.script) left from → first_in from ≡ Some place
+        → Coming bank named lane hands passes from place
+    found left [] is at first = absurd (none-some place first)
+    found [] (next ∷ from) is at first =
+        let none : (next == 65535) ≡ true = eq-eqb next 65535 (All-head (λ (p : ℕ). p ≡ 65535) next from at) in
+        absurd (none-some place (sym (cond-true (next == 65535) None (Some next) none) ∙ first))
+    found (address ∷ left) (next ∷ from) is at first =
+        let here : AreInHand bank.script named (address ∷ left) hands = subst (λ (l : List Address). AreInHand bank.script named l hands) is hand in
+        record {
+          address = address;
+          others = left;
+          left = is;
+          kept = kept;
+          rising = rising-behind (map address_in hands) (address ∷ left) (subst AreRising (sym here.are) rising);
+          hand = here;
+          ready = subst (λ (l : List Address). AreReady bank lane l passes) is ready;
+          at = wallet-placed bank.script address place (at.0 ∙ ap Some (some-first next place from first));
+          behind = subst (ArePlacesOf (place_of bank.script) left) (sym (rest-is next from)) at.1;
+        }
+
+module _ {bank : BankState} {named : List Address} {lane : ℕ} {hands : List CellState} {passes : List WalletPass} {places : List ℕ} {place : ℕ}
+    (c : Coming bank named lane hands passes places place) where
+  abbrev starts : List PlainAccount
+  starts = bank.script.start.wallets
+
+  abbrev any_start : PlainAccount
+  any_start = record { address = c.address; bytes = [] }
+
+  abbrev May : PlainAccount → WalletPass → Type 0
+  May = MayDraw bank.script lane (c.address ∷ c.others)
+
+  none : list_any (is_same c.address) c.others ≡ false
+  none = (rising-once (c.address ∷ c.others) c.rising).0
+
+  within : place < length starts
+  within = subst (λ (n : ℕ). place < n) (length-map starts (λ (account : PlainAccount). account.address)) c.at.within
+
+  here : (d : PlainAccount) → (get_or starts place d).address ≡ c.address
+  here d = sym (get_or-map (λ (account : PlainAccount). account.address) starts place d c.address within) ∙ c.at.here c.address
+
+  among : (start : PlainAccount) → start.address ≡ c.address → list_any (is_same start.address) (c.address ∷ c.others) ≡ true
+  among start is =
+      ap (λ (a : Address). list_any (is_same a) (c.address ∷ c.others)) is ∙ or_left (is_same c.address c.address) (list_any (is_same c.address) c.others) (is_same-refl c.address)
+
+  pub within-gates : place < length bank.wallets
+  within-gates = omega (arith, within, AllZip-long (IsWalletGate bank.script) starts bank.wallets c.kept.wallets)
+
+  pub within-passes : place < length passes
+  within-passes = omega (arith, within, AllZip-long May starts passes c.ready.each)
+
+  pub gate-at : (g : WalletGate) (p : WalletPass) → (get_or passes place p).gate ≡ Some (get_or bank.wallets place g)
+  gate-at g p = zip-at IsAtGate bank.wallets passes place g p c.ready.gates within-gates
+
+  pub idle-at : (p : WalletPass) → (get_or passes place p).stage ≡ Idle
+  idle-at p = (zip-at May starts passes place any_start p c.ready.each within).idle (among (get_or starts place any_start) (here any_start))
+
+  -- the wallets whose turns are out are below it
+  pub above : (gate : WalletGate) → gate ≡ get_or bank.wallets place gate → IsAboveWallets gate passes
+  above gate gate_is k p behind holds other at =
+      let behind_starts : k < length starts = omega (arith, behind, AllZip-long May starts passes c.ready.each) in
+      let behind_gates : k < length bank.wallets = omega (arith, behind_starts, AllZip-long (IsWalletGate bank.script) starts bank.wallets c.kept.wallets) in
+      let may_draw = zip-at May starts passes k any_start p c.ready.each behind_starts in
+      let both : Some (get_or bank.wallets k other) ≡ Some other = sym (zip-at IsAtGate bank.wallets passes k other p c.ready.gates behind_gates) ∙ at in
+      let other_is : other ≡ get_or bank.wallets k other = (cc) in
+      let other_start : other.origin.start.address ≡ (get_or starts k any_start).address =
+      ap (λ (g : WalletGate). g.origin.start.address) other_is
+      ∙ ap (λ (o : WalletOrigin). o.start.address) (zip-at (IsWalletGate bank.script) starts bank.wallets k any_start other c.kept.wallets behind_starts).origin in
+      let own_start : gate.origin.start.address ≡ c.address =
+      ap (λ (g : WalletGate). g.origin.start.address) gate_is
+      ∙ ap (λ (o : WalletOrigin). o.start.address) (zip-at (IsWalletGate bank.script) starts bank.wallets place any_start gate c.kept.wallets within).origin
+      ∙ here any_start in
+      subst (λ (a : Address). is_lower a gate.origin.start.address ≡ true) (sym other_start)
+      (subst (λ (a : Address). is_lower (get_or starts k any_start).address a ≡ true) (sym own_start)
+      (All-head (IsAbove (get_or starts k any_start).address) c.address c.others (may_draw.below holds)))
+
+  -- its turn is out
+  module _ {gate : WalletGate} {taken : List WalletPass} {trail : TrailState} (gate_is : gate ≡ get_or bank.wallets place gate)
+      (out : IsWalletOutAt gate place passes taken trail) where
+    abbrev before : WalletPass
+    before = get_or passes place out.out
+
+    is_out : IsOut gate before out.out trail
+    is_out = out.taken out.out
+
+    abbrev start : PlainAccount
+    start = get_or starts place any_start
+
+    is_gate : IsWalletGate bank.script start gate
+    is_gate =
+        subst (IsWalletGate bank.script start) (sym gate_is) (zip-at (IsWalletGate bank.script) starts bank.wallets place any_start gate c.kept.wallets within)
+
+    may_draw : May start before
+    may_draw = zip-at May starts passes place any_start out.out c.ready.each within
+
+    origin : wallet_origin (left_by trail) ≡ record { start = start; script = bank.script }
+    origin = is_out.origin ∙ is_gate.origin
+
+    cell-address : trail.before.address ≡ start.address
+    cell-address = ap (λ (o : WalletOrigin). o.start.address) origin
+
+    cell-start : trail.before.start ≡ start.bytes
+    cell-start = ap (λ (o : WalletOrigin). o.start.bytes) origin
+
+    -- the lane has an entry to make
+    mine : of_lane (λ (e : Stamped WalletEntry). e.item.lane) lane (wallet_entries (left_by trail)) ≡ before.mine
+    mine =
+        ap (λ (n : ℕ). of_lane (λ (e : Stamped WalletEntry). e.item.lane) n (wallet_entries (left_by trail))) (sym may_draw.number)
+        ∙ ap (λ (l : List (Stamped WalletEntry)). of_lane (λ (e : Stamped WalletEntry). e.item.lane) before.number (added l (wallet_entries (left_by trail)))) (sym is_gate.opening)
+        ∙ is_out.mine
+
+    few : entries_by lane trail.before.entries < length (rows_of_wallet lane trail.before.address trail.script.rows)
+    few =
+        let count : entries_by lane trail.before.entries ≡ length before.mine =
+        sym (length-stamped (λ (e : WalletEntry). e.lane == lane) trail.before.entries trail.stamps is_out.kept.counted) ∙ ap length mine in
+        let left : length before.mine < length (rows_of_wallet lane start.address bank.script.rows) = may_draw.left (among start (here any_start)) in
+        let rows : length (rows_of_wallet lane trail.before.address trail.script.rows) ≡ length (rows_of_wallet lane start.address bank.script.rows) =
+        ap (λ (o : WalletOrigin). length (rows_of_wallet lane o.start.address o.script.rows)) origin in
+        omega (arith, count, left, rows)
+
+    -- its cell is ready, and in hand with the others
+    ready-cell : IsReady bank.script trail.before
+    ready-cell =
+        let split = splits-at starts place any_start within in
+        let same : record { address = trail.before.address; bytes = trail.before.start } ≡ start = ap (λ (o : WalletOrigin). o.start) origin in
+        record {
+          kept = is_out.kept.cell;
+          spare = spare-wallet (left_by trail) is_out.kept lane few;
+          start = record {
+            earlier = split.earlier;
+            later = split.later;
+            is = split.is ∙ ap (λ (x : PlainAccount). split.earlier ++ x ∷ split.later) (sym same);
+          };
+        }
+
+    module _ {cell : CellState} {more : List CellState} (cell_is : cell ≡ trail.before) (pushed : more ≡ hands ++ cell ∷ []) where
+      more-is : more ≡ hands ++ trail.before ∷ []
+      more-is = pushed ∙ ap (λ (x : CellState). hands ++ x ∷ []) cell_is
+
+      left-is : left_of named more ≡ c.others
+      left-is =
+          let long : length more ≡ suc (length hands) = omega (arith, ap length pushed, length-append hands (cell ∷ [])) in
+          ap (λ (n : ℕ). drop n named) long
+          ∙ drop-more (length hands) named c.address c.others c.left
+
+      pub next-hand : AreInHand bank.script named (left_of named more) more
+      next-hand =
+          subst (λ (l : List Address). AreInHand bank.script named l more) (sym left-is)
+          (subst (AreInHand bank.script named c.others) (sym more-is) (record {
+            ready = All-push (IsReady bank.script) hands trail.before c.hand.ready ready-cell;
+            are = shift hands ∙ ap (λ (a : Address). map address_in hands ++ a ∷ c.others) (cell-address ∙ here any_start) ∙ c.hand.are;
+          }))
+        where
+          shift : (cells : List CellState) → map address_in (cells ++ trail.before ∷ []) ++ c.others ≡ map address_in cells ++ trail.before.address ∷ c.others
+          shift [] = refl
+          shift (first ∷ cells) = ap (λ (l : List Address). first.address ∷ l) (shift cells)
+
+      -- the others stand at their places
+      pub next-places : ArePlacesOf (place_of bank.script) (left_of named more) (rest_of places)
+      next-places = subst (λ (l : List Address). ArePlacesOf (place_of bank.script) l (rest_of places)) (sym left-is) c.behind
+
+      -- and their passes may draw
+      pub next-ready : AreReady bank lane (left_of named more) taken
+      next-ready =
+          subst (λ (l : List Address). AreReady bank lane l taken) (sym left-is)
+          (subst (AreReady bank lane c.others) (sym out.is) (record {
+            gates =
+                gates-set bank.wallets passes place out.out c.ready.gates
+                (λ p. ap (λ (x : WalletPass). x.gate) is_out.pass ∙ ap (λ (x : WalletPass). x.gate) (same-get passes place out.out p within-passes));
+            each =
+                drawn-ready c.address c.others bank.script lane starts passes place out.out c.ready.each c.rising within here
+                (λ p. ap (λ (x : WalletPass). x.number) is_out.pass ∙ ap (λ (x : WalletPass). x.number) (same-get passes place out.out p within-passes));
+          }))
+
+      -- ---- and left
+
+      module _ (written : Written) (mid : List WalletPass) (asked : written.lane ≡ lane) (have_grown : HaveGrown bank (left_of named more) written taken mid) where
+        grown : HaveGrown bank c.others written (set passes place out.out) mid
+        grown =
+            subst (λ (l : List WalletPass). HaveGrown bank c.others written l mid) out.is
+            (subst (λ (l : List Address). HaveGrown bank l written taken mid) left-is have_grown)
+
+        pub within-mid : place < length mid
+        within-mid = omega (arith, within, (three-long (OneGrows c.others written) starts (set passes place out.out) mid grown).1)
+
+        module _ {now : WalletPass} (now_is : now ≡ get_or mid place now) where
+          mid-is : now ≡ record before { stage = Out (wallet_entries (left_by trail)) }
+          mid-is = now_is ∙ still-out c.others written starts passes mid place out.out c.address none within here grown now ∙ is_out.pass
+
+          pub number-mid : now.number ≡ before.number
+          number-mid = ap (λ (p : WalletPass). p.number) mid-is
+
+          pub may-leave : (put : CellState) → HasEntry written trail.before put → trail.last < written.stamp → MayLeave written gate now trail put
+          may-leave put entry above = record {
+            home = ap (λ (p : WalletPass). p.gate) mid-is ∙ gate-at gate out.out ∙ ap (λ (g : WalletGate). Some g) (sym gate_is);
+            out = ap (λ (p : WalletPass). p.stage) mid-is;
+            origin = is_out.origin;
+            entry = entry;
+            number = asked ∙ sym may_draw.number ∙ sym (ap (λ (p : WalletPass). p.number) mid-is);
+            lane = subst (λ (n : ℕ). entries_by n trail.before.entries < length (rows_of_wallet n trail.before.address trail.script.rows)) (sym asked) few;
+            stamp = above;
+          }
+
+          pub have-grown : (left : WalletPass) → HasLeft written trail now left → HaveGrown bank (left_of named hands) written passes (set mid place left)
+          have-grown left has =
+              let moved : HasWritten written start before left =
+              has-moved written start trail before now left (Out (wallet_entries (left_by trail))) (idle-at out.out) mid-is has cell-address cell-start in
+              subst (λ (l : List Address). HaveGrown bank l written passes (set mid place left)) (sym c.left)
+              (one-grows c.address c.others written starts passes mid place out.out left (wallets-differ bank.script.start c.kept.script.start.accepted) within here grown
+              (λ x p.
+              subst (λ (q : WalletPass). HasWritten written (get_or starts place x) q left) (same-get passes place out.out p within-passes)
+              (subst (λ (s : PlainAccount). HasWritten written s before left) (same-get starts place any_start x within) moved)))

@@ -6,7 +6,7 @@ use Rattle.dex_script_types.specs.Facts.{IsScript}
 use Rattle.dex_script_types.specs.Places.{market_addresses, wallet_addresses}
 use Rattle.dex_wallet.specs.CellState.{CellState}
 use Rattle.dex_world.specs.World.{World}
-use Rattle.dex_act.specs.declared.sight.Terms.{Terms}
+use Rattle.dex_act.specs.Steps.{Terms}
 use Rattle.dex_act.specs.Steps.{world_in_hand}
 
 -- what the rows of a script see beside their wallets

@@ -3,7 +3,6 @@ use Rattle.std.specs.Prelude.{ℕ, ◌≡◌, ◌≤◌, List, [], Some, All, le
 use Rattle.std.specs.List.{AllZip}
 use Rattle.dex_types.specs.declared.movements.WalletEntry.{WalletEntry}
 use Rattle.dex_types.specs.Accounts.{PlainAccount, PlainMarketAccounts}
-use Rattle.dex_gate.specs.GateView.{GateView}
 use Rattle.dex_gate.specs.PassView.{PassView}
 use Rattle.dex_gate.specs.declared.stage.Stage.TheVariants.{Idle}
 use Rattle.dex_history.specs.Journal.{Call}
@@ -13,7 +12,14 @@ use Rattle.dex_journals.specs.Journals.{MarketOrigin, WalletOrigin}
 use Rattle.dex_journals.specs.StampedCalls.{calls_on, entries_on}
 use Rattle.dex_world.specs.Items.{rows_of_lane}
 use Rattle.dex_journals.specs.Lanes.{IsLane, Lane}
-use Rattle.dex_turns.specs.Bank.{BankState}
+use Rattle.dex_turns.specs.Bank.{BankState, MarketGate, WalletGate}
+
+-- a lane's pass for a market, and for a wallet, as they are seen
+abbrev pub MarketPass : Type 0
+MarketPass = PassView (Stamped Call) MarketOrigin
+
+abbrev pub WalletPass : Type 0
+WalletPass = PassView (Stamped WalletEntry) WalletOrigin
 
 -- a lane of a script, the calls that it made so far and the last stamp of them (0 where there is none), and its pass
 -- for each market and each wallet, in declared order
@@ -22,12 +28,11 @@ pub record SeatState : Type 0 where
   pub script : PlainScript
   pub calls : List (Stamped Call)
   pub last : ℕ
-  pub markets : List (PassView (Stamped Call) MarketOrigin)
-  pub wallets : List (PassView (Stamped WalletEntry) WalletOrigin)
+  pub markets : List MarketPass
+  pub wallets : List WalletPass
 
 -- the seat of a lane with these passes, when no row has acted
-abbrev pub fresh_seat : ℕ → PlainScript → List (PassView (Stamped Call) MarketOrigin)
-    → List (PassView (Stamped WalletEntry) WalletOrigin) → SeatState
+abbrev pub fresh_seat : ℕ → PlainScript → List MarketPass → List WalletPass → SeatState
 fresh_seat lane script markets wallets =
     record { lane = lane; script = script; calls = []; last = 0; markets = markets; wallets = wallets }
 
@@ -39,11 +44,11 @@ pub record IsPass {E O : Type 0} (lane : ℕ) (made : List E) (pass : PassView E
   pub mine : pass.mine ≡ made
 
 -- a pass of the lane for a market: what it made are the lane's calls on the market
-abbrev pub IsMarketPass : ℕ → List (Stamped Call) → PlainMarketAccounts → PassView (Stamped Call) MarketOrigin → Type 0
+abbrev pub IsMarketPass : ℕ → List (Stamped Call) → PlainMarketAccounts → MarketPass → Type 0
 IsMarketPass lane calls start pass = IsPass lane (calls_on start.address calls) pass
 
 -- a pass of the lane for a wallet: what it made are the entries of the lane's calls in the wallet's journal
-abbrev pub IsWalletPass : ℕ → List (Stamped Call) → PlainAccount → PassView (Stamped WalletEntry) WalletOrigin → Type 0
+abbrev pub IsWalletPass : ℕ → List (Stamped Call) → PlainAccount → WalletPass → Type 0
 IsWalletPass lane calls start pass = IsPass lane (entries_on start.address calls) pass
 
 -- what always holds of a seat: its calls are its lane's first rows, each done once, and its passes made just these
@@ -56,10 +61,8 @@ pub record IsSeat (seat : SeatState) : Type 0 where
 -- the seat is one of this bank
 pub record IsSeatOf (bank : BankState) (seat : SeatState) : Type 0 where
   pub script : seat.script ≡ bank.script
-  pub markets : AllZip (λ (gate : GateView (Stamped Call) MarketOrigin) (pass : PassView (Stamped Call) MarketOrigin).
-      pass.gate ≡ Some gate) bank.markets seat.markets
-  pub wallets : AllZip (λ (gate : GateView (Stamped WalletEntry) WalletOrigin)
-      (pass : PassView (Stamped WalletEntry) WalletOrigin). pass.gate ≡ Some gate) bank.wallets seat.wallets
+  pub markets : AllZip (λ (gate : MarketGate) (pass : MarketPass). pass.gate ≡ Some gate) bank.markets seat.markets
+  pub wallets : AllZip (λ (gate : WalletGate) (pass : WalletPass). pass.gate ≡ Some gate) bank.wallets seat.wallets
 
 -- all rows of its lane are done
 abbrev pub IsDone : SeatState → Type 0

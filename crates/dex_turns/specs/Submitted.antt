@@ -16,19 +16,19 @@ use Rattle.dex_wallet.specs.CellState.{balance_of}
 use Rattle.dex_world.specs.Lists.{AllThree}
 use Rattle.dex_script_types.specs.Sight.{IsSight}
 use Rattle.dex_stamps.specs.Stamped.{Stamped, items_of}
-use Rattle.dex_journals.specs.Journals.{MarketOrigin, WalletOrigin}
 use Rattle.dex_journals.specs.StampedCalls.{entries_in}
 use Rattle.dex_world.specs.Items.{rows_of_lane}
 use Rattle.dex_journals.specs.Lanes.{AreAllOrNone, MovesEach}
 use Rattle.dex_script_types.specs.Facts.{AreLegs}
-use Rattle.dex_turns.specs.Seats.{SeatState}
+use Rattle.dex_turns.specs.Seats.{MarketPass, SeatState, WalletPass}
 
 -- a pass with a longer history, and with these entries made
 abbrev pub grown : {E O : Type 0} → PassView E O → List E → List E → PassView E O
 grown pass seen made = record pass { seen = seen; mine = pass.mine ++ made }
 
 -- a pass has seen a longer history, which is such and ends with these, and has made these
-pub record HasMade {E O : Type 0} (made : List E) (Legal : List E → Type 0) (before after : PassView E O) : Type 0 where
+pub record HasMade {E O : Type 0} (made : List E) (Legal : List E → Type 0) (before after : PassView E O)
+    : Type 0 where
   pub pass : after ≡ grown before after.seen made
   pub seen : Extends before.seen after.seen
   pub earlier : List E
@@ -37,8 +37,7 @@ pub record HasMade {E O : Type 0} (made : List E) (Legal : List E → Type 0) (b
 
 -- the row is one on this market: the pass has seen a longer history, which is legal from the market's start and ends
 -- with the call, and has made the call
-abbrev pub HasCalled : Stamped Call → PlainMarketAccounts → PassView (Stamped Call) MarketOrigin
-    → PassView (Stamped Call) MarketOrigin → Type 0
+abbrev pub HasCalled : Stamped Call → PlainMarketAccounts → MarketPass → MarketPass → Type 0
 HasCalled call start before after =
     HasMade (call ∷ []) (λ (seen : List (Stamped Call)). IsLegal (market_in start) (items_of seen)) before after
 
@@ -62,15 +61,13 @@ written_by call = record { lane = call.item.asked.lane; stamp = call.stamp; at =
 
 -- the item names this wallet: the pass has seen a longer history of movements, which is legal from the wallet's first
 -- amount and ends with what the item writes there, and has made that
-abbrev pub HasWritten : Written → PlainAccount → PassView (Stamped WalletEntry) WalletOrigin
-    → PassView (Stamped WalletEntry) WalletOrigin → Type 0
+abbrev pub HasWritten : Written → PlainAccount → WalletPass → WalletPass → Type 0
 HasWritten written start before after =
     HasMade (written.at start.address)
     (λ (seen : List (Stamped WalletEntry)). IsWalletLegal (balance_of start.bytes) (items_of seen)) before after
 
 -- a pass has written what a row's call writes
-abbrev pub HasMoved : Stamped Call → PlainAccount → PassView (Stamped WalletEntry) WalletOrigin
-    → PassView (Stamped WalletEntry) WalletOrigin → Type 0
+abbrev pub HasMoved : Stamped Call → PlainAccount → WalletPass → WalletPass → Type 0
 HasMoved call start before after = HasWritten (written_by call) start before after
 
 -- where a row acts on a market or wallet, this holds of its pass; and else the pass is as it was
@@ -86,14 +83,14 @@ pub record WhereEither (one other : Bool) (One Other Elsewhere : Type 0) : Type 
   pub neither : one ≡ false → other ≡ false → Elsewhere
 
 -- the pass of a market has grown by the call where the row acts on it, and else is as it was
-abbrev pub MarketGrows : PlainRow → Stamped Call → PlainMarketAccounts → PassView (Stamped Call) MarketOrigin
-    → PassView (Stamped Call) MarketOrigin → Type 0
-MarketGrows row call start before after = Where (is_same row.market start.address) (HasCalled call start before after) (after ≡ before)
+abbrev pub MarketGrows : PlainRow → Stamped Call → PlainMarketAccounts → MarketPass → MarketPass → Type 0
+MarketGrows row call start before after =
+    Where (is_same row.market start.address) (HasCalled call start before after) (after ≡ before)
 
 -- the pass of a wallet has grown by the call where the row names it, and else is as it was
-abbrev pub WalletGrows : PlainRow → Stamped Call → PlainAccount → PassView (Stamped WalletEntry) WalletOrigin
-    → PassView (Stamped WalletEntry) WalletOrigin → Type 0
-WalletGrows row call start before after = Where (names row start.address) (HasMoved call start before after) (after ≡ before)
+abbrev pub WalletGrows : PlainRow → Stamped Call → PlainAccount → WalletPass → WalletPass → Type 0
+WalletGrows row call start before after =
+    Where (names row start.address) (HasMoved call start before after) (after ≡ before)
 
 -- the row is the next of the seat's lane, after those of its calls, whose numbers are lower; and it is an item by
 -- itself: those after it have higher numbers
@@ -125,13 +122,13 @@ pub record HasSubmitted (row : PlainRow) (reply : Reply) (before after : SeatSta
 
 -- the passes of markets and wallets have grown by the call of the leg that acts on them, and else are as they were
 abbrev pub LegMarketGrows : PlainRow → PlainRow → Stamped Call → Stamped Call → PlainMarketAccounts
-    → PassView (Stamped Call) MarketOrigin → PassView (Stamped Call) MarketOrigin → Type 0
+    → MarketPass → MarketPass → Type 0
 LegMarketGrows first second one two start before after =
-    WhereEither (is_same first.market start.address) (is_same second.market start.address) (HasCalled one start before after)
-    (HasCalled two start before after) (after ≡ before)
+    WhereEither (is_same first.market start.address) (is_same second.market start.address)
+    (HasCalled one start before after) (HasCalled two start before after) (after ≡ before)
 
 abbrev pub LegWalletGrows : PlainRow → PlainRow → Stamped Call → Stamped Call → PlainAccount
-    → PassView (Stamped WalletEntry) WalletOrigin → PassView (Stamped WalletEntry) WalletOrigin → Type 0
+    → WalletPass → WalletPass → Type 0
 LegWalletGrows first second one two start before after =
     WhereEither (names first start.address) (names second start.address) (HasMoved one start before after)
     (HasMoved two start before after) (after ≡ before)

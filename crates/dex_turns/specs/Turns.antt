@@ -1,14 +1,14 @@
 -- An item while it has turns: those of its markets, and those of the first of its wallets, whose cells are in hand.
-use Rattle.std.specs.Prelude.{ℕ, ◌≡◌, ◌<◌, true, false, List, [], ◌∷◌, ◌++◌, Option, Some, None, All, length, map}
-use Rattle.std.specs.Prelude.{slice_index_or, slice_set}
+use Rattle.std.specs.Prelude.{ℕ, ◌≡◌, ◌<◌, ◌==◌, true, false, List, [], ◌∷◌, ◌++◌, Option, Some, None, All}
+use Rattle.std.specs.Prelude.{drop, if◌then◌else◌, length, map, slice_index_or, slice_set}
 use Rattle.std.specs.List.{AllZip, list_any}
 use Rattle.dex_types.specs.declared.addresses.Address.{Address}
 use Rattle.dex_types.specs.declared.movements.WalletEntry.{WalletEntry}
-use Rattle.dex_world.specs.declared.places.RowPlaces.{RowPlaces}
+use Rattle.dex_world.specs.declared.places.RowWallets.{RowWallets}
 use Rattle.dex_types.specs.Accounts.{PlainAccount, PlainMarketAccounts}
 use Rattle.dex_types.specs.Addresses.{is_same}
 use Rattle.dex_types.specs.Rows.{PlainRow}
-use Rattle.dex_types.specs.Wallets.{is_lower, with_address, with_role}
+use Rattle.dex_types.specs.Wallets.{is_lower, with_address}
 use Rattle.dex_types.specs.WalletJournal.{IsWalletLegal}
 use Rattle.dex_gate.specs.AwayView.{AwayView}
 use Rattle.dex_gate.specs.GateView.{GateView}
@@ -20,17 +20,19 @@ use Rattle.dex_wallet.specs.CellState.{CellState, HasSpare, IsWalletCell, balanc
 use Rattle.dex_act.specs.Wallets.{made_of}
 use Rattle.dex_script_types.specs.PlainScript.{PlainScript}
 use Rattle.dex_script_types.specs.Facts.{AreLegs}
-use Rattle.dex_script_types.specs.Known.{has_account}
-use Rattle.dex_script_types.specs.Places.{IsPlaced, wallet_place}
+use Rattle.dex_script_types.specs.Places.{wallet_place}
 use Rattle.dex_world.specs.Lists.{AllThree}
+use Rattle.dex_world.specs.Places.{AreWalletsAt, wallets_of_roles}
 use Rattle.dex_world.specs.RowsOf.{rows_of_market, rows_of_wallet}
 use Rattle.dex_script_types.specs.Sight.{IsSight}
 use Rattle.dex_stamps.specs.Stamped.{Stamped, items_of}
-use Rattle.dex_journals.specs.Journals.{BankMarketState, IsBankMarket, IsBankWallet, MarketOrigin, TrailState, WalletOrigin}
-use Rattle.dex_journals.specs.Journals.{calls_by, entries_by, left_by, market_calls, market_origin, wallet_entries, wallet_origin}
+use Rattle.dex_journals.specs.Journals.{BankMarketState, IsBankMarket, IsBankWallet, MarketOrigin, TrailState}
+use Rattle.dex_journals.specs.Journals.{WalletOrigin, calls_by, entries_by, left_by, market_calls, market_origin}
+use Rattle.dex_journals.specs.Journals.{wallet_entries, wallet_origin}
 use Rattle.dex_journals.specs.Lanes.{AreAllOrNone, MovesEach}
 use Rattle.dex_turns.specs.declared.legs.TwoMarkets.{TwoMarkets}
-use Rattle.dex_turns.specs.Bank.{BankState}
+use Rattle.dex_turns.specs.Bank.{BankState, MarketGate, WalletGate}
+use Rattle.dex_turns.specs.Seats.{MarketPass, WalletPass}
 use Rattle.dex_turns.specs.Submitted.{AreLegReplies, HasWritten, Where, Written}
 
 -- ---- the order of turns
@@ -40,24 +42,24 @@ abbrev pub HoldsTurn : {E O : Type 0} → PassView E O → Type 0
 HoldsTurn pass = pass.stage ≡ Idle → ⊥
 
 -- the market of a gate has a lower address than that of another
-abbrev pub IsBelow : GateView (Stamped Call) MarketOrigin → GateView (Stamped Call) MarketOrigin → Type 0
+abbrev pub IsBelow : MarketGate → MarketGate → Type 0
 IsBelow one two = is_lower one.origin.start.address two.origin.start.address ≡ true
 
 -- a market's gate is above all of these passes that hold turns: theirs are of markets of lower addresses
-abbrev pub IsAboveMarkets : GateView (Stamped Call) MarketOrigin → List (PassView (Stamped Call) MarketOrigin) → Type 0
+abbrev pub IsAboveMarkets : MarketGate → List MarketPass → Type 0
 IsAboveMarkets gate passes =
-    All (λ (pass : PassView (Stamped Call) MarketOrigin). HoldsTurn pass → (other : GateView (Stamped Call) MarketOrigin)
-    → pass.gate ≡ Some other → IsBelow other gate) passes
+    All (λ (pass : MarketPass). HoldsTurn pass → (other : MarketGate) → pass.gate ≡ Some other → IsBelow other gate)
+    passes
 
 -- a wallet's gate, likewise
-abbrev pub IsAboveWallets : GateView (Stamped WalletEntry) WalletOrigin → List (PassView (Stamped WalletEntry) WalletOrigin) → Type 0
+abbrev pub IsAboveWallets : WalletGate → List WalletPass → Type 0
 IsAboveWallets gate passes =
-    All (λ (pass : PassView (Stamped WalletEntry) WalletOrigin). HoldsTurn pass → (other : GateView (Stamped WalletEntry) WalletOrigin)
+    All (λ (pass : WalletPass). HoldsTurn pass → (other : WalletGate)
     → pass.gate ≡ Some other → is_lower other.origin.start.address gate.origin.start.address ≡ true) passes
 
 -- none of these passes holds a turn
-abbrev pub AreIdle : List (PassView (Stamped Call) MarketOrigin) → Type 0
-AreIdle passes = All (λ (pass : PassView (Stamped Call) MarketOrigin). pass.stage ≡ Idle) passes
+abbrev pub AreIdle : List MarketPass → Type 0
+AreIdle passes = All (λ (pass : MarketPass). pass.stage ≡ Idle) passes
 
 -- addresses that rise
 abbrev pub AreRising : List Address → Type 0
@@ -74,8 +76,8 @@ pub record MayCall (row : PlainRow) (market : BankMarketState) : Type 0 where
 
 -- the pass may draw at the gate of the row's market: it is of the row's lane, which has made fewer calls there than it
 -- has rows
-pub record MayEnter (script : PlainScript) (row : PlainRow) (gate : GateView (Stamped Call) MarketOrigin)
-    (pass : PassView (Stamped Call) MarketOrigin) : Type 0 where
+pub record MayEnter (script : PlainScript) (row : PlainRow) (gate : MarketGate)
+    (pass : MarketPass) : Type 0 where
   pub home : pass.gate ≡ Some gate
   pub number : pass.number ≡ row.lane
   pub left : length pass.mine < length (rows_of_market row.lane gate.origin.start.address script.rows)
@@ -85,8 +87,8 @@ pub record MayEnter (script : PlainScript) (row : PlainRow) (gate : GateView (St
   pub opening : gate.opening ≡ []
 
 -- the market's turn is out, with its value
-pub record IsMarketOut (gate : GateView (Stamped Call) MarketOrigin)
-    (before after : PassView (Stamped Call) MarketOrigin) (market : BankMarketState) : Type 0 where
+pub record IsMarketOut (gate : MarketGate)
+    (before after : MarketPass) (market : BankMarketState) : Type 0 where
   pub pass : after ≡ record before { stage = Out (market_calls market) }
   pub origin : market_origin market ≡ gate.origin
   pub seen : Extends before.seen (market_calls market)
@@ -105,13 +107,13 @@ pub record HasCall (call : Stamped Call) (before after : BankMarketState) : Type
 -- ---- the markets of two legs
 
 -- the market at a place among the gates is the row's, and its pass may draw
-pub record MayEnterAt (bank : BankState) (row : PlainRow) (passes : List (PassView (Stamped Call) MarketOrigin)) (place : ℕ)
-    : Type 0 where
+pub record MayEnterAt (bank : BankState) (row : PlainRow) (passes : List MarketPass) (place : ℕ) : Type 0 where
   pub within : (place < length bank.script.start.markets) × (place < length bank.markets) × (place < length passes)
-  pub here : (start : PlainMarketAccounts) → (slice_index_or bank.script.start.markets place start).address ≡ row.market
-  pub from : (start : PlainMarketAccounts) (gate : GateView (Stamped Call) MarketOrigin)
+  pub here : (start : PlainMarketAccounts)
+      → (slice_index_or bank.script.start.markets place start).address ≡ row.market
+  pub from : (start : PlainMarketAccounts) (gate : MarketGate)
       → (slice_index_or bank.markets place gate).origin.start ≡ slice_index_or bank.script.start.markets place start
-  pub enters : (gate : GateView (Stamped Call) MarketOrigin) (pass : PassView (Stamped Call) MarketOrigin)
+  pub enters : (gate : MarketGate) (pass : MarketPass)
       → MayEnter bank.script row (slice_index_or bank.markets place gate) (slice_index_or passes place pass)
 
 -- the pass at a place is of this gate, and holds no ticket
@@ -120,57 +122,61 @@ pub record IsHomeAt {E O : Type 0} (gate : GateView E O) (place : ℕ) (passes :
   pub home : (pass : PassView E O) → (slice_index_or passes place pass).gate ≡ Some gate
   pub idle : (pass : PassView E O) → (slice_index_or passes place pass).stage ≡ Idle
 
+-- what stays behind of the turn of a market, and of a wallet, as it is seen
+abbrev pub MarketAway : Type 0
+MarketAway = AwayView (Stamped Call) MarketOrigin
+
+abbrev pub WalletAway : Type 0
+WalletAway = AwayView (Stamped WalletEntry) WalletOrigin
+
 -- what stays behind of the turn of the pass at a place
-abbrev pub IsAwayFor : GateView (Stamped Call) MarketOrigin → ℕ → List (PassView (Stamped Call) MarketOrigin) → BankMarketState
-    → AwayView (Stamped Call) MarketOrigin → Type 0
-IsAwayFor gate place passes market away =
-    (pass : PassView (Stamped Call) MarketOrigin)
-    → away ≡ record { gate = Some gate; number = (slice_index_or passes place pass).number; start = market_calls market }
+abbrev pub IsAwayFor : MarketGate → ℕ → List MarketPass → BankMarketState → MarketAway → Type 0
+IsAwayFor gate place passes market away = (pass : MarketPass) → away ≡ record {
+  gate = Some gate;
+  number = (slice_index_or passes place pass).number;
+  start = market_calls market;
+}
 
 -- the market may be given back with a call more, at the turn of the pass at a place
-pub record MayLeaveAt (gate : GateView (Stamped Call) MarketOrigin) (place : ℕ) (passes : List (PassView (Stamped Call) MarketOrigin))
-    (away : AwayView (Stamped Call) MarketOrigin) (market : BankMarketState) : Type 0 where
+pub record MayLeaveAt (gate : MarketGate) (place : ℕ) (passes : List MarketPass)
+    (away : MarketAway) (market : BankMarketState) : Type 0 where
   pub within : place < length passes
   pub away_home : away.gate ≡ Some gate
-  pub home : (pass : PassView (Stamped Call) MarketOrigin) → (slice_index_or passes place pass).gate ≡ Some gate
-  pub number : (pass : PassView (Stamped Call) MarketOrigin) → away.number ≡ (slice_index_or passes place pass).number
-  pub out : (pass : PassView (Stamped Call) MarketOrigin) → (slice_index_or passes place pass).stage ≡ Out away.start
+  pub home : (pass : MarketPass) → (slice_index_or passes place pass).gate ≡ Some gate
+  pub number : (pass : MarketPass) → away.number ≡ (slice_index_or passes place pass).number
+  pub out : (pass : MarketPass) → (slice_index_or passes place pass).stage ≡ Out away.start
   pub origin : market_origin market ≡ gate.origin
   pub adds : AddsOne (λ (call : Stamped Call). call.item.asked.lane) away.number away.start (market_calls market)
 
 -- a pass whose turn was left with these calls, where there were those before
-abbrev pub left_with : PassView (Stamped Call) MarketOrigin → List (Stamped Call) → List (Stamped Call)
-    → PassView (Stamped Call) MarketOrigin
+abbrev pub left_with : MarketPass → List (Stamped Call) → List (Stamped Call) → MarketPass
 left_with pass before after = record pass { seen = after; mine = pass.mine ++ added before after; stage = Idle }
 
 -- the pass at a place had seen a part of these
-abbrev pub HasSeenAt : ℕ → List (PassView (Stamped Call) MarketOrigin) → List (Stamped Call) → Type 0
-HasSeenAt place passes calls =
-    (pass : PassView (Stamped Call) MarketOrigin) → Extends (slice_index_or passes place pass).seen calls
+abbrev pub HasSeenAt : ℕ → List MarketPass → List (Stamped Call) → Type 0
+HasSeenAt place passes calls = (pass : MarketPass) → Extends (slice_index_or passes place pass).seen calls
 
 -- the turn of the market at a place is out, and the other passes are as they were
-pub record IsOutAt (gate : GateView (Stamped Call) MarketOrigin) (place : ℕ)
-    (before after : List (PassView (Stamped Call) MarketOrigin)) (market : BankMarketState) : Type 0 where
-  pub out : PassView (Stamped Call) MarketOrigin
+pub record IsOutAt (gate : MarketGate) (place : ℕ) (before after : List MarketPass) (market : BankMarketState)
+    : Type 0 where
+  pub out : MarketPass
   pub is : after ≡ slice_set before place out
-  pub taken : (pass : PassView (Stamped Call) MarketOrigin) → IsMarketOut gate (slice_index_or before place pass) out market
+  pub taken : (pass : MarketPass) → IsMarketOut gate (slice_index_or before place pass) out market
 
 -- the turns of the markets at two places are out, and the other passes are as they were
-pub record AreOutAt (one two : GateView (Stamped Call) MarketOrigin) (place next : ℕ)
-    (before after : List (PassView (Stamped Call) MarketOrigin)) (first second : BankMarketState) : Type 0 where
-  pub out : PassView (Stamped Call) MarketOrigin
-  pub out_next : PassView (Stamped Call) MarketOrigin
+pub record AreOutAt (one two : MarketGate) (place next : ℕ)
+    (before after : List MarketPass) (first second : BankMarketState) : Type 0 where
+  pub out : MarketPass
+  pub out_next : MarketPass
   pub are : after ≡ slice_set (slice_set before place out) next out_next
-  pub taken : (pass : PassView (Stamped Call) MarketOrigin) → IsMarketOut one (slice_index_or before place pass) out first
-  pub taken_next : (pass : PassView (Stamped Call) MarketOrigin)
-      → IsMarketOut two (slice_index_or before next pass) out_next second
+  pub taken : (pass : MarketPass) → IsMarketOut one (slice_index_or before place pass) out first
+  pub taken_next : (pass : MarketPass) → IsMarketOut two (slice_index_or before next pass) out_next second
 
 -- ---- its wallets
 
--- the rows of an item may name these wallets: each is one of the script's, and they rise
-pub record MayName (script : PlainScript) (named : List Address) : Type 0 where
-  pub known : All (λ (address : Address). has_account address script.start.wallets ≡ true) named
-  pub rising : AreRising named
+-- where the wallet of an address stands among those with which a script starts
+abbrev pub place_of : PlainScript → Address → Option ℕ
+place_of script address = wallet_place address script.start.wallets
 
 -- the markets of two legs, by rising address
 abbrev pub leg_markets : PlainRow → PlainRow → List Address
@@ -178,22 +184,21 @@ leg_markets first second = with_address first.market (with_address second.market
 
 -- the wallets that two legs name as coin and as pc, by rising address, each once. They name no others
 abbrev pub leg_wallets : PlainRow → PlainRow → List Address
-leg_wallets first second = with_role first.coin (with_role first.pc (with_role second.coin (with_role second.pc [])))
+leg_wallets first second = wallets_of_roles first.coin first.pc second.coin second.pc
 
--- the markets and wallets of two legs stand at these places
-pub record AreLegsPlaced (script : PlainScript) (first second : PlainRow) (first_places second_places : RowPlaces) : Type 0 where
+-- the wallets of two legs stand there, those of the second as if they were discount and referrer of the first
+pub record AreLegsAt (script : PlainScript) (first second : PlainRow) (at : RowWallets) : Type 0 where
   pub legs : AreLegs first second
-  pub first_is : IsPlaced script.start first first_places
-  pub second_is : IsPlaced script.start second second_places
+  pub wallets : AreWalletsAt (place_of script) first.coin first.pc second.coin second.pc at
 
--- of each script of which this is known the wallet of an address stands at this place
-abbrev pub StandsWhere : (PlainScript → Type 0) → Address → ℕ → Type 0
-StandsWhere Known address place = (script : PlainScript) → Known script → wallet_place address script.start.wallets ≡ Some place
-
--- the first of those that are still to come
-abbrev pub first_in : List (Option Address) → Option Address
+-- the first of some places, and none where 65535 is the first, at which no wallet stands
+abbrev pub first_in : List ℕ → Option ℕ
 first_in [] = None
-first_in (first ∷ others) = first
+first_in (place ∷ places) = if place == 65535 then None else Some place
+
+-- of the wallets of an item those that are still to come, when the cells of the others are in hand
+abbrev pub left_of : List Address → List CellState → List Address
+left_of named cells = drop (length cells) named
 
 -- a wallet of the start is this one
 pub record IsOfStart (wallets : List PlainAccount) (cell : CellState) : Type 0 where
@@ -226,8 +231,8 @@ pub record HasEntry (written : Written) (before after : CellState) : Type 0 wher
 
 -- a pass is of the lane, and where its wallet is still to come it holds no ticket, and its lane has made fewer entries
 -- there than it has rows that name the wallet; where it holds a turn its wallet is below all that are still to come
-pub record MayDraw (script : PlainScript) (lane : ℕ) (others : List Address) (start : PlainAccount)
-    (pass : PassView (Stamped WalletEntry) WalletOrigin) : Type 0 where
+pub record MayDraw (script : PlainScript) (lane : ℕ) (others : List Address) (start : PlainAccount) (pass : WalletPass)
+    : Type 0 where
   pub number : pass.number ≡ lane
   pub idle : list_any (is_same start.address) others ≡ true → pass.stage ≡ Idle
   pub left : list_any (is_same start.address) others ≡ true
@@ -235,28 +240,23 @@ pub record MayDraw (script : PlainScript) (lane : ℕ) (others : List Address) (
   pub below : HoldsTurn pass → All (λ (other : Address). is_lower start.address other ≡ true) others
 
 -- the passes are those of this bank's gates, and may draw
-pub record AreReady (bank : BankState) (lane : ℕ) (others : List Address)
-    (passes : List (PassView (Stamped WalletEntry) WalletOrigin)) : Type 0 where
-  pub gates : AllZip (λ (gate : GateView (Stamped WalletEntry) WalletOrigin)
-      (pass : PassView (Stamped WalletEntry) WalletOrigin). pass.gate ≡ Some gate) bank.wallets passes
+pub record AreReady (bank : BankState) (lane : ℕ) (others : List Address) (passes : List WalletPass) : Type 0 where
+  pub gates : AllZip (λ (gate : WalletGate) (pass : WalletPass). pass.gate ≡ Some gate) bank.wallets passes
   pub each : AllZip (MayDraw bank.script lane others) bank.script.start.wallets passes
 
 -- the pass of a wallet has grown by what the item writes where it was still to come, and else is as it was
-abbrev pub OneGrows : List Address → Written → PlainAccount → PassView (Stamped WalletEntry) WalletOrigin
-    → PassView (Stamped WalletEntry) WalletOrigin → Type 0
+abbrev pub OneGrows : List Address → Written → PlainAccount → WalletPass → WalletPass → Type 0
 OneGrows others written start before after =
     Where (list_any (is_same start.address) others) (HasWritten written start before after) (after ≡ before)
 
 -- the passes of the wallets that were still to come have grown by what the item writes, and the others are as they were
-abbrev pub HaveGrown : BankState → List Address → Written → List (PassView (Stamped WalletEntry) WalletOrigin)
-    → List (PassView (Stamped WalletEntry) WalletOrigin) → Type 0
+abbrev pub HaveGrown : BankState → List Address → Written → List WalletPass → List WalletPass → Type 0
 HaveGrown bank others written before after = AllThree (OneGrows others written) bank.script.start.wallets before after
 
 -- ---- the turn of one wallet
 
 -- the wallet's turn is out: its cell is in hand, and its trail is that of the gate's value
-pub record IsOut (gate : GateView (Stamped WalletEntry) WalletOrigin)
-    (before after : PassView (Stamped WalletEntry) WalletOrigin) (trail : TrailState) : Type 0 where
+pub record IsOut (gate : WalletGate) (before after : WalletPass) (trail : TrailState) : Type 0 where
   pub pass : after ≡ record before { stage = Out (wallet_entries (left_by trail)) }
   pub origin : wallet_origin (left_by trail) ≡ gate.origin
   pub seen : Extends before.seen (wallet_entries (left_by trail))
@@ -265,22 +265,23 @@ pub record IsOut (gate : GateView (Stamped WalletEntry) WalletOrigin)
   pub kept : IsBankWallet (left_by trail)
 
 -- the turn of the wallet at a place is out, and the other passes are as they were
-pub record IsWalletOutAt (gate : GateView (Stamped WalletEntry) WalletOrigin) (place : ℕ)
-    (before after : List (PassView (Stamped WalletEntry) WalletOrigin)) (trail : TrailState) : Type 0 where
-  pub out : PassView (Stamped WalletEntry) WalletOrigin
+pub record IsWalletOutAt (gate : WalletGate) (place : ℕ) (before after : List WalletPass) (trail : TrailState)
+    : Type 0 where
+  pub out : WalletPass
   pub is : after ≡ slice_set before place out
-  pub taken : (pass : PassView (Stamped WalletEntry) WalletOrigin) → IsOut gate (slice_index_or before place pass) out trail
+  pub taken : (pass : WalletPass) → IsOut gate (slice_index_or before place pass) out trail
 
 -- what stays behind of it
-abbrev pub IsWalletAwayFor : GateView (Stamped WalletEntry) WalletOrigin → ℕ → List (PassView (Stamped WalletEntry) WalletOrigin)
-    → TrailState → AwayView (Stamped WalletEntry) WalletOrigin → Type 0
-IsWalletAwayFor gate place passes trail away =
-    (pass : PassView (Stamped WalletEntry) WalletOrigin)
-    → away ≡ record { gate = Some gate; number = (slice_index_or passes place pass).number; start = wallet_entries (left_by trail) }
+abbrev pub IsWalletAwayFor : WalletGate → ℕ → List WalletPass → TrailState → WalletAway → Type 0
+IsWalletAwayFor gate place passes trail away = (pass : WalletPass) → away ≡ record {
+  gate = Some gate;
+  number = (slice_index_or passes place pass).number;
+  start = wallet_entries (left_by trail);
+}
 
 -- the item's entry may be given back with the cell
-pub record MayLeave (written : Written) (gate : GateView (Stamped WalletEntry) WalletOrigin)
-    (pass : PassView (Stamped WalletEntry) WalletOrigin) (trail : TrailState) (cell : CellState) : Type 0 where
+pub record MayLeave (written : Written) (gate : WalletGate) (pass : WalletPass) (trail : TrailState) (cell : CellState)
+    : Type 0 where
   pub home : pass.gate ≡ Some gate
   pub out : pass.stage ≡ Out (wallet_entries (left_by trail))
   pub origin : wallet_origin (left_by trail) ≡ gate.origin
@@ -291,8 +292,7 @@ pub record MayLeave (written : Written) (gate : GateView (Stamped WalletEntry) W
   pub stamp : trail.last < written.stamp
 
 -- the turn was left: the pass has seen the entry after the others, and has made it
-pub record HasLeft (written : Written) (trail : TrailState)
-    (before after : PassView (Stamped WalletEntry) WalletOrigin) : Type 0 where
+pub record HasLeft (written : Written) (trail : TrailState) (before after : WalletPass) : Type 0 where
   pub pass : after ≡ record before {
     seen = wallet_entries (left_by trail) ++ written.at trail.before.address;
     mine = before.mine ++ written.at trail.before.address;

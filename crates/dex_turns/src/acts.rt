@@ -1,16 +1,14 @@
 //! What is done under the turns of its markets and wallets: a row alone, or the two legs of a swap.
 
-ghost use Rattle.std.specs.Prelude.{◌≡◌, ◌≤◌, ℕ, List, [], true, vec_capacity};
-ghost use Rattle.std.specs.List.{AllZip, list_any};
-ghost use Rattle.dex_types.specs.declared.addresses.Address.{Address as AddressOf};
-ghost use Rattle.dex_types.specs.Addresses.{is_same};
+ghost use Rattle.std.specs.Prelude.{◌≡◌, ◌≤◌, ℕ, List, [], vec_capacity};
+ghost use Rattle.std.specs.List.{AllZip};
+ghost use Rattle.dex_types.specs.declared.addresses.Address.{Address};
 ghost use Rattle.dex_script_types.specs.PlainScript.{PlainScript};
 ghost use Rattle.dex_turns.specs.Submitted.{Written};
-ghost use Rattle.dex_turns.specs.Turns.{AreInHand, HasEntry, IsWritten, StandsWhere};
+ghost use Rattle.dex_turns.specs.Turns.{AreInHand, HasEntry, IsWritten};
 
 use crate::bank::Bank;
 use dex_stamps::Stamp;
-use dex_types::Address;
 use dex_wallet::WalletCell;
 
 /// What acts when it has the turns of its markets, whose values it is handed, and of all wallets that its rows name.
@@ -24,7 +22,7 @@ pub(crate) trait Acts {
     ghost lane: { Self → ℕ };
 
     /// The wallets that they name, in the order in which their turns are taken.
-    ghost named: { Self → List AddressOf };
+    ghost named: { Self → List Address };
 
     /// What is known of where its wallets stand among those of a script.
     ghost placed: { Self → PlainScript → Type 0 };
@@ -41,14 +39,8 @@ pub(crate) trait Acts {
     /// What it did to the markets.
     ghost did: { Self → PlainScript → Self.Made → Self.Markets → Self.Markets → Type 0 };
 
-    /// The place of a wallet that its rows name.
-    fn place(&self, address: Address) -> usize
-        requires known { (script : PlainScript) × placed self.now script }
-        requires named { list_any (is_same address) (named self.now) ≡ true }
-        ensures { StandsWhere (placed self.now) address result };
-
-    /// Acts, with the cells of all wallets in hand. Its stamp is above this one, which no stamp of a market or wallet
-    /// is above.
+    /// Acts, with the cells of all wallets in hand, in their order. Its stamp is above this one, which no stamp of a
+    /// market or wallet is above.
     fn act(
         &self,
         bank: &Bank,
@@ -56,6 +48,7 @@ pub(crate) trait Acts {
         hands: &mut Vec<WalletCell>,
         stamp: &Stamp,
     ) -> Self::Made
+        requires placed { placed self.now bank.now.script }
         requires ready { ready self.now markets.old }
         requires below { last self.now markets.old ≤ stamp.now.number }
         requires hands { AreInHand bank.now.script (named self.now) [] hands.old.items }

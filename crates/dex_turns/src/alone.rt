@@ -9,12 +9,11 @@ ghost use Rattle.dex_turns.specs.Turns.{HasRowActed, MayCall};
 use crate::acts::Acts;
 use crate::bank::Bank;
 use crate::stamped_record::StampedRecord;
-use dex_act::{RowAt, places_in};
+use dex_act::{RowAt, WalletPlaces};
 use dex_io::Pace;
 use dex_journals::BankMarket;
-use dex_script_types::place_in;
 use dex_stamps::Stamp;
-use dex_types::{Address, Row};
+use dex_types::Row;
 use dex_wallet::WalletCell;
 use dex_world::RowPlaces;
 
@@ -46,14 +45,6 @@ impl<'a, P: Pace> Acts for RowAlone<'a, P> {
     ghost did = { λ it script made before after.
         HasRowActed script (call_made (it.row.now, made)) before after };
 
-    fn place(&self, address: Address) -> usize {
-        match place_in(self.row, self.places, address) {
-            Some(place) => place,
-            // Only wallets that the row names are asked for.
-            None => unreachable!(),
-        }
-    }
-
     fn act(
         &self,
         bank: &Bank,
@@ -64,7 +55,7 @@ impl<'a, P: Pace> Acts for RowAlone<'a, P> {
         self.pace.inside(self.row.lane, self.row.number);
         let asking = RowAt {
             row: self.row,
-            places: places_in(hands, self.row),
+            places: WalletPlaces::in_hand(&self.places.wallets),
         };
         let stamp = stamp.next();
         let done = market.step(hands, bank.terms(), &asking, &stamp);

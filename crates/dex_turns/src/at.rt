@@ -4,33 +4,30 @@ ghost use Rattle.std.specs.Prelude.{◌≡◌, ◌≤◌, ◌<◌, ◌+◌, [], 
 ghost use Rattle.std.specs.List.{AllZip};
 ghost use Rattle.dex_types.specs.Rows.{row_of};
 ghost use Rattle.dex_types.specs.Wallets.{row_wallets};
-ghost use Rattle.dex_script_types.specs.Facts.{AreLegs};
 ghost use Rattle.dex_script_types.specs.Places.{IsPlaced};
-ghost use Rattle.dex_locks.specs.Places.{front};
 ghost use Rattle.dex_history.specs.Journal.{is_held};
 ghost use Rattle.dex_world.specs.Lists.{AllThree};
+ghost use Rattle.dex_world.specs.Places.{ArePlacesOf};
 ghost use Rattle.dex_turns.specs.Bank.{IsBank};
 ghost use Rattle.dex_turns.specs.Inside.{call_made, written_of};
 ghost use Rattle.dex_turns.specs.Legs.{legs_written, one_made, two_made};
-ghost use Rattle.dex_turns.specs.Submitted.{HasCalled, LegMarketGrows};
-ghost use Rattle.dex_turns.specs.Turns.{AreIdle, AreInHand, AreLegsPlaced, AreReady, HasEntry, HaveGrown};
-ghost use Rattle.dex_turns.specs.Turns.{HaveLegsTold, IsTold, IsWritten, MayEnter, MayEnterAt, MayName, leg_wallets};
+ghost use Rattle.dex_turns.specs.Submitted.{LegMarketGrows, MarketGrows};
+ghost use Rattle.dex_turns.specs.Turns.{AreIdle, AreInHand, AreLegsAt, AreReady, AreRising, HasEntry, HaveGrown};
+ghost use Rattle.dex_turns.specs.Turns.{HaveLegsTold, IsTold, IsWritten, MayEnterAt, left_of, leg_wallets, place_of};
 
 use crate::acts::Acts;
 use crate::alone::RowAlone;
 use crate::bank::Bank;
 use crate::legs::{SwapLegs, TwoMarkets, TwoRecords};
-use crate::pair::plan_pair;
 use crate::seat::WalletPasses;
 use crate::stamped_record::StampedRecord;
-use crate::turns::{first_of, leave_wallet, take_from_hand, take_market, take_wallet_at};
+use crate::turns::{first_of, leave_wallet, take_at, take_from_hand, take_wallet_at};
 use crate::two_turns::{Entrance, TwoTurns, leave_at, take_two};
-use dex_gate::{Gate, Pass};
+use dex_gate::Pass;
 use dex_io::Pace;
 use dex_journals::BankMarket;
-use dex_locks::plan_locks;
+use dex_locks::is_lower;
 use dex_stamps::Stamp;
-use dex_types::{Address, is_same};
 use std::sync::Wait;
 
 /// A bank, and by what a lane waits there for turns.
@@ -45,16 +42,17 @@ impl<'a, R: Wait> At<'a, R> {
     pub(crate) fn in_market<P: Pace>(
         &self,
         item: &RowAlone<'_, P>,
-        gate: &Gate<BankMarket>,
-        pass: &mut Pass<BankMarket>,
+        markets: &mut Vec<Pass<BankMarket>>,
         wallets: &mut WalletPasses,
         last: &Stamp,
     ) -> StampedRecord
         // The row, its places and its passes are of this bank, and nothing is in hand.
         requires bank { IsBank self.now.bank.now }
         requires places { IsPlaced self.now.bank.now.script.start (row_of item.now.row.now) item.now.places.now }
-        requires market { MayEnter self.now.bank.now.script (row_of item.now.row.now) gate.now pass.old }
-        requires named { MayName self.now.bank.now.script (row_wallets (row_of item.now.row.now)) }
+        requires market { MayEnterAt self.now.bank.now (row_of item.now.row.now) markets.old.items
+            item.now.places.now.market }
+        requires markets { length markets.old.items ≡ length self.now.bank.now.script.start.markets }
+        requires idle { AreIdle markets.old.items }
         requires passes { AreReady self.now.bank.now item.now.row.now.lane (row_wallets (row_of item.now.row.now))
             wallets.old.passes.items }
         requires hands { wallets.old.hands.items ≡ [] }
@@ -66,16 +64,18 @@ impl<'a, R: Wait> At<'a, R> {
         ensures later { last.now.number < result.stamp.number }
 
         // Its market and its wallets have one entry more, and nothing is in hand again.
-        ensures market { HasCalled (call_made (item.now.row.now, result)) gate.now.origin.start pass.old pass.new }
+        ensures markets { AllThree (MarketGrows (row_of item.now.row.now) (call_made (item.now.row.now, result)))
+            self.now.bank.now.script.start.markets markets.old.items markets.new.items }
         ensures passes { HaveGrown self.now.bank.now (row_wallets (row_of item.now.row.now))
             (written_of (item.now.row.now, result)) wallets.old.passes.items wallets.new.passes.items }
         ensures hands { wallets.new.hands.items ≡ [] }
         ensures room { vec_capacity wallets.old.hands ≤ vec_capacity wallets.new.hands }
     {
-        let plan = plan_locks(item.row);
-        let (mut market, away, stamp) = take_market(self.rt, gate, pass, last);
-        let made = self.with_wallets(&plan.wallets, item, &mut market, wallets, &stamp);
-        gate.leave(pass, away.put(market));
+        let at = Entrance::at(self.bank, item.places.market);
+        let (mut market, away, stamp) = take_at(self.rt, at.gate, markets, at.place, last);
+        let others = &item.places.wallets.places;
+        let made = self.with_wallets(others, item, &mut market, wallets, &stamp);
+        leave_at(at.gate, markets, at.place, away, market);
         made
     }
 
@@ -88,18 +88,15 @@ impl<'a, R: Wait> At<'a, R> {
         last: &Stamp,
     ) -> TwoRecords
         // The legs, their places and their passes are of this bank, and nothing is in hand.
-        requires placed { AreLegsPlaced self.now.bank.now.script (row_of legs.now.first.now)
-            (row_of legs.now.second.now) legs.now.first_places.now legs.now.second_places.now }
+        requires placed { AreLegsAt self.now.bank.now.script (row_of legs.now.first.now)
+            (row_of legs.now.second.now) legs.now.wallets }
         requires bank { IsBank self.now.bank.now }
-        requires legs { AreLegs (row_of legs.now.first.now) (row_of legs.now.second.now) }
         requires first { MayEnterAt self.now.bank.now (row_of legs.now.first.now) markets.old.items
-            legs.now.first_places.now.market }
+            legs.now.first_market }
         requires second { MayEnterAt self.now.bank.now (row_of legs.now.second.now) markets.old.items
-            legs.now.second_places.now.market }
+            legs.now.second_market }
         requires markets { length markets.old.items ≡ length self.now.bank.now.script.start.markets }
         requires idle { AreIdle markets.old.items }
-        requires named { MayName self.now.bank.now.script
-            (leg_wallets (row_of legs.now.first.now) (row_of legs.now.second.now)) }
         requires passes { AreReady self.now.bank.now legs.now.first.now.lane
             (leg_wallets (row_of legs.now.first.now) (row_of legs.now.second.now)) wallets.old.passes.items }
         requires hands { wallets.old.hands.items ≡ [] }
@@ -120,11 +117,9 @@ impl<'a, R: Wait> At<'a, R> {
         ensures hands { wallets.new.hands.items ≡ [] }
         ensures room { vec_capacity wallets.old.hands ≤ vec_capacity wallets.new.hands }
     {
-        let plan = plan_pair(legs.first, legs.second);
-        let [lower, _] = plan.markets;
-        let in_order = is_same(lower, legs.first.market);
-        let one = Entrance::at(self.bank, legs.first_places);
-        let two = Entrance::at(self.bank, legs.second_places);
+        let in_order = is_lower(legs.first.market, legs.second.market);
+        let one = Entrance::at(self.bank, legs.first_market);
+        let two = Entrance::at(self.bank, legs.second_market);
         let turns = take_two(self.rt, one, two, markets, in_order, last);
         let TwoTurns {
             markets: mut taken,
@@ -132,7 +127,7 @@ impl<'a, R: Wait> At<'a, R> {
             second: away_next,
             stamp,
         } = turns;
-        let made = self.with_wallets(&plan.wallets, legs, &mut taken, wallets, &stamp);
+        let made = self.with_wallets(&legs.wallets.places, legs, &mut taken, wallets, &stamp);
         let TwoMarkets {
             first: market,
             second: market_next,
@@ -142,24 +137,27 @@ impl<'a, R: Wait> At<'a, R> {
         made
     }
 
-    // The item takes the turns of its wallets, one after the other, acts, and leaves them.
+    // The item takes the turns of its wallets that are still to come, one after the other, acts, and leaves them.
     fn with_wallets<A: Acts>(
         &self,
-        others: &[Option<Address>],
+        others: &[u16],
         item: &A,
         markets: &mut A::Markets,
         wallets: &mut WalletPasses,
         stamp: &Stamp,
     ) -> A::Made
-        // The item and its passes are of this bank, and the wallets before are in hand.
+        // The item and its passes are of this bank, the first of its wallets are in hand, and the others stand there.
         requires bank { IsBank self.now.bank.now }
         requires placed { A.placed item.now self.now.bank.now.script }
-        requires named { MayName self.now.bank.now.script (A.named item.now) }
+        requires rising { AreRising (A.named item.now) }
         requires ready { A.ready item.now markets.old }
         requires below { A.last item.now markets.old ≤ stamp.now.number }
-        requires hands { AreInHand self.now.bank.now.script (A.named item.now) (front others.now)
-            wallets.old.hands.items }
-        requires passes { AreReady self.now.bank.now (A.lane item.now) (front others.now) wallets.old.passes.items }
+        requires hands { AreInHand self.now.bank.now.script (A.named item.now)
+            (left_of (A.named item.now) wallets.old.hands.items) wallets.old.hands.items }
+        requires others { ArePlacesOf (place_of self.now.bank.now.script)
+            (left_of (A.named item.now) wallets.old.hands.items) others.now }
+        requires passes { AreReady self.now.bank.now (A.lane item.now)
+            (left_of (A.named item.now) wallets.old.hands.items) wallets.old.passes.items }
         requires room { length wallets.old.hands.items + length others.now ≤ vec_capacity wallets.old.hands }
 
         // The item acts, later than all before it.
@@ -167,14 +165,13 @@ impl<'a, R: Wait> At<'a, R> {
         ensures written { IsWritten (A.lane item.now) stamp.now.number (A.written item.now result) }
 
         // Each wallet has one entry more, those in hand too.
-        ensures passes { HaveGrown self.now.bank.now (front others.now) (A.written item.now result)
-            wallets.old.passes.items wallets.new.passes.items }
+        ensures passes { HaveGrown self.now.bank.now (left_of (A.named item.now) wallets.old.hands.items)
+            (A.written item.now result) wallets.old.passes.items wallets.new.passes.items }
         ensures hands { AllZip (HasEntry (A.written item.now result)) wallets.old.hands.items wallets.new.hands.items }
         ensures room { vec_capacity wallets.old.hands ≤ vec_capacity wallets.new.hands }
     {
         match first_of(others) {
-            Some(address) => {
-                let place = item.place(address);
+            Some(place) => {
                 let gate = self.bank.wallet_gate(place);
                 let (cell, trail, away) = take_wallet_at(self.rt, gate, &mut wallets.passes, place);
                 let later = trail.later(stamp);

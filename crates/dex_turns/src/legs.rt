@@ -1,21 +1,20 @@
 //! The two legs of a swap, under the turns of all that they act on.
 
-ghost use Rattle.std.specs.Prelude.{◌≡◌, max};
+ghost use Rattle.std.specs.Prelude.{max};
 ghost use Rattle.dex_types.specs.Rows.{row_of};
 ghost use Rattle.dex_turns.specs.Legs.{legs_written, one_made, two_made};
-ghost use Rattle.dex_turns.specs.Turns.{AreLegsPlaced, HaveLegsActed, MayCallBoth, leg_wallets};
+ghost use Rattle.dex_turns.specs.Turns.{AreLegsAt, HaveLegsActed, MayCallBoth, leg_wallets};
 
 use crate::acts::Acts;
 use crate::bank::Bank;
 use crate::stamped_record::StampedRecord;
-use dex_act::{Legs, RowAt, places_in};
+use dex_act::{Legs, RowAt, WalletPlaces};
 use dex_io::Pace;
 use dex_journals::BankMarket;
-use dex_script_types::place_in;
 use dex_stamps::Stamp;
-use dex_types::{Address, Row};
+use dex_types::Row;
 use dex_wallet::WalletCell;
-use dex_world::RowPlaces;
+use dex_world::RowWallets;
 
 /// The markets of the legs.
 pub(crate) struct TwoMarkets {
@@ -30,37 +29,16 @@ pub(crate) struct TwoRecords {
     pub(crate) second: StampedRecord,
 }
 
-/// The two legs of a swap.
+/// The two legs of a swap, where their markets stand, and where their wallets do, together, those of the second as if
+/// they were discount and referrer of the first.
 #[derive(Drop)]
 pub(crate) struct SwapLegs<'a, P> {
     pub(crate) first: &'a Row,
     pub(crate) second: &'a Row,
-    pub(crate) first_places: &'a RowPlaces,
-    pub(crate) second_places: &'a RowPlaces,
+    pub(crate) first_market: u16,
+    pub(crate) second_market: u16,
+    pub(crate) wallets: RowWallets,
     pub(crate) pace: &'a P,
-}
-
-impl<'a, P: Pace> SwapLegs<'a, P> {
-    /// Two legs, and the places of their markets and wallets.
-    pub(crate) fn of(
-        first: &'a Row,
-        second: &'a Row,
-        first_places: &'a RowPlaces,
-        second_places: &'a RowPlaces,
-        pace: &'a P,
-    ) -> SwapLegs<'a, P>
-        ensures rows { (result.first.now ≡ first.entry.now) × (result.second.now ≡ second.entry.now) }
-        ensures first { result.first_places.now ≡ first_places.now }
-        ensures second { result.second_places.now ≡ second_places.now }
-    {
-        SwapLegs {
-            first,
-            second,
-            first_places,
-            second_places,
-            pace,
-        }
-    }
 }
 
 impl<'a, P: Pace> Acts for SwapLegs<'a, P> {
@@ -72,8 +50,7 @@ impl<'a, P: Pace> Acts for SwapLegs<'a, P> {
 
     ghost named = { λ it. leg_wallets (row_of it.first.now) (row_of it.second.now) };
 
-    ghost placed = { λ it script. AreLegsPlaced script (row_of it.first.now) (row_of it.second.now)
-        it.first_places.now it.second_places.now };
+    ghost placed = { λ it script. AreLegsAt script (row_of it.first.now) (row_of it.second.now) it.wallets };
 
     ghost ready = { λ it markets. MayCallBoth (row_of it.first.now) (row_of it.second.now) markets };
 
@@ -84,17 +61,6 @@ impl<'a, P: Pace> Acts for SwapLegs<'a, P> {
     ghost did = { λ it script made before after.
         HaveLegsActed script (one_made it.first.now made) (two_made it.second.now made) before after };
 
-    fn place(&self, address: Address) -> usize {
-        match place_in(self.first, self.first_places, address) {
-            Some(place) => place,
-            None => match place_in(self.second, self.second_places, address) {
-                Some(place) => place,
-                // Only wallets that a leg names are asked for.
-                None => unreachable!(),
-            },
-        }
-    }
-
     fn act(
         &self,
         bank: &Bank,
@@ -103,14 +69,19 @@ impl<'a, P: Pace> Acts for SwapLegs<'a, P> {
         stamp: &Stamp,
     ) -> TwoRecords {
         self.pace.inside(self.first.lane, self.first.number);
+        let at = WalletPlaces::in_hand(&self.wallets);
         let legs = Legs {
             first: RowAt {
                 row: self.first,
-                places: places_in(hands, self.first),
+                places: at,
             },
             second: RowAt {
                 row: self.second,
-                places: places_in(hands, self.second),
+                places: WalletPlaces {
+                    coin: at.discount,
+                    pc: at.referrer,
+                    ..at
+                },
             },
         };
         let one_stamp = stamp.next();

@@ -6,6 +6,7 @@ mod acts;
 mod alone;
 mod at;
 mod bank;
+mod both;
 mod legs;
 mod outline;
 mod pair;

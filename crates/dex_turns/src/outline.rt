@@ -1,18 +1,22 @@
 //! What a bank keeps of its script.
 
 ghost use Rattle.std.specs.Prelude.{◌≡◌, ◌<◌, ◌≤◌, IfOk, IfSome, Some, length, true};
-ghost use Rattle.std.specs.List.{list_any, position};
+ghost use Rattle.std.specs.List.{position};
 ghost use Rattle.dex_types.specs.Addresses.{is_same};
 ghost use Rattle.dex_types.specs.Rows.{row_of};
 ghost use Rattle.dex_script_types.specs.Facts.{IsRowOf};
-ghost use Rattle.dex_script_types.specs.Known.{has_market, is_known_role};
-ghost use Rattle.dex_script_types.specs.Places.{IsPlaced, IsRolePlaced, market_place};
+ghost use Rattle.dex_script_types.specs.Known.{has_market};
+ghost use Rattle.dex_script_types.specs.Places.{IsPlaced, market_place};
+ghost use Rattle.dex_world.specs.Places.{AreWalletsAt};
+ghost use Rattle.dex_turns.specs.Turns.{place_of};
 
 use dex_act::{AsRow, Terms};
-use dex_script_types::{Script, addresses_of_markets, addresses_of_wallets};
+use dex_script_types::{
+    FindsWallets, Script, addresses_of_markets, addresses_of_wallets, wallets_at,
+};
 use dex_stamps::Kept;
 use dex_types::{Address, NoMemory, Row, is_same};
-use dex_world::RowPlaces;
+use dex_world::{RowPlaces, RowWallets};
 use std::alloc::Global;
 use std::marker::Model;
 
@@ -96,10 +100,7 @@ impl Outline {
             number: row.number,
             lane: row.lane,
             market: self.market_of(row.market),
-            coin: self.wallet_of(row.coin),
-            pc: self.wallet_of(row.pc),
-            discount: self.wallet_of(row.discount),
-            referrer: self.wallet_of(row.referrer),
+            wallets: self.wallets_of(row),
         }
     }
 
@@ -108,31 +109,43 @@ impl Outline {
         requires { has_market address self.now.start.markets ≡ true }
         ensures { market_place address self.now.start.markets ≡ Some result }
     {
-        place_among(&self.markets, address)
+        match place_among(&self.markets, address) {
+            Some(place) => place,
+            // By the condition it is among them.
+            None => unreachable!(),
+        }
     }
 
-    // The place of the wallet of a role, if it names one.
-    fn wallet_of(&self, role: Option<Address>) -> u16
-        requires { is_known_role self.now.start.wallets role ≡ true }
-        ensures { IsRolePlaced self.now.start.wallets role result }
+    // The places of the wallets of a row.
+    fn wallets_of(&self, row: &Row) -> RowWallets
+        requires { IsRowOf self.now.start (row_of row.now) }
+        ensures { AreWalletsAt (place_of self.now) (row_of row.entry.now).coin (row_of row.entry.now).pc
+            (row_of row.entry.now).discount (row_of row.entry.now).referrer result }
     {
-        match role {
-            Some(address) => place_among(&self.wallets, address),
-            None => u16::MAX,
+        match wallets_at(self, row.coin, row.pc, row.discount, row.referrer) {
+            Some(wallets) => wallets,
+            // By the condition all of them are found.
+            None => unreachable!(),
         }
     }
 }
 
-/// The place of an address that is among these.
-fn place_among(addresses: &[Address], address: Address) -> u16
-    requires known { list_any (is_same address) addresses.now ≡ true }
+impl FindsWallets for Outline {
+    ghost place = { place_of };
+
+    fn find(&self, address: Address) -> Option<u16> {
+        place_among(&self.wallets, address)
+    }
+}
+
+/// The place of an address among these.
+fn place_among(addresses: &[Address], address: Address) -> Option<u16>
     requires few { length addresses.now ≤ 65535 }
-    ensures { position (is_same address) addresses.now ≡ Some result }
+    ensures { result ≡ position (is_same address) addresses.now }
 {
     match find(addresses, address) {
-        Some(place) => place as u16,
-        // By the condition it is among them.
-        None => unreachable!(),
+        Some(place) => Some(place as u16),
+        None => None,
     }
 }
 

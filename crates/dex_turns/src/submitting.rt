@@ -1,14 +1,16 @@
 //! The items of a lane, under the turns of all that they act on.
 
+ghost use Rattle.std.specs.Prelude.{◌≡◌, IfSome, Some};
 ghost use Rattle.dex_types.specs.Rows.{row_of};
-ghost use Rattle.dex_script_types.specs.Places.{IsPlaced};
-ghost use Rattle.std.specs.Prelude.{IfSome};
+ghost use Rattle.dex_script_types.specs.Places.{IsPlaced, market_place};
 ghost use Rattle.dex_turns.specs.Seats.{IsSeat, IsSeatOf};
 ghost use Rattle.dex_turns.specs.Submitted.{AreNext, HasSubmitted, HaveSubmitted, IsNext};
+ghost use Rattle.dex_turns.specs.Turns.{AreLegsAt};
 
 use crate::alone::RowAlone;
 use crate::at::At;
 use crate::bank::Bank;
+use crate::both::wallets_of_both;
 use crate::legs::{SwapLegs, TwoRecords};
 use crate::seat::LaneSeat;
 use crate::stamped_record::StampedRecord;
@@ -58,16 +60,9 @@ impl Bank {
         ensures kept { IsSeat seat.new }
     {
         let _outline = &self.outline;
-        let place = places.market as usize;
         let at = At { bank: self, rt };
         let item = RowAlone { row, places, pace };
-        let made = at.in_market(
-            &item,
-            self.market_gate(place),
-            &mut seat.markets[place],
-            &mut seat.wallets,
-            &seat.last,
-        );
+        let made = at.in_market(&item, &mut seat.markets, &mut seat.wallets, &seat.last);
         seat.calls = seat.calls.and(row, &made);
         let StampedRecord { reply, stamp, .. } = made;
         seat.last = stamp;
@@ -98,7 +93,16 @@ impl Bank {
     {
         let one = self.outline.places_of(first);
         let two = self.outline.places_of(second);
-        let legs = SwapLegs::of(first.row(), second.row(), &one, &two, pace);
+        let row = first.row();
+        let next = second.row();
+        let legs = SwapLegs {
+            first: row,
+            second: next,
+            first_market: one.market,
+            second_market: two.market,
+            wallets: wallets_of_both(row, next, &one, &two),
+            pace,
+        };
         self.submit_legs(rt, seat, &legs)
     }
 
@@ -111,8 +115,12 @@ impl Bank {
     ) -> (Reply, Reply)
         requires seat { IsSeatOf self.now seat.old }
         requires legs { AreNext (row_of legs.now.first.now) (row_of legs.now.second.now) seat.old }
-        requires first { IsPlaced self.now.script.start (row_of legs.now.first.now) legs.now.first_places.now }
-        requires second { IsPlaced self.now.script.start (row_of legs.now.second.now) legs.now.second_places.now }
+        requires placed { AreLegsAt self.now.script (row_of legs.now.first.now) (row_of legs.now.second.now)
+            legs.now.wallets }
+        requires first { market_place legs.now.first.now.market self.now.script.start.markets
+            ≡ Some legs.now.first_market }
+        requires second { market_place legs.now.second.now.market self.now.script.start.markets
+            ≡ Some legs.now.second_market }
         ensures submitted { HaveSubmitted (row_of legs.now.first.now) (row_of legs.now.second.now) result
             seat.old seat.new }
         ensures bank { IsSeatOf self.now seat.new }

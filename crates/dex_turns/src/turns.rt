@@ -5,18 +5,17 @@ ghost use Rattle.dex_gate.specs.declared.stage.Stage.TheVariants.{Idle, Out};
 ghost use Rattle.dex_gate.specs.History.{Extends, added, of_lane};
 ghost use Rattle.dex_journals.specs.Journals.{left_by, market_calls, wallet_entries};
 ghost use Rattle.dex_turns.specs.Submitted.{Written};
-ghost use Rattle.dex_turns.specs.Turns.{HasLeft, IsAboveWallets, IsHomeAt, IsMarketOut, IsOut, IsWalletAwayFor};
-ghost use Rattle.dex_turns.specs.Turns.{IsWalletOutAt, MayLeave, first_in};
+ghost use Rattle.dex_turns.specs.Turns.{HasLeft, IsAboveMarkets, IsAboveWallets, IsAwayFor, IsHomeAt, IsMarketOut};
+ghost use Rattle.dex_turns.specs.Turns.{IsOut, IsOutAt, IsWalletAwayFor, IsWalletOutAt, MayLeave, first_in};
 
 use dex_gate::{Away, Gate, Journaled, Pass, Turn};
 use dex_journals::{BankMarket, BankWallet, WalletTrail};
 use dex_stamps::Stamp;
-use dex_types::Address;
 use dex_wallet::WalletCell;
 use std::sync::Wait;
 
 /// Draws a ticket at a gate, and waits for its turn.
-pub(crate) fn turn_at<V: Journaled, R: Wait>(rt: &R, gate: &Gate<V>, pass: &mut Pass<V>) -> Turn<V>
+fn turn_at<V: Journaled, R: Wait>(rt: &R, gate: &Gate<V>, pass: &mut Pass<V>) -> Turn<V>
     requires gate { pass.old.gate ≡ Some gate.now }
     requires idle { pass.old.stage ≡ Idle }
     ensures pass { pass.new ≡ record pass.old { stage = Out (V.entries result.value) } }
@@ -32,7 +31,7 @@ pub(crate) fn turn_at<V: Journaled, R: Wait>(rt: &R, gate: &Gate<V>, pass: &mut 
 }
 
 /// Waits for the turn of a market, and takes it out. The stamp is the later of this one and the market's last.
-pub(crate) fn take_market<R: Wait>(
+fn take_market<R: Wait>(
     rt: &R,
     gate: &Gate<BankMarket>,
     pass: &mut Pass<BankMarket>,
@@ -51,6 +50,25 @@ pub(crate) fn take_market<R: Wait>(
     let (market, away) = turn_at(rt, gate, pass).take();
     let stamp = market.later(last);
     (market, away, stamp)
+}
+
+/// Waits for the turn of the market at a place, which is above all markets whose turns the lane has, and takes it out.
+/// The stamp is the later of this one and the market's last.
+pub(crate) fn take_at<R: Wait>(
+    rt: &R,
+    gate: &Gate<BankMarket>,
+    passes: &mut Vec<Pass<BankMarket>>,
+    place: usize,
+    last: &Stamp,
+) -> (BankMarket, Away<BankMarket>, Stamp)
+    requires home { IsHomeAt gate.now place passes.old.items }
+    requires rising { IsAboveMarkets gate.now passes.old.items }
+    ensures out { IsOutAt gate.now place passes.old.items passes.new.items result.0 }
+    ensures away { IsAwayFor gate.now place passes.old.items result.0 result.1 }
+    ensures market { result.0.last ≤ result.2.number }
+    ensures stamp { last.now.number ≤ result.2.number }
+{
+    take_market(rt, gate, &mut passes[place], last)
 }
 
 /// Waits for the turn of a wallet, and takes its cell out.
@@ -114,11 +132,15 @@ pub(crate) fn leave_wallet(
     gate.leave(pass, away.put(wallet));
 }
 
-/// The first of the wallets that are still to come.
-pub(crate) fn first_of(others: &[Option<Address>]) -> Option<Address>
+/// The place of the first of the wallets that are still to come, if there is one: it stands at the front, before
+/// `u16::MAX`.
+pub(crate) fn first_of(others: &[u16]) -> Option<usize>
     ensures { result ≡ first_in others.now }
 {
-    if others.len() == 0 { None } else { others[0] }
+    match others.first() {
+        Some(place) if *place != u16::MAX => Some(*place as usize),
+        _ => None,
+    }
 }
 
 /// Takes the last of the cells in hand.

@@ -1,24 +1,19 @@
 //! The turns of two markets: both waited for, and left.
 
-ghost use Rattle.std.specs.Prelude.{◌≡◌, ◌<◌, ◌≤◌, length, slice_index_or, slice_set};
-ghost use Rattle.dex_gate.specs.declared.stage.Stage.TheVariants.{Idle};
-ghost use Rattle.dex_gate.specs.PassView.{PassView};
-ghost use Rattle.dex_history.specs.Journal.{Call};
-ghost use Rattle.dex_journals.specs.Journals.{MarketOrigin, market_calls};
-ghost use Rattle.dex_stamps.specs.Stamped.{Stamped};
-ghost use Rattle.dex_gate.specs.GateView.{GateView};
+ghost use Rattle.std.specs.Prelude.{◌≡◌, ◌<◌, length, slice_index_or, slice_set};
+ghost use Rattle.dex_journals.specs.Journals.{market_calls};
+ghost use Rattle.dex_turns.specs.Bank.{MarketGate};
+ghost use Rattle.dex_turns.specs.Seats.{MarketPass};
 ghost use Rattle.dex_turns.specs.Submitted.{Where};
 ghost use Rattle.dex_turns.specs.TwoTurns.{HaveTaken, exchanged};
-ghost use Rattle.dex_turns.specs.Turns.{AreIdle, HasSeenAt, IsAboveMarkets, IsAwayFor, IsBelow, IsHomeAt, IsOutAt};
-ghost use Rattle.dex_turns.specs.Turns.{MayLeaveAt, left_with};
+ghost use Rattle.dex_turns.specs.Turns.{AreIdle, HasSeenAt, IsBelow, IsHomeAt, MayLeaveAt, left_with};
 
 use crate::bank::Bank;
 use crate::legs::TwoMarkets;
-use crate::turns::take_market;
+use crate::turns::take_at;
 use dex_gate::{Away, Gate, Pass};
 use dex_journals::BankMarket;
 use dex_stamps::Stamp;
-use dex_world::RowPlaces;
 use std::sync::Wait;
 
 /// The markets of two legs, what stays behind of their turns, and a stamp that none of theirs is above.
@@ -29,25 +24,6 @@ pub(crate) struct TwoTurns {
     pub(crate) stamp: Stamp,
 }
 
-/// Waits for the turn of the market at a place, which is above all markets whose turns the lane has, and takes it out.
-/// The stamp is the later of this one and the market's last.
-fn take_at<R: Wait>(
-    rt: &R,
-    gate: &Gate<BankMarket>,
-    passes: &mut Vec<Pass<BankMarket>>,
-    place: usize,
-    last: &Stamp,
-) -> (BankMarket, Away<BankMarket>, Stamp)
-    requires home { IsHomeAt gate.now place passes.old.items }
-    requires rising { IsAboveMarkets gate.now passes.old.items }
-    ensures out { IsOutAt gate.now place passes.old.items passes.new.items result.0 }
-    ensures away { IsAwayFor gate.now place passes.old.items result.0 result.1 }
-    ensures market { result.0.last ≤ result.2.number }
-    ensures stamp { last.now.number ≤ result.2.number }
-{
-    take_market(rt, gate, &mut passes[place], last)
-}
-
 /// A market's gate, and its place among all.
 #[derive(Clone, Copy)]
 pub(crate) struct Entrance<'a> {
@@ -56,14 +32,13 @@ pub(crate) struct Entrance<'a> {
 }
 
 impl<'a> Entrance<'a> {
-    /// That of the market at a row's place.
-    pub(crate) fn at(bank: &'a Bank, places: &RowPlaces) -> Entrance<'a>
-        requires { places.now.market < length bank.now.markets }
-        ensures gate { (default : GateView (Stamped Call) MarketOrigin) → result.gate.now
-            ≡ slice_index_or bank.now.markets result.place default }
-        ensures place { result.place ≡ places.now.market }
+    /// That of the market at a place.
+    pub(crate) fn at(bank: &'a Bank, place: u16) -> Entrance<'a>
+        requires { place < length bank.now.markets }
+        ensures gate { (default : MarketGate) → result.gate.now ≡ slice_index_or bank.now.markets result.place default }
+        ensures place { result.place ≡ place }
     {
-        let place = places.market as usize;
+        let place = place as usize;
         Entrance {
             gate: bank.market_gate(place),
             place,
@@ -157,7 +132,7 @@ pub(crate) fn leave_at(
     market: BankMarket,
 )
     requires { MayLeaveAt gate.now place passes.old.items away market }
-    ensures left { (default : PassView (Stamped Call) MarketOrigin) → passes.new.items
+    ensures left { (default : MarketPass) → passes.new.items
         ≡ slice_set passes.old.items place
         (left_with (slice_index_or passes.old.items place default) away.start (market_calls market)) }
     ensures seen { HasSeenAt place passes.old.items (market_calls market) }

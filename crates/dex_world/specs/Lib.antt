@@ -4,3 +4,4 @@ pub mod Groups
 pub mod Items
 pub mod RowsOf
 pub mod Lists
+pub mod Places

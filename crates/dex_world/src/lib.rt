@@ -5,4 +5,4 @@
 pub mod laws;
 mod places;
 
-pub use places::RowPlaces;
+pub use places::{RowPlaces, RowWallets};

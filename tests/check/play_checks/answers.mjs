@@ -112,6 +112,31 @@ async function checkAfterScript(suite, player) {
   suite.holds('a made script is played', (await player.saved()).text.startsWith('report 116\n'));
 }
 
+// A long script that is changed again and again at one row: what stands before it is kept soon, and the rows from it on are replayed alone. That
+// is told, with the length of the joined report; what is saved is a replay of the whole.
+async function checkLong(suite, player) {
+  await player.command('make', '7', '4000');
+  await player.click('Play on from it');
+  await player.click('Last', '.parts');
+  let row = (await player.rows()).trimEnd().split('\n').pop();
+  let told = '';
+  for (let change = 1; change <= 40 && !told.includes('joined'); change += 1) {
+    await player.replace(row, `do,0,m0,u0,o0_0,-,-,-,-,cancelc ${change}`);
+    row = `do,0,m0,u0,o0_0,-,-,-,-,cancelc ${change}`;
+    told = await player.named('told');
+    await new Promise((resume) => { setTimeout(resume, 300); });
+  }
+  suite.holds('a long script: rows from the changed one on are replayed alone', told.startsWith('replay of the rows from a changed one on, joined: status 0'), told);
+  const { text } = await player.saved();
+  suite.same('a long script: its report', text.slice(0, text.indexOf('\n')), 'report 4016');
+  suite.holds('a long script: as long as the joined one', told.includes(`${text.length.toLocaleString('en')} bytes`), `${text.length}, ${told}`);
+  await player.replace(row, 'do,0,m0,u0,o0_0,-,-,-,-,cancelc');
+  const fault = await player.named('row fault');
+  const whole = (await player.saved()).text;
+  suite.holds('a long script: a fault at the row at which the whole has it', /^script refused row /.test(whole) && fault.startsWith(`Row ${whole.slice(19, -1)}.`),
+    `${fault}, ${whole}`);
+}
+
 /** What is answered. */
 export async function answerCases(suite) {
   const player = await suite.player(1280, 900);
@@ -122,5 +147,6 @@ export async function answerCases(suite) {
   await checkMarks(suite, player);
   await checkFault(suite, player);
   await checkAfterScript(suite, player);
+  await checkLong(suite, player);
   await player.page.close();
 }

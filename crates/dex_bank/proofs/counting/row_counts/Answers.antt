@@ -1,12 +1,16 @@
-use Rattle.std.proofs.Common.{◌≡◌, ◌+◌, ◌<◌, ◌≤◌, List, [], ◌∷◌, ℕ, arith, get_or, length, map, take, sym, subst, ◌∙◌}
+use Rattle.std.proofs.Common.{◌≡◌, ◌+◌, ◌<◌, ◌≤◌, List, [], ℕ, arith, eqb, get_or, length, map, take, sym, subst, ◌∙◌}
 use Rattle.dex_world.proofs.Common.{PlainAccount, PlainAccounts, PlainMarketAccounts, Row, accounts_of, length-map, market_accounts_of, named_of, names, row_of, with_items_is}
 use Rattle.std.proofs.lemmas.List.{length-take-le}
 use Rattle.dex_world.specs.declared.places.RowPlaces.{RowPlaces}
-use Rattle.dex_script_types.specs.Places.{ArePlaced, IsBeside, IsPlaced}
-use Rattle.dex_script_types.proofs.PlacedLaws.{item-at, item_at, nowhere, placed-long, row-at}
-use Rattle.dex_bank.specs.Counts.{HaveSpare, wallets_told}
+use Rattle.dex_script_types.specs.Places.{ArePlaced, IsPlaced}
+use Rattle.dex_script_types.proofs.PlacedLaws.{item-at, item_at, placed-long, row-at}
+use Rattle.dex_bank.specs.Counts.{HaveSpare, one, times_told}
 use Rattle.dex_bank.proofs.OpenRooms.{AreRowsOf, market-tells, markets_at, on, rooms-told, row-more, rows-spare, wallet-tells, wallets_at}
 use Rattle.dex_bank.proofs.counting.row_counts.Goals as goal
+
+-- what is read where nothing stands
+abbrev nothing : RowPlaces
+nothing = record { number = 0; lane = 0; market = 0; wallets = record { places = []; coin = 0; pc = 0; discount = 0; referrer = 0 } }
 
 -- each row has places
 together : (start : PlainAccounts) (rows : List Row) (places : List RowPlaces) → ArePlaced start (map row_of rows) places → length places ≡ length rows
@@ -21,16 +25,16 @@ offset_bounds-places-i c = omega (arith, together (accounts_of c.args.start.now)
 few : (rows : List Row) (i : ℕ) → i ≤ length rows → length (take i (map row_of rows)) ≡ i
 few rows i le = length-take-le i (map row_of rows) (omega (arith, le, length-map rows row_of))
 
-pub count_each-requires : goal.count_each-requires
-count_each-requires c =
-    subst (HaveSpare 2) (sym c.deref_mut.ensures.value)
-    (rows-spare on (markets_at (map market_accounts_of c.args.start.now.markets.items)) (take c.loop-i.i (map row_of c.args.rows.now)) 2 c.loop-i.markets.items
+pub count-requires : goal.count-requires
+count-requires c =
+    subst (HaveSpare 1) (sym c.deref_mut.ensures.value)
+    (rows-spare on (markets_at (map market_accounts_of c.args.start.now.markets.items)) (take c.loop-i.i (map row_of c.args.rows.now)) 1 c.loop-i.markets.items
     (omega (arith, few c.args.rows.now c.loop-i.i (omega arith), together (accounts_of c.args.start.now) c.args.rows.now c.args.places.now c.requires.places)) c.loop-i.invariant.markets)
 
-pub count_each-requires-in-loop-i : goal.count_each-requires-in-loop-i
-count_each-requires-in-loop-i c =
-    subst (HaveSpare 2) (sym c.deref_mut-in-loop-i.ensures.value)
-    (rows-spare names (wallets_at (map named_of c.args.start.now.wallets.items)) (take c.loop-i.i (map row_of c.args.rows.now)) 2 c.loop-i.wallets.items
+pub count_each-requires : goal.count_each-requires
+count_each-requires c =
+    subst (HaveSpare 4) (sym c.deref_mut-in-loop-i.ensures.value)
+    (rows-spare names (wallets_at (map named_of c.args.start.now.wallets.items)) (take c.loop-i.i (map row_of c.args.rows.now)) 4 c.loop-i.wallets.items
     (omega (arith, few c.args.rows.now c.loop-i.i (omega arith), together (accounts_of c.args.start.now) c.args.rows.now c.args.places.now c.requires.places)) c.loop-i.invariant.wallets)
 
 pub loop-i-preserved : goal.loop-i-preserved
@@ -41,25 +45,23 @@ loop-i-preserved c =
     let inside : i < length rows = omega arith in
     let row : Row = item_at rows i inside in
     let is = item-at rows i inside in
-    let there : RowPlaces = get_or c.args.places.now i nowhere in
-    let placed = subst (λ (one : Row). IsPlaced start (row_of one) there) (sym is) (row-at (IsPlaced start) rows c.args.places.now c.requires.places i row nowhere inside) in
-    let beside = subst (λ (one : Row). IsBeside (row_of one) there) (sym is) (row-at IsBeside rows c.args.places.now c.requires.beside i row nowhere inside) in
+    let there : RowPlaces = get_or c.args.places.now i nothing in
+    let placed = subst (λ (one : Row). IsPlaced start (row_of one) there) (sym is) (row-at (IsPlaced start) rows c.args.places.now c.requires.places i row nothing inside) in
     let markets = markets_at start.markets in
     let wallets = wallets_at start.wallets in
-    let told = wallets_told there in
     record {
       markets =
           subst (AreRowsOf on markets (take (i + 1) (map row_of rows)))
-          (sym (with_items_is c.loop-i.markets c.count_each.new.counts (omega (arith, c.count_each.auto.counts, c.deref_mut.ensures.len))))
-          (row-more on markets rows i row (there.market ∷ []) c.deref_mut.result.now c.count_each.new.counts inside is
+          (sym (with_items_is c.loop-i.markets c.count.new.counts (omega (arith, c.count.auto.counts, c.deref_mut.ensures.len))))
+          (row-more on markets rows i row (λ (place : ℕ). one (eqb place there.market)) c.deref_mut.result.now c.count.new.counts inside is
           (market-tells start c.requires.start.1 (row_of row) there placed)
-          (subst (AreRowsOf on markets (take i (map row_of rows))) (sym c.deref_mut.ensures.value) c.loop-i.invariant.markets) c.count_each.ensures);
+          (subst (AreRowsOf on markets (take i (map row_of rows))) (sym c.deref_mut.ensures.value) c.loop-i.invariant.markets) c.count.ensures);
       wallets =
           subst (AreRowsOf names wallets (take (i + 1) (map row_of rows)))
-          (sym (with_items_is c.loop-i.wallets c.count_each-in-loop-i.new.counts (omega (arith, c.count_each-in-loop-i.auto.counts, c.deref_mut-in-loop-i.ensures.len))))
-          (row-more names wallets rows i row told c.deref_mut-in-loop-i.result.now c.count_each-in-loop-i.new.counts inside is
-          (wallet-tells start c.requires.start.1 (row_of row) there placed beside)
-          (subst (AreRowsOf names wallets (take i (map row_of rows))) (sym c.deref_mut-in-loop-i.ensures.value) c.loop-i.invariant.wallets) c.count_each-in-loop-i.ensures);
+          (sym (with_items_is c.loop-i.wallets c.count_each.new.counts (omega (arith, c.count_each.auto.counts, c.deref_mut-in-loop-i.ensures.len))))
+          (row-more names wallets rows i row (λ (place : ℕ). times_told place there.wallets.places) c.deref_mut-in-loop-i.result.now c.count_each.new.counts inside is
+          (wallet-tells start c.requires.start.1 (row_of row) there placed)
+          (subst (AreRowsOf names wallets (take i (map row_of rows))) (sym c.deref_mut-in-loop-i.ensures.value) c.loop-i.invariant.wallets) c.count_each.ensures);
     }
 
 pub returns-clause-markets : goal.returns-clause-markets

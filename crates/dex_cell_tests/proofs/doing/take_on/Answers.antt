@@ -6,5 +6,5 @@ use Rattle.dex_cell_tests.proofs.doing.take_on.Goals as goal
 
 pub apply_take-requires-clause-decided : goal.apply_take-requires-clause-decided
 apply_take-requires-clause-decided c =
-    take-decided c.args.taker.now (read_of (given c.args.market.now c.args.events.now (resting c.opposite-side.result c.args.opposite.now))) 1 0 c.args.seen.now c.in_ok-plan.plan
+    take-decided c.args.taker.now (read_of (given c.args.market.now c.args.events.now (resting c.opposite-side.result c.args.opposite.now))) c.args.min_lots 0 c.args.seen.now c.in_ok-plan.plan
     (sym c.in_ok-plan.was ∙ c.decide_take.ensures)

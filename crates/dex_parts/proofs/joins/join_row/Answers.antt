@@ -1,54 +1,33 @@
-use Rattle.std.proofs.Common.{length, ◌++◌}
-use Rattle.dex_world.proofs.MappedLists.{All-front}
-use Rattle.dex_parts.specs.Joins.{IsWithin, role_links}
-use Rattle.dex_parts.proofs.JoinLaws.{row-joined, within-behind}
-use Rattle.dex_parts.proofs.ListLaws.{All-behind}
+use Rattle.std.proofs.Common.{◌≡◌, List, ◌∷◌, ◌++◌, ℕ, refl, subst}
+use Rattle.dex_parts.specs.Joins.{Link, place_links, row_links, wallet_links}
+use Rattle.dex_parts.proofs.JoinLaws.{AreLeft, first-within, left-less}
 use Rattle.dex_parts.proofs.joins.join_row.Goals as goal
 
-pub join_role-requires-2 : goal.join_role-requires-2
-join_role-requires-2 c =
+-- the next wallet, and those behind it
+next : (labels now : List ℕ) (all : List Link) (markets market place : ℕ) (left others : List ℕ) → left ≡ place ∷ others
+    → AreLeft labels now all (wallet_links markets market left) → AreLeft labels now all (place_links markets market place ++ wallet_links markets market others)
+next labels now all markets market place left others is are = subst (λ (some : List ℕ). AreLeft labels now all (wallet_links markets market some)) is are
+
+pub wallets-init : goal.wallets-init
+wallets-init c = record { joins = refl; within = c.requires.within }
+
+pub join_wallet-requires : goal.join_wallet-requires
+join_wallet-requires c =
     let markets = c.args.markets in
     let at = c.args.at.now in
-    let labels = c.args.labels.now in
-    let links = role_links markets at.market in
+    let place = c.in-Some.place.now in
+    let others = c.in-Some.others.now in
     record {
-      within = within-behind labels c.join_role.new.labels (links at.coin) (links at.pc) c.join_role.ensures
-          (All-front (IsWithin (length labels)) (links at.pc) (links at.discount ++ links at.referrer)
-          (All-behind (IsWithin (length labels)) (links at.coin) (links at.pc ++ (links at.discount ++ links at.referrer)) c.requires.within));
+      within = first-within c.args.labels.now c.wallets.labels (row_links markets at) (place_links markets at.market place) (wallet_links markets at.market others)
+          (next c.args.labels.now c.wallets.labels (row_links markets at) markets at.market place c.wallets.left.now others c.in-Some.ensures.cases.0 c.wallets.invariant);
     }
 
-pub join_role-requires-3 : goal.join_role-requires-3
-join_role-requires-3 c =
+pub wallets-preserved : goal.wallets-preserved
+wallets-preserved c =
     let markets = c.args.markets in
     let at = c.args.at.now in
-    let labels = c.args.labels.now in
-    let links = role_links markets at.market in
-    record {
-      within = within-behind c.join_role.new.labels c.join_role-2.new.labels (links at.pc) (links at.discount) c.join_role-2.ensures
-          (within-behind labels c.join_role.new.labels (links at.coin) (links at.discount) c.join_role.ensures
-          (All-front (IsWithin (length labels)) (links at.discount) (links at.referrer)
-          (All-behind (IsWithin (length labels)) (links at.pc) (links at.discount ++ links at.referrer)
-          (All-behind (IsWithin (length labels)) (links at.coin) (links at.pc ++ (links at.discount ++ links at.referrer)) c.requires.within))));
-    }
-
-pub join_role-requires-4 : goal.join_role-requires-4
-join_role-requires-4 c =
-    let markets = c.args.markets in
-    let at = c.args.at.now in
-    let labels = c.args.labels.now in
-    let links = role_links markets at.market in
-    record {
-      within = within-behind c.join_role-2.new.labels c.join_role-3.new.labels (links at.discount) (links at.referrer) c.join_role-3.ensures
-          (within-behind c.join_role.new.labels c.join_role-2.new.labels (links at.pc) (links at.referrer) c.join_role-2.ensures
-          (within-behind labels c.join_role.new.labels (links at.coin) (links at.referrer) c.join_role.ensures
-          (All-behind (IsWithin (length labels)) (links at.discount) (links at.referrer)
-          (All-behind (IsWithin (length labels)) (links at.pc) (links at.discount ++ links at.referrer)
-          (All-behind (IsWithin (length labels)) (links at.coin) (links at.pc ++ (links at.discount ++ links at.referrer)) c.requires.within)))));
-    }
-
-pub returns : goal.returns
-returns c =
-    let markets = c.args.markets in
-    let at = c.args.at.now in
-    row-joined c.args.labels.now c.join_role.new.labels c.join_role-2.new.labels c.join_role-3.new.labels c.join_role-4.new.labels markets at
-    c.join_role.ensures c.join_role-2.ensures c.join_role-3.ensures c.join_role-4.ensures
+    let place = c.in-Some.place.now in
+    let others = c.in-Some.others.now in
+    left-less c.args.labels.now c.wallets.labels (row_links markets at) (place_links markets at.market place) (wallet_links markets at.market others)
+    (next c.args.labels.now c.wallets.labels (row_links markets at) markets at.market place c.wallets.left.now others c.in-Some.ensures.cases.0 c.wallets.invariant)
+    c.join_wallet.new.labels c.join_wallet.ensures

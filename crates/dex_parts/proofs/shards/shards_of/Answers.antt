@@ -13,7 +13,7 @@ shards_among-requires-clause-joined c =
     let inside = c.script.inside in
     own-within (accounts_of inside.start) (map row_of inside.rows) inside.places.items c.deref.result.now c.len-markets.result c.len-wallets.result
     (length-map inside.start.markets.items market_accounts_of ∙ sym (c.len-markets.ensures ∙ inside.start.markets.ok.0)) (length-map inside.start.wallets.items named_of ∙ sym (c.len-wallets.ensures ∙ inside.start.wallets.ok.0))
-    c.deref.ensures.value c.script.invariant.1 c.script.invariant.2
+    c.deref.ensures.value c.script.invariant.1
 
 pub shards_among-requires-clause-on : goal.shards_among-requires-clause-on
 shards_among-requires-clause-on c =

@@ -4,7 +4,7 @@ use Rattle.dex_replay.proofs.Common.{CellsState, outcome_of}
 use Rattle.dex_serializable.proofs.Common.{MarketOrigin, Stamped, WalletOrigin}
 use Rattle.dex_run.proofs.Common.{AreMarketsClosed, AreWalletsClosed, CanClose, GateView}
 use Rattle.dex_bank.specs.Closed as cells
-use Rattle.dex_act.specs.declared.sight.Terms.{Terms}
+use Rattle.dex_act.specs.Steps.{Terms}
 use Rattle.dex_run.proofs.ClosingLaws.{are-cells, cells-length, closes}
 use Rattle.dex_run.proofs.ClosingPasses.{markets-close, wallets-close}
 use Rattle.dex_run.proofs.closing.closed.Goals as goal

@@ -3,8 +3,9 @@ use Rattle.std.proofs.lemmas.Int.{to_z-of_z}
 use Rattle.std.proofs.lemmas.List.{append_assoc, map-append}
 use Rattle.dex_types.specs.declared.rows.Row.{Row}
 use Rattle.dex_types.specs.Rows.{PlainRow, row_of}
-use Rattle.dex_script_types.proofs.PlacedLaws.{beside-push, placed-push}
+use Rattle.dex_script_types.proofs.PlacedLaws.{beside-push, placed-push, stands-beside}
 use Rattle.dex_statement.specs.Stated.{PlainInstruction}
+use Rattle.dex_script.specs.Names.{wallet_among}
 use Rattle.dex_script.specs.Rows.{instruction_row}
 use Rattle.dex_script.proofs.instruction.push_placed.Goals as goal
 
@@ -23,7 +24,7 @@ returns-clause-placed c = λ start front is are.
     (c.take_row.ensures ∙ ap (λ (time : ℤ). instruction_row c.args.number time c.args.words.now) (to_z-of_z w64 c.args.now c.ranges.now)) in
     rw (c.push_reserved.ensures.items, all)
     (placed-push start (front ++ map row_of c.args.rows.now.items) c.args.places.now.items row _ are
-    (record { market = is.market; coin = is.coin.0; pc = is.pc.0; discount = is.discount.0; referrer = is.referrer.0 }))
+    (record { market = is.market; wallets = is.wallets }))
 
 pub returns-clause-beside : goal.returns-clause-beside
 returns-clause-beside c = λ start front is are.
@@ -32,11 +33,5 @@ returns-clause-beside c = λ start front is are.
     (c.take_row.ensures ∙ ap (λ (time : ℤ). instruction_row c.args.number time c.args.words.now) (to_z-of_z w64 c.args.now c.ranges.now)) in
     rw (c.push_reserved.ensures.items, all)
     (beside-push (front ++ map row_of c.args.rows.now.items) c.args.places.now.items row _ are
-    (record {
-      number = refl;
-      lane = ap (λ (words : PlainInstruction). words.lane) c.words.view_is;
-      coin = is.coin.1;
-      pc = is.pc.1;
-      discount = is.discount.1;
-      referrer = is.referrer.1;
-    }))
+    (stands-beside (wallet_among start) row _ is.wallets refl
+    (ap (λ (words : PlainInstruction). words.lane) c.words.view_is)))

@@ -2,7 +2,7 @@ use Rattle.std.proofs.Common.{List, get_or, set, Some, sym, ap, ◌∙◌, subst
 use Rattle.dex_turns.proofs.Common.{market_calls}
 use Rattle.std.proofs.lemmas.List.{get_or-set_other}
 use Rattle.dex_turns.specs.Turns.{IsMarketOut}
-use Rattle.dex_turns.proofs.Entering.{MarketPass}
+use Rattle.dex_turns.specs.Seats.{MarketPass}
 use Rattle.dex_turns.proofs.Exchanging.{idle-below, taken-below}
 use Rattle.dex_turns.proofs.two_turns.take_rising.Goals as goal
 

@@ -5,12 +5,15 @@ use Rattle.dex_world.specs.declared.places.RowPlaces.{RowPlaces}
 use Rattle.dex_types.specs.Rows.{row_of}
 use Rattle.dex_bank.specs.Cells.{CanAct}
 use Rattle.dex_bank.specs.Places.{ArePlacesIn, StandsAt}
+use Rattle.dex_bank.proofs.Stands.{stands-told}
 use Rattle.dex_bank.proofs.standing.Standing.of.Goals as goal
 
 pub returns-in-Some : goal.returns-in-Some
 returns-in-Some g c =
-    subst (λ (standing : _). StandsAt c.args.cells.now (row_of (g.W.AsRow.is c.args.row.now)) standing.market standing.wallets) (sym c.told.ensures)
-    (subst (λ (o : Option RowPlaces). IfSome o (ArePlacesIn c.args.cells.now (row_of (g.W.AsRow.is c.args.row.now)))) (sym c.places.ensures ∙ c.in-Some.is) c.requires.placed)
+    let row = row_of (g.W.AsRow.is c.args.row.now) in
+    subst (λ (standing : _). StandsAt c.args.cells.now row standing.market standing.wallets) (sym c.told.ensures)
+    (stands-told c.args.cells.now row c.in-Some.places
+    (subst (λ (o : Option RowPlaces). IfSome o (ArePlacesIn c.args.cells.now row)) (sym c.places.ensures ∙ c.in-Some.is) c.requires.placed))
 
 pub among-requires : goal.among-requires
 among-requires g c = subst (λ (row : Row). CanAct (row_of row) c.args.cells.now) (sym c.row.ensures) c.requires.row

@@ -1,7 +1,7 @@
 use Rattle.std.proofs.Common.{◌∙◌, List, ap, map}
 use Rattle.std.proofs.lemmas.Result.{IfOk-weaker}
 use Rattle.dex_types.specs.declared.account_bytes.Named.{Named}
-use Rattle.dex_types.specs.Accounts.{PlainMarketAccounts, named_of}
+use Rattle.dex_types.specs.Accounts.{named_of}
 use Rattle.dex_state.specs.Addresses.{address_of}
 use Rattle.dex_script.specs.Names.{AreAt, AreNames, market_address}
 use Rattle.dex_script.specs.Telling.{start_of}

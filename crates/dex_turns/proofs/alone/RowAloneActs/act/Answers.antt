@@ -1,42 +1,34 @@
-use Rattle.std.proofs.Common.{◌≡◌, true, false, List, sym, ap, ◌∙◌, subst, arith}
-use Rattle.std.specs.List.{All}
-use Rattle.dex_types.specs.declared.addresses.Address.{Address}
+use Rattle.std.proofs.Common.{false, List, sym, ap, ◌∙◌, subst, arith}
 use Rattle.dex_world.proofs.Common.{AllZip, false≢true, row_of, row_wallets, seen_by, with_items_is}
-use Rattle.dex_turns.proofs.Common.{CellState, HasCall, HasEntry, Stamped, is_among}
+use Rattle.dex_turns.proofs.Common.{CellState, HasCall, HasEntry, Stamped}
 use Rattle.dex_cell.specs.CellState.{market_at}
 use Rattle.dex_history.specs.Journal.{Call, is_held}
 use Rattle.dex_stamps.specs.declared.stamp.Stamp.{Stamp}
-use Rattle.dex_act.specs.declared.sight.Terms.{Terms}
+use Rattle.dex_act.specs.Steps.{Terms}
 use Rattle.dex_act.specs.Steps.{HasWallets, IsStepOn, made_by, world_in_hand}
 use Rattle.dex_act.specs.Wallets.{ArePlacesAmong}
+use Rattle.dex_act.proofs.InHand.{in-hand}
 use Rattle.dex_turns.specs.Inside.{written_of}
 use Rattle.dex_turns.specs.Submitted.{written_by}
-use Rattle.dex_turns.specs.Turns.{IsTold}
+use Rattle.dex_turns.specs.Turns.{IsTold, place_of}
 use Rattle.dex_turns.proofs.Acted.{call-is, has-call, held-is, is-told, row-entries}
-use Rattle.dex_turns.proofs.InHand.{has-hands, has-wallets}
-use Rattle.dex_turns.proofs.LegNames.{row-once}
+use Rattle.dex_turns.proofs.InHand.{hands-are, has-hands, has-wallets}
+use Rattle.dex_turns.proofs.Rising.{row-rising}
 use Rattle.dex_turns.proofs.alone.RowAloneActs.act.Goals as goal
-
-pub places_in-requires : goal.places_in-requires
-places_in-requires g c =
-    let row = row_of c.args.self.now.row.now in
-    let script = c.args.bank.now.script in
-    let cells : List CellState = c.args.hands.now.items in
-    let hand = has-hands script row (row_wallets row) cells c.requires.hands (row-once row) (λ address named. named) in
-    subst (λ (cs : List CellState). All (λ (address : Address). is_among address cs ≡ true) (row_wallets row)) (sym c.deref.ensures.value) hand.here
 
 pub step-done-requires : goal.step-done-requires
 step-done-requires g c =
     let row = row_of c.args.self.now.row.now in
     let script = c.args.bank.now.script in
     let cells : List CellState = c.args.hands.now.items in
-    let hand = has-hands script row (row_wallets row) cells c.requires.hands (row-once row) (λ address named. named) in
-    let at = subst (λ (cs : List CellState). ArePlacesAmong cs row c.places_in.result) c.deref.ensures.value c.places_in.ensures in
+    let at = in-hand row c.args.self.now.places.now.wallets (place_of script) cells (hands-are script (row_wallets row) cells c.requires.hands) c.requires.placed.wallets in
     record {
       on = c.requires.ready.on;
       lane = c.requires.ready.lane;
       above = omega (arith, c.requires.below, c.next-stamp.ensures);
-      wallets = subst (HasWallets row c.places_in.result) (sym c.deref_mut.ensures.value) (has-wallets script row cells hand c.places_in.result at);
+      wallets =
+          subst (HasWallets row c.in_hand.result) (sym c.deref_mut.ensures.value)
+          (has-wallets script row cells (has-hands script (row_wallets row) cells c.requires.hands (row-rising row)) c.in_hand.result (subst (ArePlacesAmong cells row) (sym c.in_hand.ensures) at));
     }
 
 pub returns-clause-did : goal.returns-clause-did
@@ -44,7 +36,7 @@ returns-clause-did g c =
     let row = row_of c.args.self.now.row.now in
     let script = c.args.bank.now.script in
     let cells : List CellState = c.args.hands.now.items in
-    let hand = has-hands script row (row_wallets row) cells c.requires.hands (row-once row) (λ address named. named) in
+    let hand = has-hands script (row_wallets row) cells c.requires.hands (row-rising row) in
     let done = c.step-done.result in
     let m = market_at c.args.market.now.cell in
     let stamp = c.next-stamp.result.number in
@@ -72,7 +64,6 @@ returns-clause-hands g c =
     let row = row_of c.args.self.now.row.now in
     let script = c.args.bank.now.script in
     let cells : List CellState = c.args.hands.now.items in
-    let hand = has-hands script row (row_wallets row) cells c.requires.hands (row-once row) (λ address named. named) in
     let done = c.step-done.result in
     let m = market_at c.args.market.now.cell in
     let stamp = c.next-stamp.result.number in

@@ -1,43 +1,35 @@
-use Rattle.std.proofs.Common.{◌≡◌, ◌++◌, Some, sym, ap, ◌∙◌, subst, refl}
-use Rattle.dex_world.proofs.Common.{Call, row_of}
-use Rattle.dex_turns.proofs.Common.{AddsOne, AwayView, BankMarketState, Extends, Idle, MarketOrigin, Stamped, TurnView, added, call_made, market_calls}
-use Rattle.dex_turns.proofs.Entering.{MarketPass, adds, called, may-call}
+use Rattle.std.proofs.Common.{refl}
+use Rattle.dex_world.proofs.Common.{row_of}
+use Rattle.dex_turns.proofs.Common.{call_made}
+use Rattle.dex_turns.proofs.Exchanging.{idle-below}
+use Rattle.dex_turns.proofs.LegTurns.{at-place, home-at, may-call-one, one-grown, one-leave}
+use Rattle.dex_turns.proofs.Rising.{row-rising}
 use Rattle.dex_turns.proofs.at.At.in_market.Goals as goal
+
+pub take_at-market-requires-clause-home : goal.take_at-market-requires-clause-home
+take_at-market-requires-clause-home g c =
+    home-at c.args.self.now.bank.now (row_of c.args.item.now.row.now) c.at-at.result.place c.args.markets.now.items c.at-at.result.gate.now (at-place c.at-at.ensures.place c.requires.market) c.at-at.ensures.gate
+
+pub take_at-market-requires-clause-rising : goal.take_at-market-requires-clause-rising
+take_at-market-requires-clause-rising g c = idle-below c.at-at.result.gate.now c.args.markets.now.items c.requires.idle
+
+pub with_wallets-made-requires-clause-rising : goal.with_wallets-made-requires-clause-rising
+with_wallets-made-requires-clause-rising g c = row-rising (row_of c.args.item.now.row.now)
 
 pub with_wallets-made-requires-clause-ready : goal.with_wallets-made-requires-clause-ready
 with_wallets-made-requires-clause-ready g c =
-    may-call c.args.self.now.bank.now.script (row_of c.args.item.now.row.now) c.args.gate.now c.args.pass.now c.take_market-market.new.pass
-    c.take_market-market.result.0 c.requires.market c.take_market-market.ensures.out
+    may-call-one c.args.self.now.bank.now (row_of c.args.item.now.row.now) c.at-at.result.place c.args.markets.now.items c.take_at-market.new.passes.items c.at-at.result.gate.now
+    c.take_at-market.result.0 c.take_at-market.result.1 (at-place c.at-at.ensures.place c.requires.market) c.at-at.ensures.gate c.take_at-market.ensures.out
 
-abbrev Turn : Type 0
-Turn = TurnView BankMarketState (Stamped Call) MarketOrigin
+pub leave_at-requires : goal.leave_at-requires
+leave_at-requires g c =
+    one-leave c.args.self.now.bank.now (row_of c.args.item.now.row.now) c.at-at.result.place c.args.markets.now.items c.take_at-market.new.passes.items c.at-at.result.gate.now
+    c.take_at-market.result.0 c.take_at-market.result.1 (at-place c.at-at.ensures.place c.requires.market) c.at-at.ensures.gate c.take_at-market.ensures.out
+    c.take_at-market.ensures.away (call_made (c.args.item.now.row.now, c.with_wallets-made.result)) refl c.with_wallets-made.new.markets c.with_wallets-made.ensures.did.market
 
-abbrev turn_of : AwayView (Stamped Call) MarketOrigin → BankMarketState → Turn
-turn_of away market = record { gate = away.gate; number = away.number; start = away.start; value = market }
-
-pub leave-requires-clause-entry : goal.leave-requires-clause-entry
-leave-requires-clause-entry g c =
-    let call : Stamped Call = call_made (c.args.item.now.row.now, c.with_wallets-made.result) in
-    let after : BankMarketState = c.with_wallets-made.new.markets in
-    let is : c.put.result
-    ≡ record { gate = Some c.args.gate.now; number = c.args.pass.now.number; start = market_calls c.take_market-market.result.0; value = after } =
-    c.put.ensures ∙ ap (λ (a : AwayView (Stamped Call) MarketOrigin). turn_of a after) c.take_market-market.ensures.away in
-    subst (λ (t : Turn). AddsOne (λ (e : Stamped Call). e.item.asked.lane) c.take_market-market.new.pass.number t.start (market_calls t.value)) (sym is)
-    (subst (λ (n : _). AddsOne (λ (e : Stamped Call). e.item.asked.lane) n (market_calls c.take_market-market.result.0) (market_calls after))
-    (sym (ap (λ (p : MarketPass). p.number) c.take_market-market.ensures.out.pass))
-    (adds c.args.self.now.bank.now.script (row_of c.args.item.now.row.now) c.args.gate.now c.args.pass.now c.take_market-market.new.pass c.take_market-market.result.0 c.requires.market
-    c.take_market-market.ensures.out call after c.with_wallets-made.ensures.did.market refl))
-
-pub returns-clause-market : goal.returns-clause-market
-returns-clause-market g c =
-    let call : Stamped Call = call_made (c.args.item.now.row.now, c.with_wallets-made.result) in
-    let after : BankMarketState = c.with_wallets-made.new.markets in
-    let out : MarketPass = c.take_market-market.new.pass in
-    let is : c.put.result
-    ≡ record { gate = Some c.args.gate.now; number = c.args.pass.now.number; start = market_calls c.take_market-market.result.0; value = after } =
-    c.put.ensures ∙ ap (λ (a : AwayView (Stamped Call) MarketOrigin). turn_of a after) c.take_market-market.ensures.away in
-    called c.args.self.now.bank.now.script (row_of c.args.item.now.row.now) c.args.gate.now c.args.pass.now out
-    c.take_market-market.result.0 c.requires.market c.take_market-market.ensures.out call after c.with_wallets-made.ensures.did.market c.leave.new.pass
-    (c.leave.ensures.pass
-    ∙ ap (λ (t : Turn). record out { seen = market_calls t.value; mine = out.mine ++ added t.start (market_calls t.value); stage = Idle }) is)
-    (subst (λ (t : Turn). Extends out.seen (market_calls t.value)) is c.leave.ensures.seen)
+pub returns-clause-markets : goal.returns-clause-markets
+returns-clause-markets g c =
+    one-grown c.args.self.now.bank.now (row_of c.args.item.now.row.now) c.at-at.result.place c.args.markets.now.items c.take_at-market.new.passes.items c.at-at.result.gate.now
+    c.take_at-market.result.0 c.take_at-market.result.1 (at-place c.at-at.ensures.place c.requires.market) c.at-at.ensures.gate c.take_at-market.ensures.out
+    c.take_at-market.ensures.away (call_made (c.args.item.now.row.now, c.with_wallets-made.result)) refl c.with_wallets-made.new.markets c.with_wallets-made.ensures.did.market
+    c.requires.bank c.requires.markets c.leave_at.new.passes.items c.leave_at.ensures.left c.leave_at.ensures.seen

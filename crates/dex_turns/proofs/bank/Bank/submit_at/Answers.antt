@@ -1,42 +1,37 @@
-use Rattle.std.proofs.Common.{[], ◌∷◌, map, set, refl, sym, ap, ◌∙◌, subst, arith}
-use Rattle.dex_world.proofs.Common.{row_of}
-use Rattle.dex_turns.proofs.Common.{HasSubmitted, IsBank, IsNext, IsSeatOf, call_made}
+use Rattle.std.proofs.Common.{◌≡◌, [], ◌∷◌, map, refl, sym, ap, ◌∙◌, subst, arith}
+use Rattle.dex_world.proofs.Common.{AllZip-long, row_of}
+use Rattle.dex_turns.proofs.Common.{HasSubmitted, IsBank, IsMarketPass, IsNext, IsSeatOf, Idle, call_made}
 use Rattle.std.proofs.lemmas.List.{map-append}
 use Rattle.dex_turns.specs.Inside.{seat_inside}
+use Rattle.dex_world.proofs.MappedLists.{All-second}
 use Rattle.dex_script_types.proofs.PlacedLaws.{market-placed}
-use Rattle.dex_turns.proofs.SeatAfter.{IsAfter, enters, is-after, names-own, next-ahead, ready, within-gates, within-passes}
+use Rattle.dex_turns.proofs.SeatAfter.{IsAfter, enters-at, is-after, next-ahead, passes-kept, ready}
 use Rattle.dex_turns.proofs.bank.Bank.submit_at.Given as given
 use Rattle.dex_turns.proofs.bank.Bank.submit_at.Goals.{After-and-seat-inside}
 use Rattle.dex_turns.proofs.bank.Bank.submit_at.Goals as goal
 
-pub market_gate-requires : goal.market_gate-requires
-market_gate-requires g c =
-    within-gates c.args.self.now (subst IsBank c.self.view_is c.self.invariant.bank) c.args.row.now.market c.args.places.now.market
-    (market-placed c.args.self.now.script c.args.row.now.market c.args.places.now.market c.requires.places.market)
-
-pub index_mut-requires : goal.index_mut-requires
-index_mut-requires g c =
-    omega (
-      arith,
-      within-passes c.args.self.now (row_of c.args.row.now) (seat_inside c.seat.inside)
-          (next-ahead (row_of c.args.row.now) (seat_inside c.seat.inside) (subst (IsNext (row_of c.args.row.now)) (sym c.seat.view_is) c.requires.row)) (subst IsBank c.self.view_is c.self.invariant.bank)
-          (subst (IsSeatOf c.args.self.now) (sym c.seat.view_is) c.requires.seat) c.seat.invariant.seat
-          c.args.places.now.market (market-placed c.args.self.now.script c.args.row.now.market c.args.places.now.market c.requires.places.market),
-    )
-
-pub in_market-made-requires-clause-named : goal.in_market-made-requires-clause-named
-in_market-made-requires-clause-named g c =
-    names-own c.args.self.now (row_of c.args.row.now) (seat_inside c.seat.inside)
-    (next-ahead (row_of c.args.row.now) (seat_inside c.seat.inside) (subst (IsNext (row_of c.args.row.now)) (sym c.seat.view_is) c.requires.row)) (subst IsBank c.self.view_is c.self.invariant.bank)
-    (subst (IsSeatOf c.args.self.now) (sym c.seat.view_is) c.requires.seat) c.seat.invariant.seat
-
 pub in_market-made-requires-clause-market : goal.in_market-made-requires-clause-market
 in_market-made-requires-clause-market g c =
-    enters c.args.self.now (row_of c.args.row.now) (seat_inside c.seat.inside)
+    enters-at c.args.self.now (row_of c.args.row.now) (seat_inside c.seat.inside)
     (next-ahead (row_of c.args.row.now) (seat_inside c.seat.inside) (subst (IsNext (row_of c.args.row.now)) (sym c.seat.view_is) c.requires.row)) (subst IsBank c.self.view_is c.self.invariant.bank)
     (subst (IsSeatOf c.args.self.now) (sym c.seat.view_is) c.requires.seat) c.seat.invariant.seat
     c.args.places.now.market (market-placed c.args.self.now.script c.args.row.now.market c.args.places.now.market c.requires.places.market)
-    c.market_gate.result.now.origin.start c.market_gate.result.now c.index_mut.result.now (c.market_gate.ensures c.market_gate.result.now) c.index_mut.ensures.value
+
+pub in_market-made-requires-clause-markets : goal.in_market-made-requires-clause-markets
+in_market-made-requires-clause-markets g c =
+    AllZip-long (IsMarketPass c.seat.inside.lane (map call_made c.seat.inside.calls.items)) c.args.self.now.script.start.markets c.seat.inside.markets.items
+    (passes-kept c.args.self.now (row_of c.args.row.now) (seat_inside c.seat.inside)
+    (next-ahead (row_of c.args.row.now) (seat_inside c.seat.inside) (subst (IsNext (row_of c.args.row.now)) (sym c.seat.view_is) c.requires.row)) (subst IsBank c.self.view_is c.self.invariant.bank)
+    (subst (IsSeatOf c.args.self.now) (sym c.seat.view_is) c.requires.seat) c.seat.invariant.seat
+    c.args.places.now.market (market-placed c.args.self.now.script c.args.row.now.market c.args.places.now.market c.requires.places.market))
+
+pub in_market-made-requires-clause-idle : goal.in_market-made-requires-clause-idle
+in_market-made-requires-clause-idle g c =
+    All-second (IsMarketPass c.seat.inside.lane (map call_made c.seat.inside.calls.items)) (λ pass. pass.stage ≡ Idle) (λ start pass is. is.idle) c.args.self.now.script.start.markets c.seat.inside.markets.items
+    (passes-kept c.args.self.now (row_of c.args.row.now) (seat_inside c.seat.inside)
+    (next-ahead (row_of c.args.row.now) (seat_inside c.seat.inside) (subst (IsNext (row_of c.args.row.now)) (sym c.seat.view_is) c.requires.row)) (subst IsBank c.self.view_is c.self.invariant.bank)
+    (subst (IsSeatOf c.args.self.now) (sym c.seat.view_is) c.requires.seat) c.seat.invariant.seat
+    c.args.places.now.market (market-placed c.args.self.now.script c.args.row.now.market c.args.places.now.market c.requires.places.market))
 
 pub in_market-made-requires-clause-passes : goal.in_market-made-requires-clause-passes
 in_market-made-requires-clause-passes g c =
@@ -51,16 +46,14 @@ known : (g : given.Over) (c : After-and-seat-inside g) → IsAfter c.args.self.n
   script = c.seat.inside.script.value;
   calls = map call_made c.and-seat-inside.result.items;
   last = c.in_market-made.result.stamp.number;
-  markets = set c.seat.inside.markets.items c.args.places.now.market c.in_market-made.new.pass;
+  markets = c.in_market-made.new.markets.items;
   wallets = c.in_market-made.new.wallets.passes.items;
 })
 known g c =
     is-after c.args.self.now (row_of c.args.row.now) (seat_inside c.seat.inside)
-    (subst (IsNext (row_of c.args.row.now)) (sym c.seat.view_is) c.requires.row) (subst IsBank c.self.view_is c.self.invariant.bank)
-    (subst (IsSeatOf c.args.self.now) (sym c.seat.view_is) c.requires.seat) c.seat.invariant.seat
-    c.args.places.now.market (market-placed c.args.self.now.script c.args.row.now.market c.args.places.now.market c.requires.places.market)
-    (call_made (c.args.row.now, c.in_market-made.result)) refl c.in_market-made.ensures.own c.in_market-made.ensures.told c.in_market-made.ensures.later c.market_gate.result.now c.index_mut.result.now
-    c.in_market-made.new.pass (c.market_gate.ensures c.market_gate.result.now) c.index_mut.ensures.value c.in_market-made.ensures.market c.in_market-made.new.wallets.passes.items c.in_market-made.ensures.passes
+    (subst (IsNext (row_of c.args.row.now)) (sym c.seat.view_is) c.requires.row) (subst (IsSeatOf c.args.self.now) (sym c.seat.view_is) c.requires.seat) c.seat.invariant.seat
+    (call_made (c.args.row.now, c.in_market-made.result)) refl c.in_market-made.ensures.own c.in_market-made.ensures.told c.in_market-made.ensures.later
+    c.in_market-made.new.markets.items c.in_market-made.ensures.markets c.in_market-made.new.wallets.passes.items c.in_market-made.ensures.passes
     c.args.seat.now (map call_made c.and-seat-inside.result.items) c.in_market-made.result.reply c.seat.view_is
     (ap (map call_made) c.and-seat-inside.ensures ∙ map-append call_made c.seat.inside.calls.items ((c.args.row.now, c.in_market-made.result) ∷ [])) c.in_market-made.result.told
 

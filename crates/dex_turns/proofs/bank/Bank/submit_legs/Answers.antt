@@ -6,41 +6,34 @@ use Rattle.dex_turns.specs.Inside.{seat_inside}
 use Rattle.dex_turns.specs.declared.stamped_record.StampedRecord.{StampedRecord}
 use Rattle.dex_world.proofs.MappedLists.{All-second}
 use Rattle.dex_turns.proofs.LegSeat as legs
-use Rattle.dex_turns.proofs.LegNames.{legs-name}
 use Rattle.dex_turns.proofs.LegReady.{legs-ready}
 use Rattle.dex_script_types.proofs.PlacedLaws.{market-placed}
-use Rattle.dex_turns.proofs.SeatAfter.{IsAfter, enters-at, first-ahead, passes-kept, row-fits, second-ahead}
+use Rattle.dex_turns.proofs.SeatAfter.{IsAfter, enters-at, first-ahead, passes-kept, second-ahead}
 use Rattle.dex_turns.proofs.bank.Bank.submit_legs.Given as given
 use Rattle.dex_turns.proofs.bank.Bank.submit_legs.Goals.{After-and-seat-inside}
 use Rattle.dex_turns.proofs.bank.Bank.submit_legs.Goals as goal
 
 pub in_markets-made-requires-clause-first : goal.in_markets-made-requires-clause-first
 in_markets-made-requires-clause-first g c =
-    enters-at c.args.self.now (row_of c.args.legs.now.first.now) (seat_inside c.seat.inside) (first-ahead (row_of c.args.legs.now.first.now) (row_of c.args.legs.now.second.now) (seat_inside c.seat.inside) (subst (AreNext (row_of c.args.legs.now.first.now) (row_of c.args.legs.now.second.now)) (sym c.seat.view_is) c.requires.legs)) (subst IsBank c.self.view_is c.self.invariant.bank) (subst (IsSeatOf c.args.self.now) (sym c.seat.view_is) c.requires.seat) c.seat.invariant.seat c.args.legs.now.first_places.now.market
-    (market-placed c.args.self.now.script c.args.legs.now.first.now.market c.args.legs.now.first_places.now.market c.requires.first.market)
+    enters-at c.args.self.now (row_of c.args.legs.now.first.now) (seat_inside c.seat.inside) (first-ahead (row_of c.args.legs.now.first.now) (row_of c.args.legs.now.second.now) (seat_inside c.seat.inside) (subst (AreNext (row_of c.args.legs.now.first.now) (row_of c.args.legs.now.second.now)) (sym c.seat.view_is) c.requires.legs)) (subst IsBank c.self.view_is c.self.invariant.bank) (subst (IsSeatOf c.args.self.now) (sym c.seat.view_is) c.requires.seat) c.seat.invariant.seat c.args.legs.now.first_market
+    (market-placed c.args.self.now.script c.args.legs.now.first.now.market c.args.legs.now.first_market c.requires.first)
 
 pub in_markets-made-requires-clause-second : goal.in_markets-made-requires-clause-second
 in_markets-made-requires-clause-second g c =
-    enters-at c.args.self.now (row_of c.args.legs.now.second.now) (seat_inside c.seat.inside) (second-ahead (row_of c.args.legs.now.first.now) (row_of c.args.legs.now.second.now) (seat_inside c.seat.inside) (subst (AreNext (row_of c.args.legs.now.first.now) (row_of c.args.legs.now.second.now)) (sym c.seat.view_is) c.requires.legs)) (subst IsBank c.self.view_is c.self.invariant.bank) (subst (IsSeatOf c.args.self.now) (sym c.seat.view_is) c.requires.seat) c.seat.invariant.seat c.args.legs.now.second_places.now.market
-    (market-placed c.args.self.now.script c.args.legs.now.second.now.market c.args.legs.now.second_places.now.market c.requires.second.market)
+    enters-at c.args.self.now (row_of c.args.legs.now.second.now) (seat_inside c.seat.inside) (second-ahead (row_of c.args.legs.now.first.now) (row_of c.args.legs.now.second.now) (seat_inside c.seat.inside) (subst (AreNext (row_of c.args.legs.now.first.now) (row_of c.args.legs.now.second.now)) (sym c.seat.view_is) c.requires.legs)) (subst IsBank c.self.view_is c.self.invariant.bank) (subst (IsSeatOf c.args.self.now) (sym c.seat.view_is) c.requires.seat) c.seat.invariant.seat c.args.legs.now.second_market
+    (market-placed c.args.self.now.script c.args.legs.now.second.now.market c.args.legs.now.second_market c.requires.second)
 
 pub in_markets-made-requires-clause-markets : goal.in_markets-made-requires-clause-markets
 in_markets-made-requires-clause-markets g c =
     AllZip-long (IsMarketPass c.seat.inside.lane (map call_made c.seat.inside.calls.items)) c.args.self.now.script.start.markets c.seat.inside.markets.items
-    (passes-kept c.args.self.now (row_of c.args.legs.now.first.now) (seat_inside c.seat.inside) (first-ahead (row_of c.args.legs.now.first.now) (row_of c.args.legs.now.second.now) (seat_inside c.seat.inside) (subst (AreNext (row_of c.args.legs.now.first.now) (row_of c.args.legs.now.second.now)) (sym c.seat.view_is) c.requires.legs)) (subst IsBank c.self.view_is c.self.invariant.bank) (subst (IsSeatOf c.args.self.now) (sym c.seat.view_is) c.requires.seat) c.seat.invariant.seat c.args.legs.now.first_places.now.market
-    (market-placed c.args.self.now.script c.args.legs.now.first.now.market c.args.legs.now.first_places.now.market c.requires.first.market))
+    (passes-kept c.args.self.now (row_of c.args.legs.now.first.now) (seat_inside c.seat.inside) (first-ahead (row_of c.args.legs.now.first.now) (row_of c.args.legs.now.second.now) (seat_inside c.seat.inside) (subst (AreNext (row_of c.args.legs.now.first.now) (row_of c.args.legs.now.second.now)) (sym c.seat.view_is) c.requires.legs)) (subst IsBank c.self.view_is c.self.invariant.bank) (subst (IsSeatOf c.args.self.now) (sym c.seat.view_is) c.requires.seat) c.seat.invariant.seat c.args.legs.now.first_market
+    (market-placed c.args.self.now.script c.args.legs.now.first.now.market c.args.legs.now.first_market c.requires.first))
 
 pub in_markets-made-requires-clause-idle : goal.in_markets-made-requires-clause-idle
 in_markets-made-requires-clause-idle g c =
     All-second (IsMarketPass c.seat.inside.lane (map call_made c.seat.inside.calls.items)) (λ pass. pass.stage ≡ Idle) (λ start pass is. is.idle) c.args.self.now.script.start.markets c.seat.inside.markets.items
-    (passes-kept c.args.self.now (row_of c.args.legs.now.first.now) (seat_inside c.seat.inside) (first-ahead (row_of c.args.legs.now.first.now) (row_of c.args.legs.now.second.now) (seat_inside c.seat.inside) (subst (AreNext (row_of c.args.legs.now.first.now) (row_of c.args.legs.now.second.now)) (sym c.seat.view_is) c.requires.legs)) (subst IsBank c.self.view_is c.self.invariant.bank) (subst (IsSeatOf c.args.self.now) (sym c.seat.view_is) c.requires.seat) c.seat.invariant.seat c.args.legs.now.first_places.now.market
-    (market-placed c.args.self.now.script c.args.legs.now.first.now.market c.args.legs.now.first_places.now.market c.requires.first.market))
-
-pub in_markets-made-requires-clause-named : goal.in_markets-made-requires-clause-named
-in_markets-made-requires-clause-named g c =
-    legs-name (row_of c.args.legs.now.first.now) (row_of c.args.legs.now.second.now) c.requires.legs.legs c.args.self.now.script
-    (row-fits c.args.self.now (row_of c.args.legs.now.first.now) (seat_inside c.seat.inside) (first-ahead (row_of c.args.legs.now.first.now) (row_of c.args.legs.now.second.now) (seat_inside c.seat.inside) (subst (AreNext (row_of c.args.legs.now.first.now) (row_of c.args.legs.now.second.now)) (sym c.seat.view_is) c.requires.legs)) (subst IsBank c.self.view_is c.self.invariant.bank) (subst (IsSeatOf c.args.self.now) (sym c.seat.view_is) c.requires.seat))
-    (row-fits c.args.self.now (row_of c.args.legs.now.second.now) (seat_inside c.seat.inside) (second-ahead (row_of c.args.legs.now.first.now) (row_of c.args.legs.now.second.now) (seat_inside c.seat.inside) (subst (AreNext (row_of c.args.legs.now.first.now) (row_of c.args.legs.now.second.now)) (sym c.seat.view_is) c.requires.legs)) (subst IsBank c.self.view_is c.self.invariant.bank) (subst (IsSeatOf c.args.self.now) (sym c.seat.view_is) c.requires.seat))
+    (passes-kept c.args.self.now (row_of c.args.legs.now.first.now) (seat_inside c.seat.inside) (first-ahead (row_of c.args.legs.now.first.now) (row_of c.args.legs.now.second.now) (seat_inside c.seat.inside) (subst (AreNext (row_of c.args.legs.now.first.now) (row_of c.args.legs.now.second.now)) (sym c.seat.view_is) c.requires.legs)) (subst IsBank c.self.view_is c.self.invariant.bank) (subst (IsSeatOf c.args.self.now) (sym c.seat.view_is) c.requires.seat) c.seat.invariant.seat c.args.legs.now.first_market
+    (market-placed c.args.self.now.script c.args.legs.now.first.now.market c.args.legs.now.first_market c.requires.first))
 
 pub in_markets-made-requires-clause-passes : goal.in_markets-made-requires-clause-passes
 in_markets-made-requires-clause-passes g c =

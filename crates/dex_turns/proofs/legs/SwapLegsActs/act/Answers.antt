@@ -1,65 +1,31 @@
-use Rattle.std.proofs.Common.{◌≡◌, ℕ, Bool, true, ◌&&◌, not, List, refl, sym, ap, ◌∙◌, subst, arith}
-use Rattle.std.specs.List.{All}
-use Rattle.dex_types.specs.declared.addresses.Address.{Address}
-use Rattle.dex_world.proofs.Common.{AllZip, Call, Market, PlainRow, Seen, row_of, row_wallets, seen_by, with_items_is}
-use Rattle.dex_turns.proofs.Common.{CellState, HasCall, HasEntry, MarketCellState, PlainScript, Stamped, call_made, is_among, terms_of}
+use Rattle.std.proofs.Common.{◌≡◌, ℕ, Bool, ◌&&◌, not, List, refl, sym, ap, ◌∙◌, subst, arith}
+use Rattle.dex_world.proofs.Common.{AllZip, Call, Market, PlainRow, Seen, row_of, seen_by, with_items_is}
+use Rattle.dex_turns.proofs.Common.{CellState, HasCall, HasEntry, MarketCellState, PlainScript, Stamped, call_made, terms_of}
 use Rattle.dex_cell.specs.CellState.{market_at}
 use Rattle.dex_history.specs.Journal.{is_done, is_held, is_refused, is_took}
 use Rattle.dex_stamps.specs.declared.stamp.Stamp.{Stamp}
 use Rattle.dex_act.specs.declared.places.WalletPlaces.{WalletPlaces}
-use Rattle.dex_act.specs.declared.sight.Terms.{Terms}
+use Rattle.dex_act.specs.Steps.{Terms}
 use Rattle.dex_act.specs.declared.steps.Legs.{Legs}
 use Rattle.dex_act.specs.Steps.{AreStepsOn, HasWallets, IsTakeOrRefused, made_by, world_in_hand}
 use Rattle.dex_act.specs.Wallets.{ArePlacesAmong}
 use Rattle.dex_turns.specs.Legs.{legs_written}
 use Rattle.dex_turns.specs.Submitted.{written_by_two}
-use Rattle.dex_turns.specs.Turns.{IsTold, leg_wallets}
+use Rattle.dex_turns.specs.Turns.{IsTold, leg_wallets, place_of}
 use Rattle.dex_turns.proofs.Acted.{all-or-none, call-is, has-call, held-is, is-told, leg-waits, refused-is, take-or-refused}
-use Rattle.dex_turns.proofs.InHand.{HasHands, has-hands, has-wallets}
-use Rattle.dex_turns.proofs.LegHands.{legs-entries}
+use Rattle.dex_turns.proofs.InHand.{hands-are, has-hands, has-wallets}
+use Rattle.dex_turns.proofs.LegHands.{legs-at, legs-entries}
 use Rattle.dex_turns.proofs.LegReplies.{done-is, leg-replies, took-is}
-use Rattle.dex_turns.proofs.LegNames.{each-named, first-named, leg-once, second-named}
+use Rattle.dex_turns.proofs.LegNames.{each-named}
+use Rattle.dex_turns.proofs.Rising.{legs-rising}
 use Rattle.dex_turns.proofs.legs.SwapLegsActs.act.Goals as goal
 
 -- ---- before they act
-
--- the wallets of a leg are among the cells in hand
-among : (script : PlainScript) (row : PlainRow) (cells lent : List CellState) → HasHands script row cells → lent ≡ cells
-    → All (λ (address : Address). is_among address lent ≡ true) (row_wallets row)
-among script row cells lent hand is = subst (λ (cs : List CellState). All (λ (address : Address). is_among address cs ≡ true) (row_wallets row)) (sym is) hand.here
-
--- and stand there
-stand : (script : PlainScript) (row : PlainRow) (cells lent held : List CellState) (places : WalletPlaces) → HasHands script row cells → lent ≡ cells → held ≡ cells
-    → ArePlacesAmong lent row places → HasWallets row places held
-stand script row cells lent held places hand is same at =
-    subst (HasWallets row places) (sym same) (has-wallets script row cells hand places (subst (λ (cs : List CellState). ArePlacesAmong cs row places) is at))
 
 -- a leg is a take, or is refused
 take : (script : PlainScript) (row : PlainRow) (market : MarketCellState) (cells : List CellState) (terms : Terms) → terms ≡ terms_of script
     → IsTakeOrRefused (terms_of script) row market cells → IsTakeOrRefused terms row market cells
 take script row market cells terms is told = subst (λ (t : Terms). IsTakeOrRefused t row market cells) (sym is) told
-
-pub places_in-requires : goal.places_in-requires
-places_in-requires g c =
-    let script = c.args.bank.now.script in
-    let first = row_of c.args.self.now.first.now in
-    let second = row_of c.args.self.now.second.now in
-    let legs = c.requires.ready.legs in
-    let cells : List CellState = c.args.hands.now.items in
-    let own = has-hands script first (leg_wallets first second) cells c.requires.hands (leg-once first second legs) (first-named first second legs) in
-    let other = has-hands script second (leg_wallets first second) cells c.requires.hands (leg-once first second legs) (second-named first second legs) in
-    among script first cells c.deref.result.now own c.deref.ensures.value
-
-pub places_in-requires-2 : goal.places_in-requires-2
-places_in-requires-2 g c =
-    let script = c.args.bank.now.script in
-    let first = row_of c.args.self.now.first.now in
-    let second = row_of c.args.self.now.second.now in
-    let legs = c.requires.ready.legs in
-    let cells : List CellState = c.args.hands.now.items in
-    let own = has-hands script first (leg_wallets first second) cells c.requires.hands (leg-once first second legs) (first-named first second legs) in
-    let other = has-hands script second (leg_wallets first second) cells c.requires.hands (leg-once first second legs) (second-named first second legs) in
-    among script second cells c.deref-2.result.now other c.deref-2.ensures.value
 
 pub step_two-one-requires : goal.step_two-one-requires
 step_two-one-requires g c =
@@ -68,22 +34,25 @@ step_two-one-requires g c =
     let second = row_of c.args.self.now.second.now in
     let legs = c.requires.ready.legs in
     let cells : List CellState = c.args.hands.now.items in
-    let own = has-hands script first (leg_wallets first second) cells c.requires.hands (leg-once first second legs) (first-named first second legs) in
-    let other = has-hands script second (leg_wallets first second) cells c.requires.hands (leg-once first second legs) (second-named first second legs) in
+    let hand = has-hands script (leg_wallets first second) cells c.requires.hands (legs-rising first second) in
+    let at = legs-at first second legs c.args.self.now.wallets (place_of script) cells (hands-are script (leg_wallets first second) cells c.requires.hands) c.requires.placed.wallets in
+    let second_at : WalletPlaces → WalletPlaces = λ at. record { coin = at.discount; pc = at.referrer; discount = at.discount; referrer = at.referrer } in
     record {
       first_may = record {
         on = c.requires.ready.first_may.on;
         lane = c.requires.ready.first_may.lane;
         above = omega (arith, c.requires.below, c.next-one_stamp.ensures);
         wallets =
-            stand script first cells c.deref.result.now c.deref_mut.result.now c.places_in.result own c.deref.ensures.value c.deref_mut.ensures.value c.places_in.ensures;
+            subst (HasWallets first c.in_hand-at.result) (sym c.deref_mut.ensures.value)
+            (has-wallets script first cells hand c.in_hand-at.result (subst (ArePlacesAmong cells first) (sym c.in_hand-at.ensures) at.0));
       };
       second_may = record {
         on = c.requires.ready.second_may.on;
         lane = c.requires.ready.second_may.lane;
         above = omega (arith, c.requires.below, c.next-one_stamp.ensures);
         wallets =
-            stand script second cells c.deref-2.result.now c.deref_mut.result.now c.places_in-2.result other c.deref-2.ensures.value c.deref_mut.ensures.value c.places_in-2.ensures;
+            subst (HasWallets second (second_at c.in_hand-at.result)) (sym c.deref_mut.ensures.value)
+            (has-wallets script second cells hand (second_at c.in_hand-at.result) (subst (ArePlacesAmong cells second) (ap second_at (sym c.in_hand-at.ensures)) at.1));
       };
       share = legs.apart;
       first_take =
@@ -103,15 +72,18 @@ returns-clause-did g c =
     let second = row_of c.args.self.now.second.now in
     let legs = c.requires.ready.legs in
     let cells : List CellState = c.args.hands.now.items in
-    let own = has-hands script first (leg_wallets first second) cells c.requires.hands (leg-once first second legs) (first-named first second legs) in
-    let other = has-hands script second (leg_wallets first second) cells c.requires.hands (leg-once first second legs) (second-named first second legs) in
+    let hand = has-hands script (leg_wallets first second) cells c.requires.hands (legs-rising first second) in
     let m : Market = market_at c.args.markets.now.first.cell in
     let n : Market = market_at c.args.markets.now.second.cell in
     let dones = c.step_two-one.result in
     let stamp = c.next-one_stamp.result.number in
+    let at : WalletPlaces = c.in_hand-at.result in
     let rows : Legs = record {
-      first = record { row = c.args.self.now.first; places = c.places_in.result };
-      second = record { row = c.args.self.now.second; places = c.places_in-2.result };
+      first = record { row = c.args.self.now.first; places = at };
+      second = record {
+        row = c.args.self.now.second;
+        places = record { coin = at.discount; pc = at.referrer; discount = at.discount; referrer = at.referrer };
+      };
     } in
     let both = subst
     (λ (ws : List CellState). AreStepsOn c.terms.result.now rows dones c.args.markets.now.first.cell c.step_two-one.new.first.cell c.args.markets.now.second.cell
@@ -151,10 +123,10 @@ returns-clause-did g c =
           refl refl;
       told = (
         subst (IsTold script) (sym one_call)
-            (is-told script first cells one_seen own (both.one.seen ∙ ap (λ (terms : Terms). seen_by first (world_in_hand terms cells)) c.terms.ensures.terms) both.one.sees
+            (is-told script first cells one_seen hand (both.one.seen ∙ ap (λ (terms : Terms). seen_by first (world_in_hand terms cells)) c.terms.ensures.terms) both.one.sees
             one_waits m stamp),
         subst (IsTold script) (sym two_call)
-            (is-told script second cells two_seen other (both.two_seen ∙ ap (λ (terms : Terms). seen_by second (world_in_hand terms cells)) c.terms.ensures.terms) both.two.sees
+            (is-told script second cells two_seen hand (both.two_seen ∙ ap (λ (terms : Terms). seen_by second (world_in_hand terms cells)) c.terms.ensures.terms) both.two.sees
             two_waits n stamp),
       );
       first =
@@ -174,15 +146,17 @@ returns-clause-hands g c =
     let second = row_of c.args.self.now.second.now in
     let legs = c.requires.ready.legs in
     let cells : List CellState = c.args.hands.now.items in
-    let own = has-hands script first (leg_wallets first second) cells c.requires.hands (leg-once first second legs) (first-named first second legs) in
-    let other = has-hands script second (leg_wallets first second) cells c.requires.hands (leg-once first second legs) (second-named first second legs) in
     let m : Market = market_at c.args.markets.now.first.cell in
     let n : Market = market_at c.args.markets.now.second.cell in
     let dones = c.step_two-one.result in
     let stamp = c.next-one_stamp.result.number in
+    let at : WalletPlaces = c.in_hand-at.result in
     let rows : Legs = record {
-      first = record { row = c.args.self.now.first; places = c.places_in.result };
-      second = record { row = c.args.self.now.second; places = c.places_in-2.result };
+      first = record { row = c.args.self.now.first; places = at };
+      second = record {
+        row = c.args.self.now.second;
+        places = record { coin = at.discount; pc = at.referrer; discount = at.discount; referrer = at.referrer };
+      };
     } in
     let both = subst
     (λ (ws : List CellState). AreStepsOn c.terms.result.now rows dones c.args.markets.now.first.cell c.step_two-one.new.first.cell c.args.markets.now.second.cell
