@@ -203,7 +203,7 @@ uint8_t dex_market_check(const dex_market *market, dex_flaw *flaw);
 
 /* Checks the market and then the wallets that are named, counts what is pending, and does what dex_process does. It
  * returns DEX_OK, and *reply is the reply; or DEX_DUMP_REFUSED, and *flaw is the first flaw; or DEX_NO_MEMORY. Of the
- * last two no account, no wallet and no sum was changed, and *reply is all 0. */
+ * last two no byte of the market, its sums and the wallets was changed, and *reply is all 0. */
 uint8_t dex_process_checked(dex_market *market, dex_wallets *wallets, const dex_instruction *instruction, dex_flaw *flaw,
                             dex_reply *reply);
 

@@ -38,8 +38,9 @@ name_at words place = address_of (slice_index_or words place [])
 -- the addresses that sixteen words are
 abbrev pub names_in : List (List ℕ) → List Address
 names_in words =
-    name_at words 0 ∷ name_at words 1 ∷ name_at words 2 ∷ name_at words 3 ∷ name_at words 4 ∷ name_at words 5 ∷ name_at words 6 ∷ name_at words 7
-    ∷ name_at words 8 ∷ name_at words 9 ∷ name_at words 10 ∷ name_at words 11 ∷ name_at words 12 ∷ name_at words 13 ∷ name_at words 14 ∷ name_at words 15 ∷ []
+    name_at words 0 ∷ name_at words 1 ∷ name_at words 2 ∷ name_at words 3 ∷ name_at words 4 ∷ name_at words 5
+    ∷ name_at words 6 ∷ name_at words 7 ∷ name_at words 8 ∷ name_at words 9 ∷ name_at words 10 ∷ name_at words 11
+    ∷ name_at words 12 ∷ name_at words 13 ∷ name_at words 14 ∷ name_at words 15 ∷ []
 
 -- an address, where there is one
 abbrev pub address_where : ℕ → List ℕ → Option Address
@@ -59,7 +60,12 @@ slot_in number =
 
 -- the wallets that an instruction names under its roles
 abbrev pub roles_in : Instruction → Roles
-roles_in i = record { coin = slot_in i.coin; pc = slot_in i.pc; discount = slot_in i.discount; referrer = slot_in i.referrer }
+roles_in i = record {
+  coin = slot_in i.coin;
+  pc = slot_in i.pc;
+  discount = slot_in i.discount;
+  referrer = slot_in i.referrer;
+}
 
 -- what holds for all instructions
 abbrev pub terms_in : Instruction → Terms
@@ -72,13 +78,13 @@ terms_in i = record {
 -- the accounts, the wallets and the sums that are lent
 abbrev pub accounts_of : MarketBytes → PlainMarketAccounts
 accounts_of m =
-    accounts_with (address_of m.address) (address_of m.authority) m.market.now m.coin_vault.now m.pc_vault.now m.requests.now m.events.now
-    m.bids.now m.asks.now (accounts_in m.orders.now)
+    accounts_with (address_of m.address) (address_of m.authority) m.market.now m.coin_vault.now m.pc_vault.now
+    m.requests.now m.events.now m.bids.now m.asks.now (accounts_in m.orders.now)
 
 abbrev pub purse_of : WalletsBytes → Purse
 purse_of w =
-    purse_with (address_of w.first_address) w.first.now (address_of w.second_address) w.second.now (address_of w.third_address) w.third.now
-    (address_of w.fourth_address) w.fourth.now
+    purse_with (address_of w.first_address) w.first.now (address_of w.second_address) w.second.now
+    (address_of w.third_address) w.third.now (address_of w.fourth_address) w.fourth.now
 
 abbrev pub acting_on : MarketBytes → WalletsBytes → Acting
 acting_on m w = acting (accounts_of m) (purse_of w) (sums_of m.pending_coin m.pending_pc)
@@ -94,11 +100,17 @@ pub record CanProcess (roles : Roles) (m : MarketBytes) (w : WalletsBytes) : Typ
 -- what was asked was done on what is lent, or refused
 abbrev pub HasAnswered : Roles → Terms → Ask → Reply → MarketBytes → WalletsBytes → MarketBytes → WalletsBytes → Type 0
 HasAnswered roles terms ask reply m w after moved =
-    HasProcessed roles reply (acting_on m w) (acting_on after moved) (step_of ask (seen_by roles terms (purse_of w)) (accounts_of m))
+    HasProcessed roles reply (acting_on m w) (acting_on after moved)
+    (step_of ask (seen_by roles terms (purse_of w)) (accounts_of m))
 
 -- what an instruction asks, of accounts of these addresses
 abbrev pub request_by : Instruction → List Address → Request
-request_by i named = record { instruction = decoded i.data.now; signer = address_of i.signer; named = named; now = i.clock }
+request_by i named = record {
+  instruction = decoded i.data.now;
+  signer = address_of i.signer;
+  named = named;
+  now = i.clock;
+}
 
 -- what an instruction asks
 abbrev pub request_in : Instruction → Request

@@ -175,7 +175,8 @@ fn ask_in<'a>(instruction: &'a Instruction<'_>, named: &'a [Address]) -> Ask<'a>
     }
 }
 
-/// What `process` does, on what a caller in C lends, of an instruction that names no more accounts than there is room for.
+/// What `process` does, on what a caller in C lends, of an instruction that names no more accounts than there is room
+/// for.
 fn process_named(
     market: &mut MarketBytes<'_>,
     wallets: &mut WalletsBytes<'_>,

@@ -266,6 +266,7 @@ pub extern "C" fn dex_process_checked(
     ensures ends { EndsChecked instruction.entry.now result flaw.new reply.new market.old wallets.old
         market.new wallets.new }
     ensures places { KeepsPlaces market.old wallets.old market.new wallets.new }
+    ensures alone { (result ≡ 0) ⊎ ((market.new ≡ market.old) × (wallets.new ≡ wallets.old)) }
 {
     dex_abi::process_checked_in(alloc, market, wallets, instruction, flaw, reply)
 }
