@@ -1,5 +1,5 @@
-//! The commands on one thread as functions of bytes, for callers that have the memory for what a command answers; and an
-//! instruction on the accounts of a market, with their check.
+//! The commands on one thread as functions of bytes, for callers that have the memory for what a command answers; and
+//! an instruction on the accounts of a market, with their check.
 #![tactic(auto)]
 
 mod calling;
