@@ -41,19 +41,25 @@ abbrev pub counted_on : MarketBytes → WalletsBytes → Acting
 counted_on m w = acting (accounts_of m) (purse_of w) (pending_fills_of (market_in (accounts_of m)).events)
 
 -- the accounts and the wallets have no flaw, and the instruction was done on them or refused
-pub record IsDone (i : Instruction) (number : ℕ) (numbers : FlawNumbers) (reply : ReplyNumbers) (m : MarketBytes) (w : WalletsBytes) (left : Acting) : Type 0 where
+pub record IsDone (i : Instruction) (number : ℕ) (numbers : FlawNumbers) (reply : ReplyNumbers) (m : MarketBytes)
+    (w : WalletsBytes) (left : Acting) : Type 0 where
   pub number_is : number ≡ 0
   pub numbers_are : numbers ≡ no_flaw
   pub can : CanAct (roles_in i) (accounts_of m) (purse_of w)
   pub ends : EndsOn i reply (counted_on m w) left
 
 -- nothing was done: a flaw is told, or memory was wanting
-pub record IsLeftAlone (i : Instruction) (number : ℕ) (numbers : FlawNumbers) (reply : ReplyNumbers) (m : MarketBytes) (w : WalletsBytes) (left : Acting) : Type 0 where
-  pub why : IsFlawed number numbers (λ told. TellsBoth told (roles_in i) (accounts_of m) (purse_of w)) ⊎ HasNoMemory number numbers
+pub record IsLeftAlone (i : Instruction) (number : ℕ) (numbers : FlawNumbers) (reply : ReplyNumbers) (m : MarketBytes)
+    (w : WalletsBytes) (left : Acting) : Type 0 where
+  pub why :
+      IsFlawed number numbers (λ told. TellsBoth told (roles_in i) (accounts_of m) (purse_of w))
+      ⊎ HasNoMemory number numbers
   pub reply_is : reply ≡ blank
   pub same : left ≡ acting_on m w
 
 -- how it ends
-abbrev pub EndsChecked : Instruction → ℕ → FlawNumbers → ReplyNumbers → MarketBytes → WalletsBytes → MarketBytes → WalletsBytes → Type 0
+abbrev pub EndsChecked : Instruction → ℕ → FlawNumbers → ReplyNumbers → MarketBytes → WalletsBytes → MarketBytes
+    → WalletsBytes → Type 0
 EndsChecked i number numbers reply m w after moved =
-    IsDone i number numbers reply m w (acting_on after moved) ⊎ IsLeftAlone i number numbers reply m w (acting_on after moved)
+    IsDone i number numbers reply m w (acting_on after moved)
+    ⊎ IsLeftAlone i number numbers reply m w (acting_on after moved)

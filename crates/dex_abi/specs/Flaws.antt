@@ -18,12 +18,26 @@ no_flaw =
 -- an account's fault
 abbrev pub fault_numbers : Address → AccountFault → FlawNumbers
 fault_numbers account fault =
-    record { what = 1; kind = fault.kind; place = fault.place; found = wide fault.found; wanted = wide fault.wanted; account = account.0 }
+    record {
+      what = 1;
+      kind = fault.kind;
+      place = fault.place;
+      found = wide fault.found;
+      wanted = wide fault.wanted;
+      account = account.0;
+    }
 
 -- a finding
 abbrev pub finding_numbers : Finding → FlawNumbers
 finding_numbers finding =
-    record { what = 3; kind = finding.kind; place = finding.place; found = wide finding.found; wanted = wide finding.wanted; account = finding.account.0 }
+    record {
+      what = 3;
+      kind = finding.kind;
+      place = finding.place;
+      found = wide finding.found;
+      wanted = wide finding.wanted;
+      account = finding.account.0;
+    }
 
 -- an address that two accounts have
 abbrev pub twice_numbers : Address → FlawNumbers

@@ -83,7 +83,8 @@ purse_of w =
 abbrev pub acting_on : MarketBytes → WalletsBytes → Acting
 acting_on m w = acting (accounts_of m) (purse_of w) (sums_of m.pending_coin m.pending_pc)
 
--- the accounts stand for a sound market, the named wallets are token accounts of distinct addresses, and the sums are those of the queue
+-- the accounts stand for a sound market, the named wallets are token accounts of distinct addresses, and the sums are
+-- those of the queue
 pub record CanProcess (roles : Roles) (m : MarketBytes) (w : WalletsBytes) : Type 0 where
   pub sound : AreSound (accounts_of m)
   pub wallets : AreWallets roles (purse_of w)
@@ -118,7 +119,8 @@ EndsOn i numbers before after =
     ⊎ ((16 < i.named_count) × (numbers ≡ too_many) × (after ≡ before))
 
 -- the same, of what is lent
-abbrev pub HasProcessedIn : Instruction → ReplyNumbers → MarketBytes → WalletsBytes → MarketBytes → WalletsBytes → Type 0
+abbrev pub HasProcessedIn : Instruction → ReplyNumbers → MarketBytes → WalletsBytes → MarketBytes → WalletsBytes
+    → Type 0
 HasProcessedIn i numbers m w after moved = HasProcessedOn i numbers (acting_on m w) (acting_on after moved)
 
 abbrev pub EndsIn : Instruction → ReplyNumbers → MarketBytes → WalletsBytes → MarketBytes → WalletsBytes → Type 0

@@ -72,8 +72,8 @@ fn flaw_of(
     check_both(alloc, &market, &wallets, &roles)
 }
 
-/// Whether the bytes are the accounts of a sound market: 0 where they are; 3, and their first flaw; or 7 where memory is
-/// wanting.
+/// Whether the bytes are the accounts of a sound market: 0 where they are; 3, and their first flaw; or 7 where memory
+/// is wanting.
 pub fn check_in(alloc: Global, market: &MarketBytes<'_>, flaw: &mut FlawNumbers) -> u8
     ensures { EndsCheck result flaw.new (lent.accounts_of market.now) }
 {
@@ -109,9 +109,9 @@ fn process_counted(
     process_in(market, wallets, instruction)
 }
 
-/// What `process` does, for who vouches for no byte: the market is checked, and then the wallets that are named; what is
-/// pending is counted; and the instruction is done. 0 where they have no flaw, and its reply; 3, and the first flaw; or 7
-/// where memory is wanting. Of the last two nothing was changed, and the reply is all 0.
+/// What `process` does, for who vouches for no byte: the market is checked, and then the wallets that are named; what
+/// is pending is counted; and the instruction is done. 0 where they have no flaw, and its reply; 3, and the first flaw;
+/// or 7 where memory is wanting. Of the last two no account was changed, and the reply is all 0.
 pub fn process_checked_in(
     alloc: Global,
     market: &mut MarketBytes<'_>,

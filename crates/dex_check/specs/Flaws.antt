@@ -17,8 +17,8 @@ use Rattle.dex_check.specs.declared.market_slices.MarketSlices.{MarketSlices}
 -- the accounts of a market that a caller has
 abbrev pub accounts_of : MarketSlices → PlainMarketAccounts
 accounts_of m =
-    accounts_with m.address m.authority m.market.now m.coin_vault.now m.pc_vault.now m.requests.now m.events.now m.bids.now m.asks.now
-    (accounts_in m.orders.now)
+    accounts_with m.address m.authority m.market.now m.coin_vault.now m.pc_vault.now m.requests.now m.events.now
+    m.bids.now m.asks.now (accounts_in m.orders.now)
 
 -- no two of these accounts have one address
 abbrev pub AreOnce : List PlainAccount → Type 0
@@ -40,4 +40,5 @@ abbrev pub Tells : Option Flaw → PlainMarketAccounts → Type 0
 Tells None accounts = IsAccepted accounts × AreSound accounts
 Tells (Some (Fault account fault)) accounts = FirstFails (market_checks accounts) account fault
 Tells (Some (Twice address)) accounts = IsAccepted accounts × (2 ≤ times address (map address_of accounts.orders))
-Tells (Some (Found finding)) accounts = IsAccepted accounts × AreOnce accounts.orders × TellsFound (Some finding) accounts
+Tells (Some (Found finding)) accounts =
+    IsAccepted accounts × AreOnce accounts.orders × TellsFound (Some finding) accounts

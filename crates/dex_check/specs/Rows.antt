@@ -25,4 +25,5 @@ AreOfRows world _ _ = ⊥
 abbrev pub replies_at : Address → List MarketState → List Reply
 replies_at address [] = []
 replies_at address (state ∷ states) =
-    if is_same address state.market.listing.address then map (λ (entry : Entry). entry.reply) state.entries else replies_at address states
+    if is_same address state.market.listing.address then map (λ (entry : Entry). entry.reply) state.entries
+    else replies_at address states

@@ -17,11 +17,13 @@ use Rattle.dex_check.specs.declared.market_slices.WalletSlices.{WalletSlices}
 -- the wallets that a caller has
 abbrev pub purse_of : WalletSlices → Purse
 purse_of w =
-    purse_with w.first_address w.first.now w.second_address w.second.now w.third_address w.third.now w.fourth_address w.fourth.now
+    purse_with w.first_address w.first.now w.second_address w.second.now w.third_address w.third.now w.fourth_address
+    w.fourth.now
 
 -- a place is named under some role
 abbrev pub is_named : Slot → Roles → Bool
-is_named slot roles = names slot roles.coin || names slot roles.pc || names slot roles.discount || names slot roles.referrer
+is_named slot roles =
+    names slot roles.coin || names slot roles.pc || names slot roles.discount || names slot roles.referrer
 
 -- the flaw of an account of this address
 abbrev pub fault_at : Address → AccountFault → Flaw
@@ -42,18 +44,21 @@ flaw_at slot roles purse = wallet_flaw (is_named slot roles) (wallet_at slot pur
 -- the flaw of two places
 abbrev pub flaw_of_both : Slot → Slot → Roles → Purse → Option Flaw
 flaw_of_both one other roles purse =
-    twice_flaw (is_named one roles && is_named other roles) (wallet_at one purse).address (wallet_at other purse).address
+    twice_flaw (is_named one roles && is_named other roles) (wallet_at one purse).address
+    (wallet_at other purse).address
 
 -- the first place that is no token account
 abbrev pub first_fault : Roles → Purse → Option Flaw
 first_fault roles purse =
-    option_or (option_or (option_or (flaw_at First roles purse) (flaw_at Second roles purse)) (flaw_at Third roles purse)) (flaw_at Fourth roles purse)
+    option_or (option_or (option_or (flaw_at First roles purse) (flaw_at Second roles purse)) (flaw_at Third roles purse))
+    (flaw_at Fourth roles purse)
 
 -- the first two places that have one address
 abbrev pub first_twice : Roles → Purse → Option Flaw
 first_twice roles purse =
-    option_or (option_or (option_or (option_or (option_or (flaw_of_both First Second roles purse) (flaw_of_both First Third roles purse))
-    (flaw_of_both Second Third roles purse)) (flaw_of_both First Fourth roles purse)) (flaw_of_both Second Fourth roles purse))
+    option_or (option_or (option_or (option_or (option_or
+    (flaw_of_both First Second roles purse) (flaw_of_both First Third roles purse)) (flaw_of_both Second Third roles purse))
+    (flaw_of_both First Fourth roles purse)) (flaw_of_both Second Fourth roles purse))
     (flaw_of_both Third Fourth roles purse)
 
 -- the first flaw of the wallets that are named: of one, and then of two

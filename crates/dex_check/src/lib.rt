@@ -1,4 +1,5 @@
-//! Whether the bytes that a caller has are the accounts of a sound market, and token accounts; and an instruction on them.
+//! Whether the bytes that a caller has are the accounts of a sound market, and token accounts; and an instruction on
+//! them.
 #![tactic(auto)]
 
 mod both;

@@ -3,8 +3,8 @@
 use dex_types::Address;
 
 /// All accounts of one market. `address` is the market's own; `authority` is the person who signs for it, and stands in
-/// no account; `orders` are the open-orders accounts one after another, each as 32 bytes of its address and 3,228 of its
-/// data. Bytes behind the last whole one are none's.
+/// no account; `orders` are the open-orders accounts one after another, each as 32 bytes of its address and 3,228 of
+/// its data. Bytes behind the last whole one are none's.
 #[derive(Clone, Copy)]
 pub struct MarketSlices<'a> {
     pub address: Address,
