@@ -84,11 +84,13 @@ uint8_t dex_chained_wide(uint32_t rows, const uint8_t *script, size_t length, ui
 
 /* ---- one instruction on the account bytes of one market, in place, as a ledger's program does it
  *
- * What the caller is trusted with beside the points above: the accounts were found sound by an audit (of a dump that
- * has them), or left by dex_process, and nobody else changed them; `orders` has whole accounts; each wallet that is
+ * What the caller of dex_process is trusted with beside the points above: the accounts were found sound by
+ * dex_market_check, or left by dex_process, and nobody else changed them; `orders` has whole accounts; each wallet that is
  * named is a token account of 165 bytes, no two have one address, and none lies in another place of the call; the sums
- * are those of dex_pending, or left by dex_process. None of these calls takes memory but dex_reply_text. dex_pending
- * reads the events that are pending; dex_process looks for an open-orders account from the first on. */
+ * are those of dex_pending, or left by dex_process. dex_pending wants an event queue that is accepted, as that of such
+ * a market is. dex_market_check and dex_process_checked trust with none of this: any bytes will do. They copy the
+ * accounts, and take memory, as dex_reply_text does; the others take none. dex_pending reads the events that are
+ * pending; dex_process looks for an open-orders account from the first on. */
 
 typedef struct {
   uint8_t bytes[32];
@@ -174,6 +176,35 @@ void dex_pending(dex_market *market);
 
 /* Does an instruction on the accounts, or refuses it and changes nothing but *reply. It returns reply->kind. */
 uint8_t dex_process(dex_market *market, dex_wallets *wallets, const dex_instruction *instruction, dex_reply *reply);
+
+/* What is wrong with accounts: the first thing that is. Accounts come first, in the order of a dump (the market, its
+ * vaults, queues and sides, its open-orders accounts); then whether two open-orders accounts have one address; then the
+ * rules of an audit, but for that of mints; then, of dex_process_checked, the wallets. */
+enum {
+  DEX_SOUND = 0,  /* nothing */
+  DEX_FAULT = 1,  /* an account is not accepted: a dump with it is refused with this `kind` (2 to 10), `place`, .. */
+  DEX_TWICE = 2,  /* two open-orders accounts, or two wallets that are named, have the address `account` */
+  DEX_FINDING = 3 /* an audit finds this: `kind` is the number of the rule (1 to 11, or 13) */
+};
+
+/* A flaw. The fields are those of the dump's or the audit's line (docs/FORMATS.md); one that is not named for its
+ * `what` is 0. */
+typedef struct {
+  uint8_t what, kind;
+  uint32_t place;
+  dex_u128 found, wanted;
+  dex_address account;
+} dex_flaw;
+
+/* Whether the bytes are the accounts of a sound market, as dex_process wants them. It returns DEX_OK; or
+ * DEX_DUMP_REFUSED, and *flaw is the first flaw; or DEX_NO_MEMORY. The sums are not looked at. */
+uint8_t dex_market_check(const dex_market *market, dex_flaw *flaw);
+
+/* Checks the market and then the wallets that are named, counts what is pending, and does what dex_process does. It
+ * returns DEX_OK, and *reply is the reply; or DEX_DUMP_REFUSED, and *flaw is the first flaw; or DEX_NO_MEMORY. Of the
+ * last two nothing was changed but *flaw and *reply, which is all 0. */
+uint8_t dex_process_checked(dex_market *market, dex_wallets *wallets, const dex_instruction *instruction, dex_flaw *flaw,
+                            dex_reply *reply);
 
 /* What a report says of a reply, such as `ok cancelled 2`: DEX_OK, or DEX_NO_MEMORY. */
 uint8_t dex_reply_text(const dex_reply *reply, uint8_t *room, size_t room_size, size_t *size);

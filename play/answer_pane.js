@@ -39,6 +39,7 @@ export class AnswerPane {
     this.last = null;
     this.left = {};
     this.kept = new Kept();
+    this.beside = runner.beside();
     this.words = new Map();
     this.commandHolder = element('span', { class: 'command' });
     this.numbers = element('span', { class: 'numbers' });
@@ -108,7 +109,12 @@ export class AnswerPane {
     await this.show(command, answer, source, round);
     if (round !== this.round) return;
     this.working.end();
-    if (command.name === 'replay') this.kept.prepare((bytes) => this.runner.call({ call: command.call, numbers, bytes }));
+    if (command.name === 'replay') this.prepare(command.call);
+  }
+
+  // Keeps the front of a long script, by a worker of its own; where that fails, none is kept.
+  prepare(call) {
+    this.kept.prepare((bytes) => this.beside.call({ call, numbers: [], bytes })).catch(() => { this.kept = new Kept(); });
   }
 
   // What numbers are wanted.

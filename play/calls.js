@@ -16,8 +16,8 @@ function firstRoom(take, length, asked) {
   return place === 0 ? [take(usual), usual] : [place, asked];
 }
 
-// An instance with a memory of its own of so many pages at most.
-function instanceOf(module, mostPages) {
+/** An instance with a memory of its own of so many pages at most. */
+export function instanceOf(module, mostPages) {
   const memory = new WebAssembly.Memory({ initial: FIRST_PAGES, maximum: mostPages });
   const { exports } = new WebAssembly.Instance(module, { env: { memory } });
   return { memory, exports, take: (size) => Number(BigInt.asUintN(32, exports.play_alloc(BigInt(size)))) };

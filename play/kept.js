@@ -12,7 +12,7 @@ const LONGEST_DUMP = 8;
 // A script has so many instruction rows at most.
 const MOST_ROWS = 100000;
 // How many fronts are kept, each longer than the one before it.
-const MOST_FRONTS = 6;
+const MOST_FRONTS = 3;
 
 function textOf(bytes) { return new TextDecoder('utf-8', { ignoreBOM: true }).decode(bytes); }
 
@@ -114,8 +114,9 @@ export class Kept {
     // The script that was answered last, and where the row stands that was changed in it; 0 where it was not answered in parts.
     this.last = '';
     this.cut = 0;
-    // How long the last dump was that a front left.
+    // How long the last dump was that a front left, and whether one is made.
     this.dumpLength = 0;
+    this.isPreparing = false;
   }
 
   // The longest front that a script begins with; those that it does not begin with are forgotten.
@@ -144,18 +145,33 @@ export class Kept {
     return whole === null ? call(bytes) : whole;
   }
 
-  /** Replays the front up to the row that was changed last, so that the next change there is answered soon. Stopped, it kept nothing. */
-  async prepare(call) {
-    const { last, cut, shortest } = this;
+  // Where the front should end that the next change wants; 0 where what is kept serves as well.
+  get wantedCut() {
+    const { last, cut, shortest, longestDump } = this;
     const front = this.frontOf(last);
     const saved = front === null ? cut : cut - front.text.length;
-    if (saved < shortest || 2 * saved < last.length - cut || this.dumpLength > this.longestDump * cut) return;
-    const text = last.slice(0, cut);
+    const isWanted = saved >= shortest && 2 * saved >= last.length - cut && this.dumpLength <= longestDump * cut;
+    return isWanted && !this.isPreparing ? cut : 0;
+  }
+
+  /** Replays the front up to the row that was changed last, so that the next change there is answered soon. Stopped, it kept nothing. */
+  async prepare(call) {
+    const cut = this.wantedCut;
+    if (cut === 0) return;
+    const text = this.last.slice(0, cut);
+    const front = this.frontOf(text);
+    this.isPreparing = true;
     const answer = await call(bytesOf(front === null ? text : front.scriptFor(text)));
-    if (answer.status !== 0 || last !== this.last) return;
-    const made = new Front(text, front === null ? textOf(answer.text) : front.joined(textOf(answer.text)));
+    this.isPreparing = false;
+    if (answer.status !== 0 || !this.last.startsWith(text)) return;
+    const report = textOf(answer.text);
+    this.keep(new Front(text, front === null ? report : front.joined(report)));
+  }
+
+  // Keeps a front that is worth it, in the place of those that are longer.
+  keep(made) {
     this.dumpLength = made.begin.length;
-    if (made.rows > 0 && this.dumpLength <= this.longestDump * cut) this.fronts.push(made);
-    if (this.fronts.length > MOST_FRONTS) this.fronts.shift();
+    if (made.rows === 0 || this.dumpLength > this.longestDump * made.text.length) return;
+    this.fronts = [...this.fronts.filter(({ text }) => text.length < made.text.length), made].slice(-MOST_FRONTS);
   }
 }

@@ -22,6 +22,13 @@ export class Runner {
     this.finish = null;
   }
 
+  /** One with a worker of its own, whose calls this one's do not stop. */
+  beside() {
+    const other = Object.assign(Object.create(Runner.prototype), { url: this.url, worker: null, finish: null });
+    other.ready = this.ready.then(() => { other.module = this.module; });
+    return other;
+  }
+
   /** Calls a command; a call that still runs is stopped before. The answer has status and text; `fault` where the module broke off. */
   async call(asked) {
     await this.ready;

@@ -86,8 +86,9 @@ class Market:
     50
 
     `parts` are the accounts by name, `orders` all open-orders accounts, `wallets` the token accounts by address:
-    bytearrays, to be read and not written. An open-orders account is looked for from the first on. What is proved is
-    what `dex_process` does to the bytes; see docs/LIBRARY.md.
+    bytearrays, to be read and not written but before `check` and `process_checked`. A market is for one thread at a
+    time, and so are markets that share wallets. An open-orders account is looked for from the first on. What is proved
+    is what `dex_process` does to the bytes; see docs/LIBRARY.md.
     """
 
     def __init__(self, dump: Text, address: str | None = None, *, program: str = 'serum', clock: int = 0,
@@ -262,14 +263,16 @@ class Market:
         return reply_of(REPLY.unpack_from(self._reply))
 
     def check(self) -> Flaw | None:
-        """What is wrong with the market's bytes, the first of it; None where they are those of a sound market.
-        Wallets are not looked at.
+        """What is wrong with the market's bytes, the first of it; None where they are those of a sound market: then
+        what is pending is counted anew, and `process` may go on. Wallets are not looked at.
 
         Raises OutOfMemory.
         """
         status = library().dex_market_check(self._pointers[0], self._place(self._flaw))
         if status not in (0, 3):
             raise self._refused(status)
+        if status == 0:
+            library().dex_pending(self._pointers[0])
         return flaw_of(FLAW.unpack_from(self._flaw)) if status else None
 
     def _refused(self, status: int) -> DexError:

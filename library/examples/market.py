@@ -7,18 +7,13 @@ From the top of the repository: PYTHONPATH=library python3 library/examples/mark
 import daisyhook
 from daisyhook import data
 
-START = """mint,coin,6
-mint,usd,6
-wallet,ann_coin,coin,ann,1000
-wallet,ann_usd,usd,ann,0
-wallet,bob_coin,coin,bob,0
-wallet,bob_usd,usd,bob,5000
-market,m,coin,usd,admin,63,63,64,AAAAAABkAAAAAAAAAAoAAAAAAAAAAAAAAAAAAAAAAAEAAAAAAAAA
-orders,m,amy
-orders,m,ben
-"""
+WALLETS = {
+    'ann_coin': ('coin', 'ann', 1000), 'ann_usd': ('usd', 'ann', 0),
+    'bob_coin': ('coin', 'bob', 0), 'bob_usd': ('usd', 'bob', 5000),
+}
 
-market = daisyhook.Market(daisyhook.dump(START))
+market = daisyhook.Market.new(pc='usd', coin_lot=100, pc_lot=10, nodes=63, events=64, accounts=['amy', 'ben'],
+                              wallets=WALLETS)
 for person, account in (('ann', 'amy'), ('bob', 'ben')):
     print(market.process(person, data.init(), named=[account]))
 

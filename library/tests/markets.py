@@ -129,6 +129,34 @@ def try_limits() -> None:
     same('its dump', daisyhook.Market(market.dump(), limits=daisyhook.WIDE).open_orders('a99').owner, 'ann')
 
 
+# Of each planted fault the part and the place of the byte that is one less.
+PLANTED = ('a vault short by 1', 'coin_vault', 64), ('a flag', 'events', 5), ('a key of a side', 'asks', 53), ('padding', 'market', 0)
+
+
+def planted(market: daisyhook.Market, part: str, place: int) -> daisyhook.Market:
+    """A copy of a market with one byte one less."""
+    other = market.copy()
+    other.parts[part][place] = (other.parts[part][place] - 1) % 256
+    return other
+
+
+def audited(dump: bytes) -> daisyhook.Flaw | None:
+    """What an audit of a dump tells first."""
+    try:
+        return next((daisyhook.Flaw('finding', one.kind, one.account, one.place, one.found, one.wanted) for one in daisyhook.audit(dump)), None)
+    except daisyhook.DumpRefused as refusal:
+        return daisyhook.Flaw('fault', refusal.kind, refusal.account, refusal.place, refusal.found, refusal.wanted)
+
+
+def try_audits() -> None:
+    """Each planted fault is one that an audit of the dump tells."""
+    market = two_traders()
+    same('an audit of a sound market', audited(market.dump()), None)
+    for what, part, place in PLANTED:
+        flaw = audited(planted(market, part, place).dump())
+        same(f'{what}: an audit tells it', flaw is None, False)
+
+
 def try_checks() -> None:
     """A market is sound at first and behind each instruction; of changed bytes the flaw is told, and nothing is done."""
     market = two_traders()
@@ -136,12 +164,10 @@ def try_checks() -> None:
     same('a sound market', market.check(), None)
     same('a bid on it', market.process_checked('bob', bid, named=['ben'], pc='bob_usd').lots_filled, 3)
     same('sound again', market.check(), None)
-    for what, part, place in (('a vault short by 1', 'coin_vault', 64), ('a flag', 'events', 5), ('a key of a side', 'asks', 45 + 8), ('padding', 'market', 0)):
-        other = market.copy()
-        other.parts[part][place] ^= 1
-        before = other.dump()
-        flaw = other.check()
-        same(f'{what}: a flaw', (flaw.what in ('fault', 'finding'), flaw == market.check()), (True, False))
+    for what, part, place in PLANTED:
+        other = planted(market, part, place)
+        before, flaw = other.dump(), other.check()
+        same(f'{what}: what an audit tells', flaw, audited(before))
         told = raised(f'{what}: nothing is done', daisyhook.NotSound, lambda: other.process_checked('bob', data.settle(), named=['ben'], coin='bob_coin'))
         same(f'{what}: why', (told.flaw, repr(pickle.loads(pickle.dumps(told)))), (flaw, repr(told)))
         same(f'{what}: the bytes', other.dump(), before)
@@ -160,6 +186,7 @@ try_words()
 with tempfile.TemporaryDirectory() as made:
     try_ledger(made)
 try_limits()
+try_audits()
 if hasattr(library(), 'dex_process_checked'):
     try_checks()
 end()

@@ -5,7 +5,7 @@ use Rattle.dex_abi.specs.declared.numbers.Wide.{Wide}
 use Rattle.dex_abi.specs.declared.records.Instruction.{Instruction}
 use Rattle.dex_abi.specs.declared.records.MarketBytes.{MarketBytes}
 use Rattle.dex_abi.specs.declared.records.WalletsBytes.{WalletsBytes}
-use Rattle.dex_abi.specs.Numbers.{reply_in, too_many, whole}
+use Rattle.dex_abi.specs.Numbers.{numbers_of, reply_in, too_many, whole}
 use Rattle.dex_accounts.specs.Decoded.{AreSound, market_in}
 use Rattle.dex_instruction.specs.Reading.{decoded}
 use Rattle.dex_lent.specs.Flat.{accounts_in}
@@ -83,7 +83,8 @@ purse_of w =
 abbrev pub acting_on : MarketBytes → WalletsBytes → Acting
 acting_on m w = acting (accounts_of m) (purse_of w) (sums_of m.pending_coin m.pending_pc)
 
--- the accounts stand for a sound market, the named wallets are token accounts of distinct addresses, and the sums are those of the queue
+-- the accounts stand for a sound market, the named wallets are token accounts of distinct addresses, and the sums are
+-- those of the queue
 pub record CanProcess (roles : Roles) (m : MarketBytes) (w : WalletsBytes) : Type 0 where
   pub sound : AreSound (accounts_of m)
   pub wallets : AreWallets roles (purse_of w)
@@ -103,18 +104,27 @@ request_by i named = record { instruction = decoded i.data.now; signer = address
 abbrev pub request_in : Instruction → Request
 request_in i = request_by i (take i.named_count (names_in i.named))
 
--- an instruction was done on what is lent, or refused, and its reply told
-pub record HasProcessedIn (i : Instruction) (numbers : ReplyNumbers) (m : MarketBytes) (w : WalletsBytes) (after : MarketBytes) (moved : WalletsBytes) : Type 0 where
+-- an instruction was done on what is lent, or refused, and its reply told: by the reply's own numbers, all others 0
+pub record HasProcessedOn (i : Instruction) (numbers : ReplyNumbers) (before after : Acting) : Type 0 where
   pub reply : Reply
+  pub exact : numbers ≡ numbers_of reply
   pub told : reply_in numbers ≡ Some reply
-  pub processed : HasProcessed (roles_in i) reply (acting_on m w) (acting_on after moved)
-      (step (request_in i) (seen_by (roles_in i) (terms_in i) (purse_of w)) (market_in (accounts_of m)))
+  pub processed : HasProcessed (roles_in i) reply before after
+      (step (request_in i) (seen_by (roles_in i) (terms_in i) before.wallets) (market_in before.accounts))
 
 -- how an instruction ends: it was done or refused; or it names too many accounts, and nothing was changed
+abbrev pub EndsOn : Instruction → ReplyNumbers → Acting → Acting → Type 0
+EndsOn i numbers before after =
+    ((i.named_count ≤ 16) × HasProcessedOn i numbers before after)
+    ⊎ ((16 < i.named_count) × (numbers ≡ too_many) × (after ≡ before))
+
+-- the same, of what is lent
+abbrev pub HasProcessedIn : Instruction → ReplyNumbers → MarketBytes → WalletsBytes → MarketBytes → WalletsBytes
+    → Type 0
+HasProcessedIn i numbers m w after moved = HasProcessedOn i numbers (acting_on m w) (acting_on after moved)
+
 abbrev pub EndsIn : Instruction → ReplyNumbers → MarketBytes → WalletsBytes → MarketBytes → WalletsBytes → Type 0
-EndsIn i numbers m w after moved =
-    ((i.named_count ≤ 16) × HasProcessedIn i numbers m w after moved)
-    ⊎ ((16 < i.named_count) × (numbers ≡ too_many) × (acting_on after moved ≡ acting_on m w))
+EndsIn i numbers m w after moved = EndsOn i numbers (acting_on m w) (acting_on after moved)
 
 -- each of a market's accounts lies where it did
 pub record KeepsMarketPlaces (m after : MarketBytes) : Type 0 where

@@ -1,3 +1,5 @@
-pub mod Lent
 pub mod Numbers
 pub mod Texts
+pub mod Lent
+pub mod Flaws
+pub mod Checked

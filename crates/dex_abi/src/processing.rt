@@ -31,7 +31,7 @@ fn slot_in(number: u8) -> Option<Slot>
 }
 
 /// Which wallets an instruction names under its roles.
-fn roles_in(instruction: &Instruction<'_>) -> Roles
+pub(crate) fn roles_in(instruction: &Instruction<'_>) -> Roles
     ensures { result ≡ lent.roles_in instruction.now }
 {
     Roles {

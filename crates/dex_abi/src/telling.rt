@@ -22,7 +22,7 @@ pub(crate) fn wide(number: u128) -> Wide
 }
 
 /// The numbers of no reply: all are 0.
-fn blank() -> ReplyNumbers
+pub(crate) fn blank() -> ReplyNumbers
     ensures { result ≡ spec.blank }
 {
     let zero = Wide { low: 0, high: 0 };

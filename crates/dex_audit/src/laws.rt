@@ -35,8 +35,8 @@ pub fn an_audit_finds_nothing_exactly_where_markets_are_sound_and_mints_conserve
 {}
 
 /// Of markets alone, whatever mints and wallets there are: accepted accounts of bytes, of which no market has an
-/// address twice among its open-orders accounts, have no finding exactly where each market's are those of a sound market. An
-/// audit of all accounts finds the same of markets, where each mint is conserved.
+/// address twice among its open-orders accounts, have no finding exactly where each market's are those of a sound
+/// market. An audit of all accounts finds the same of markets, where each mint is conserved.
 pub fn markets_without_findings_are_sound()
     ensures exactly { (markets : List PlainMarketAccounts) → All IsAccepted markets
         → All (λ (m : PlainMarketAccounts). AreDistinct (traders_of m.orders)) markets → All IsHeldMarket markets

@@ -167,7 +167,7 @@ module _ (bank : CellsState) (apart : AreDistinctCells bank) (of_markets of_wall
   row-of : (row : PlainRow) (places : RowPlaces) (number : ℕ) → ArePlacesIn bank row places → IsOfGroup of_markets of_wallets places number → IsRowOf number row
   row-of row places number at of = (
     market,
-    (λ wallet named. wallets-number number (row_wallets row) places.wallets.places at.wallets.places of.wallets wallet named ∙ sym market),
+    (λ wallet named. wallets-number number (row_wallets row) places.wallets.places at.wallets.places of.named wallet named ∙ sym market),
   )
     where
       market : groups.market row.market ≡ number

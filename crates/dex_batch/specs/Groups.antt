@@ -17,7 +17,7 @@ IsWalletOf numbers number place = (d : ℕ) → place < length numbers → slice
 pub record IsOfGroup (markets wallets : List ℕ) (places : RowPlaces) (number : ℕ) : Type 0 where
   pub within : places.market < length markets
   pub market : (d : ℕ) → slice_index_or markets places.market d ≡ number
-  pub wallets : All (IsWalletOf wallets number) places.wallets.places
+  pub named : All (IsWalletOf wallets number) places.wallets.places
 
 -- there are groups for so many markets and wallets, each of one of them
 pub record AreGroups (markets wallets : ℕ) (groups : Groups) : Type 0 where

@@ -7,13 +7,14 @@ ghost use Rattle.dex_words.specs.declared.command.PlainCommand.TheVariants.{Audi
 ghost use Rattle.dex_answers.specs.declared.status.Status.TheVariants as status;
 ghost use Rattle.dex_types.specs.declared.limits.TheConstants.{STANDARD, WIDE};
 ghost use Rattle.dex_call.specs.Calls.{Ends, EndsWith, EndsWithin, HasStopped, done};
+ghost use Rattle.dex_abi.specs.Checked.{EndsCheck, EndsChecked};
 ghost use Rattle.dex_abi.specs.Lent.{CanProcess, EndsIn, KeepsMarketPlaces, KeepsPlaces, accounts_of, roles_in, sums_of};
 ghost use Rattle.dex_call.specs.PartsTexts.{SaysParts, SaysShards};
 ghost use Rattle.dex_call.specs.ReplyTexts.{SaysReply};
 ghost use Rattle.dex_ring.specs.PendingFills.{pending_fills_of};
 ghost use Rattle.dex_ring.specs.Ring.{IsEventQueue, ring_of};
 
-use dex_abi::{Instruction, MarketBytes, ReplyNumbers, WalletsBytes};
+use dex_abi::{FlawNumbers, Instruction, MarketBytes, ReplyNumbers, WalletsBytes};
 use std::alloc::Global;
 
 /// The report of what is left when all rows of a script have acted, one after the other.
@@ -238,6 +239,35 @@ pub extern "C" fn dex_process(
     let told = dex_abi::process_in(market, wallets, instruction);
     *reply = told;
     told.kind
+}
+
+/// Whether the bytes are the accounts of a sound market, and else their first flaw.
+#[unsafe(no_mangle)]
+pub extern "C" fn dex_market_check(
+    alloc: Global,
+    market: &MarketBytes<'_>,
+    flaw: &mut FlawNumbers,
+) -> u8
+    ensures { EndsCheck result flaw.new (accounts_of market.now) }
+{
+    dex_abi::check_in(alloc, market, flaw)
+}
+
+/// Does what `dex_process` does, where the accounts and the wallets have no flaw.
+#[unsafe(no_mangle)]
+pub extern "C" fn dex_process_checked(
+    alloc: Global,
+    market: &mut MarketBytes<'_>,
+    wallets: &mut WalletsBytes<'_>,
+    instruction: &Instruction<'_>,
+    flaw: &mut FlawNumbers,
+    reply: &mut ReplyNumbers,
+) -> u8
+    ensures ends { EndsChecked instruction.entry.now result flaw.new reply.new market.old wallets.old
+        market.new wallets.new }
+    ensures places { KeepsPlaces market.old wallets.old market.new wallets.new }
+{
+    dex_abi::process_checked_in(alloc, market, wallets, instruction, flaw, reply)
 }
 
 /// What a report says of the reply that numbers stand for.

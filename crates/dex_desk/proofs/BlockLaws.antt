@@ -10,7 +10,7 @@ use Rattle.dex_statement.specs.declared.faults.FaultKind.{FaultKind}
 use Rattle.dex_statement.specs.declared.faults.FaultKind.TheVariants.{BadSwap, OverLimit, UnknownLabel}
 use Rattle.dex_statement.specs.declared.statement.Statement.{Statement}
 use Rattle.dex_statement.specs.declared.statement.Statement.TheVariants as statement
-use Rattle.dex_statement.specs.Stated.{PlainInstruction, PlainParties, PlainSwap}
+use Rattle.dex_statement.specs.Stated.{PlainInstruction, PlainSwap}
 use Rattle.dex_statement.specs.Faults.{◌>>=◌}
 use Rattle.dex_statement.specs.Statements.{statement_of}
 use Rattle.dex_statement.specs.Words.{Fields}
@@ -33,13 +33,11 @@ use Rattle.dex_desk.specs.Books.{found_market}
 use Rattle.dex_script.specs.declared.names.Names.{Names}
 use Rattle.dex_script.specs.declared.names.Stand.{Stand}
 use Rattle.dex_desk.specs.Blocks.{IsBlock, PlainBlock, no_rows_of, with_both, with_words}
-use Rattle.dex_script.specs.Names.{AreNames, places_in, places_of, role_place}
-use Rattle.std.specs.HashMap as hash
+use Rattle.dex_script.specs.Names.{AreNames, FindsAmong, FindsIn, StandAt}
 use Rattle.dex_types.specs.Addresses.{is_same}
-use Rattle.dex_script_types.specs.Places.{wallet_place}
 use Rattle.std.proofs.lemmas.Bool.{eqb-false}
 use Rattle.dex_script.proofs.FaultLaws.{or-none}
-use Rattle.dex_script.proofs.NameLaws.{known, unknown}
+use Rattle.dex_script.proofs.NameLaws.{by-names, found-in, known, unknown}
 
 -- what a row does that states this
 pub row-is : (draft : PlainDraft) (number : ℕ) (row : Fields) (st : Statement) → statement_of row ≡ Ok st → with_row draft number row ≡ with_statement draft number st
@@ -113,35 +111,19 @@ clock-block block now after number row is states time next =
     let more : with_row block.draft block.number row ≡ Ok (with_clock block.draft now) = row-is block.draft block.number row (statement.Clock now) states in
     rw (time, next) (block-more block (with_clock block.draft now) row is more refl refl)
 
--- names tell what the accounts tell
-role-same : (names : Names) (start : PlainAccounts) (role : Option Address) → AreNames names start
-    → role_place (hash.get is_same names.wallets) role ≡ role_place (λ address. wallet_place address start.wallets) role
-role-same names start None are = refl
-role-same names start (Some address) are = are.wallets address
-
-pub by-names : (names : Names) (start : PlainAccounts) (parties : PlainParties) → AreNames names start → places_in names parties ≡ places_of start parties
-by-names names start parties are =
-    rw (
-      are.markets parties.market,
-      role-same names start parties.coin are,
-      role-same names start parties.pc are,
-      role-same names start parties.discount are,
-      role-same names start parties.referrer are,
-    ) refl
-
 -- where the parties of a row stand, by the names
 pub found-by : (names : Names) (start : PlainAccounts) (words seen : PlainInstruction) (found told : Option Stand) → AreNames names start → seen ≡ words
-    → found ≡ places_in names seen.parties → found ≡ told → places_of start words.parties ≡ told
-found-by names start words seen found told are same is tells =
-    sym (by-names names start words.parties are) ∙ ap (λ (w : PlainInstruction). places_in names w.parties) (sym same) ∙ sym is ∙ tells
+    → FindsIn names seen.parties found → found ≡ told → FindsAmong start words.parties told
+found-by names start words seen found told are same finds tells =
+    found-in start start words seen found told refl same tells (by-names names start seen.parties found are finds)
 
 -- ---- an instruction row
 
-pub not-here : (block : PlainBlock) (words : PlainInstruction) → places_of block.draft.script.start words.parties ≡ None → with_words block words ≡ Err UnknownLabel
+pub not-here : (block : PlainBlock) (words : PlainInstruction) → FindsAmong block.draft.script.start words.parties None → with_words block words ≡ Err UnknownLabel
 unfolding with_instruction
 not-here block words none = rw (unknown block.draft.script.start words.parties none) refl
 
-pub too-much : (block : PlainBlock) (words : PlainInstruction) (at : Stand) → places_of block.draft.script.start words.parties ≡ Some at
+pub too-much : (block : PlainBlock) (words : PlainInstruction) (at : Stand) → StandAt block.draft.script.start words.parties at
     → is_full block.draft block.number || exceeds_row words ≡ true → with_words block words ≡ Err OverLimit
 unfolding with_instruction with_known
 too-much block words at here full = rw (known block.draft.script.start words.parties at here, full) refl
@@ -153,13 +135,13 @@ grown block words = record {
   number = next_number block.number;
 }
 
-pub with-it : (block : PlainBlock) (words : PlainInstruction) (at : Stand) → places_of block.draft.script.start words.parties ≡ Some at
+pub with-it : (block : PlainBlock) (words : PlainInstruction) (at : Stand) → StandAt block.draft.script.start words.parties at
     → is_full block.draft block.number ≡ false → exceeds_row words ≡ false → with_words block words ≡ Ok (grown block words)
 unfolding with_instruction with_known
 with-it block words at here room within = rw (known block.draft.script.start words.parties at here, room, within) refl
 
 pub grown-block : (block : PlainBlock) (words : PlainInstruction) (at : Stand) (row : Fields) → IsBlock block → statement_of row ≡ Ok (statement.Instruction words)
-    → places_of block.draft.script.start words.parties ≡ Some at → is_full block.draft block.number ≡ false → exceeds_row words ≡ false → IsBlock (grown block words)
+    → StandAt block.draft.script.start words.parties at → is_full block.draft block.number ≡ false → exceeds_row words ≡ false → IsBlock (grown block words)
 unfolding with_instruction with_known
 grown-block block words at row is states here room within =
     let more : with_row block.draft block.number row ≡ Ok ((grown block words).draft) =
@@ -209,20 +191,20 @@ of-legs test words first second found told one two is tells =
     ap (λ (w : PlainInstruction). test w (second_leg words)) (sym one) ∙ ap (test first) (sym two) ∙ sym is ∙ tells
 
 module _ (block : PlainBlock) (words : PlainSwap) where
-  pub first-not-here : places_of block.draft.script.start (first_leg words).parties ≡ None → with_both block words ≡ Err UnknownLabel
+  pub first-not-here : FindsAmong block.draft.script.start (first_leg words).parties None → with_both block words ≡ Err UnknownLabel
   unfolding with_two
   first-not-here none = rw (unknown block.draft.script.start (first_leg words).parties none) refl
 
-  pub second-not-here : (at : Stand) → places_of block.draft.script.start (first_leg words).parties ≡ Some at
-      → places_of block.draft.script.start (second_leg words).parties ≡ None → with_both block words ≡ Err UnknownLabel
+  pub second-not-here : (at : Stand) → StandAt block.draft.script.start (first_leg words).parties at
+      → FindsAmong block.draft.script.start (second_leg words).parties None → with_both block words ≡ Err UnknownLabel
   unfolding with_two
   second-not-here at here none =
       rw (known block.draft.script.start (first_leg words).parties at here, unknown block.draft.script.start (second_leg words).parties none) refl
 
 -- both legs name markets and wallets that are here
 pub record AreHere (block : PlainBlock) (words : PlainSwap) (at other : Stand) : Type 0 where
-  pub first : places_of block.draft.script.start (first_leg words).parties ≡ Some at
-  pub second : places_of block.draft.script.start (second_leg words).parties ≡ Some other
+  pub first : StandAt block.draft.script.start (first_leg words).parties at
+  pub second : StandAt block.draft.script.start (second_leg words).parties other
 
 -- the rows of both legs
 abbrev pub both_rows : PlainBlock → PlainSwap → List PlainRow

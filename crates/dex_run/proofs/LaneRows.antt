@@ -7,7 +7,7 @@ use Rattle.dex_world.proofs.MappedLists.{same-get}
 use Rattle.dex_run.proofs.Common.{AreNext, AreRowsOf, BankState, Begins, IsNext, SeatState}
 use Rattle.dex_world.specs.declared.places.RowPlaces.{RowPlaces}
 use Rattle.dex_script_types.specs.Places.{AreBeside, IsBeside, IsPlaced}
-use Rattle.dex_script_types.proofs.PlacedLaws.{item-at, item_at, nowhere, placed-long, row-at}
+use Rattle.dex_script_types.proofs.PlacedLaws.{item-at, item_at, placed-long, row-at}
 use Rattle.std.proofs.lemmas.Bool.{cases_lt}
 use Rattle.std.proofs.lemmas.Slice.Zip.{AllZip-long}
 use Rattle.std.proofs.lemmas.List.{drop_more, get_or-drop, take-append-drop, get_or-take, length-take-le, map-append}
@@ -209,11 +209,15 @@ pub number-beside : (rows : List Row) (places : List RowPlaces) → AreBeside (m
     → (get_or places i at).number ≡ (get_or rows i row).number
 number-beside rows places are i row at within = (row-at IsBeside rows places are i row at within).number
 
+-- what is read where nothing stands
+abbrev pub nothing : RowPlaces
+nothing = record { number = 0; lane = 0; market = 0; wallets = record { places = []; coin = 0; pc = 0; discount = 0; referrer = 0 } }
+
 -- the lane beside a row is the row's
 pub lane-beside : (rows : List Row) (places : List RowPlaces) (place : ℕ) (within : place < length rows) → AreBeside (map row_of rows) places
-    → (get_or places place nowhere).lane ≡ (item_at rows place within).lane
+    → (get_or places place nothing).lane ≡ (item_at rows place within).lane
 lane-beside rows places place within are =
-    (row-at IsBeside rows places are place (item_at rows place within) nowhere within).lane ∙ ap (λ (row : Row). row.lane) (sym (item-at rows place within))
+    (row-at IsBeside rows places are place (item_at rows place within) nothing within).lane ∙ ap (λ (row : Row). row.lane) (sym (item-at rows place within))
 
 module _ (bank : BankState) (rows : List Row) (places : List RowPlaces) (are : AreRowsOf bank rows places) where
   pub places-long : length places ≡ length rows

@@ -105,8 +105,8 @@ fn two_threads_take_three_turns_each(rt: HostRuntime) -> Result<(), Fail> {
         || take_turns(&rt, shared, first, 0, 3),
         || take_turns(&rt, shared, second, 1, 3),
     );
-    passes.push(first)?;
-    passes.push(second)?;
+    passes.push_reserved(first);
+    passes.push_reserved(second);
     let all = gate.close(passes).lanes;
     assert!(rt; all.len() == 6);
     assert!(rt; count_of(&all, 0) == 3 && count_of(&all, 1) == 3);
@@ -119,7 +119,7 @@ fn one_pass_takes_three_turns(rt: HostRuntime) -> Result<(), Fail> {
     let lanes = Vec::new(alloc);
     let mut passes = Vec::with_capacity(alloc, 1)?;
     let (gate, pass) = Gate::open(alloc, Lanes { lanes }, 1)?;
-    passes.push(take_turns(&rt, &gate, pass, 0, 3))?;
+    passes.push_reserved(take_turns(&rt, &gate, pass, 0, 3));
     let all = gate.close(passes).lanes;
     assert!(rt; all.as_slice() == [0, 0, 0].as_slice());
     Ok(())

@@ -126,15 +126,16 @@ async function checkLong(suite, player) {
     told = await player.named('told');
     await new Promise((resume) => { setTimeout(resume, 300); });
   }
-  suite.holds('a long script: rows from the changed one on are replayed alone', told.startsWith('replay of the rows from a changed one on, joined: status 0'), told);
+  const isTold = told.startsWith('replay of the rows from a changed one on, joined: status 0');
+  suite.holds('a long script: rows from the changed one on are replayed alone', isTold, told);
   const { text } = await player.saved();
   suite.same('a long script: its report', text.slice(0, text.indexOf('\n')), 'report 4016');
   suite.holds('a long script: as long as the joined one', told.includes(`${text.length.toLocaleString('en')} bytes`), `${text.length}, ${told}`);
   await player.replace(row, 'do,0,m0,u0,o0_0,-,-,-,-,cancelc');
   const fault = await player.named('row fault');
   const whole = (await player.saved()).text;
-  suite.holds('a long script: a fault at the row at which the whole has it', /^script refused row /.test(whole) && fault.startsWith(`Row ${whole.slice(19, -1)}.`),
-    `${fault}, ${whole}`);
+  const isSame = /^script refused row /.test(whole) && fault.startsWith(`Row ${whole.slice(19, -1)}.`);
+  suite.holds('a long script: a fault at the row at which the whole has it', isSame, `${fault}, ${whole}`);
 }
 
 /** What is answered. */

@@ -11,6 +11,8 @@ const { Kept } = await import(pathToFileURL(join(process.argv[2], 'play/kept.js'
 const { readText } = await import(pathToFileURL(join(process.argv[2], 'page/report.js')));
 
 const CHANGES = 40;
+// Rows that are at fault, or empty.
+const FAULTS = ['mint,late,6', 'program,openbook', 'do,0,m,ann,amy,-,-,-,-,settl', '', 'do,0,nowhere,ann,amy,-,-,-,-,settle'];
 
 // Numbers that are drawn, the same at each call.
 function drawsOf(seed) {
@@ -31,7 +33,7 @@ function changed(lines, draw) {
   else if (kind === 4) made.splice(at, 0, lines[draw(lines.length)]);
   else if (kind === 5) made.splice(at, 0, `clock,${draw(50)}`);
   else if (kind === 6) made.push(lines[lines.length - 1 - draw(Math.ceil(lines.length / 3))]);
-  else made[at] = ['mint,late,6', 'program,openbook', 'do,0,m,ann,amy,-,-,-,-,settl', '', `${made[at]} `, 'do,0,nowhere,ann,amy,-,-,-,-,settle'][draw(6)];
+  else made[at] = [...FAULTS, `${made[at]} `][draw(FAULTS.length + 1)];
   return made;
 }
 
@@ -76,6 +78,7 @@ async function checkScript(name, script, seed) {
   let [lines, good] = [first, first];
   let parted = 0;
   let report = null;
+  let preparing = null;
   for (let change = 0; change < CHANGES; change += 1) {
     const made = change === 0 ? lines : changed(lines, draw);
     const text = `${made.join('\n')}\n`;
@@ -89,7 +92,9 @@ async function checkScript(name, script, seed) {
     // A fault stands for one change more at most.
     if (wanted.status === 0) good = made;
     lines = wanted.status !== 0 && lines === good && draw(2) === 0 ? made : good;
-    if (draw(5) > 0) await kept.prepare(ask);
+    // What is kept is made at once, or beside the next answer.
+    if (draw(5) > 0) preparing = kept.prepare(async (given) => { await new Promise(setImmediate); return ask(given); });
+    if (draw(2) === 0) await preparing;
   }
   return parted;
 }
@@ -100,7 +105,8 @@ function behindDump(script) {
   return `${Buffer.from(text)}program,openbook\nclock,3\n${script.split('\n').filter((line) => /^(do|ix|swap),/.test(line)).join('\n')}\n`;
 }
 
-const files = [...readdirSync(join(root, 'examples')).filter((name) => name.endsWith('.csv')).map((name) => `examples/${name}`), 'tests/data/swaps.csv'];
+const examples = readdirSync(join(root, 'examples')).filter((name) => name.endsWith('.csv'));
+const files = [...examples.map((name) => `examples/${name}`), 'tests/data/swaps.csv'];
 const scripts = files.map((name) => [name, readFileSync(join(root, name), 'utf8')]).filter(([, script]) => !script.startsWith('dump'));
 scripts.push(['make 7 60', Buffer.from(call(['make', '7', '60'], Buffer.alloc(0)).text).toString()]);
 scripts.push(['behind a dump', behindDump(readFileSync(join(root, 'examples/deep_book.csv'), 'utf8'))]);

@@ -20,6 +20,7 @@ Says c roles terms request =
 pub returns-clause-processed : goal.returns-clause-processed
 returns-clause-processed c = record {
   reply = c.reply_on.result;
+  exact = c.numbers_of.ensures.exact;
   told = c.numbers_of.ensures.stands;
   processed =
       subst (λ (roles : Roles). Says c roles (lent.terms_in c.args.instruction.now) (lent.request_in c.args.instruction.now)) c.roles_in-roles.ensures

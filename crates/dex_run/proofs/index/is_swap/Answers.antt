@@ -4,16 +4,15 @@ use Rattle.dex_types.specs.declared.rows.Row.{Row}
 use Rattle.dex_world.specs.declared.places.RowPlaces.{RowPlaces}
 use Rattle.dex_types.specs.Rows.{row_of}
 use Rattle.dex_script_types.specs.Places.{AreBeside}
-use Rattle.dex_script_types.proofs.PlacedLaws.{nowhere}
-use Rattle.dex_run.proofs.LaneRows.{beside-long, number-beside}
+use Rattle.dex_run.proofs.LaneRows.{beside-long, nothing, number-beside}
 use Rattle.dex_run.proofs.index.is_swap.Goals as goal
 
 module _ (rows : List Row) (places : List RowPlaces) (are : AreBeside (map row_of rows) places) (place : ℕ) (row : Row) (within : place + 1 < length rows) where
-  first : (get_or places place nowhere).number ≡ (get_or rows place row).number
-  first = number-beside rows places are place row nowhere (omega (arith, within))
+  first : (get_or places place nothing).number ≡ (get_or rows place row).number
+  first = number-beside rows places are place row nothing (omega (arith, within))
 
-  second : (get_or places (place + 1) nowhere).number ≡ (get_or rows (place + 1) row).number
-  second = number-beside rows places are (place + 1) row nowhere within
+  second : (get_or places (place + 1) nothing).number ≡ (get_or rows (place + 1) row).number
+  second = number-beside rows places are (place + 1) row nothing within
 
 pub returns-then-places-place-gt1-clause-yes : goal.returns-then-places-place-gt1-clause-yes
 returns-then-places-place-gt1-clause-yes c = λ is rows are row.

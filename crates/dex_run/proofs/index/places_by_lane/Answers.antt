@@ -1,8 +1,8 @@
 use Rattle.std.proofs.Common.{ℕ, ◌≡◌, ◌+◌, ◌<◌, ◌∙◌, ap, arith, get_or, length, set, subst, sym}
 use Rattle.std.proofs.lemmas.List.{length-set}
-use Rattle.dex_script_types.proofs.PlacedLaws.{item-at, item_at, nowhere}
+use Rattle.dex_script_types.proofs.PlacedLaws.{item-at, item_at}
 use Rattle.dex_run.proofs.LaneItems.{AreFound, found-all, found-alone, found-none, found-two}
-use Rattle.dex_run.proofs.LaneRows.{begins-alone, begins-first, begins-two, beside-long, lane-beside, lane-within}
+use Rattle.dex_run.proofs.LaneRows.{begins-alone, begins-first, begins-two, beside-long, lane-beside, lane-within, nothing}
 use Rattle.dex_run.proofs.index.places_by_lane.Goals as goal
 
 pub item-init : goal.item-init
@@ -43,7 +43,7 @@ item-preserved-then-is_swap c =
     let within : c.item.place < length rows = omega (arith, c.item-test.true, c.len.ensures) in
     let row = item_at rows c.item.place within in
     let at = item-at rows c.item.place within in
-    let here : ℕ = (get_or c.args.places.now c.item.place nowhere).lane in
+    let here : ℕ = (get_or c.args.places.now c.item.place nothing).lane in
     let same : here ≡ row.lane = lane-beside rows c.args.places.now c.item.place within c.requires.beside in
     let swap = c.is_swap.ensures.yes c.if-is_swap.true rows c.requires.beside in
     let lane = lane-within c.requires.rows.0 rows c.requires.rows.2 c.requires.rows.1 c.item.place row within at in
@@ -64,7 +64,7 @@ item-preserved c =
     let within : c.item.place < length rows = omega (arith, c.item-test.true, c.len.ensures) in
     let row = item_at rows c.item.place within in
     let at = item-at rows c.item.place within in
-    let here : ℕ = (get_or c.args.places.now c.item.place nowhere).lane in
+    let here : ℕ = (get_or c.args.places.now c.item.place nothing).lane in
     let same : here ≡ row.lane = lane-beside rows c.args.places.now c.item.place within c.requires.beside in
     let alone = c.is_swap.ensures.no c.if-is_swap.false rows c.requires.beside in
     let lane = lane-within c.requires.rows.0 rows c.requires.rows.2 c.requires.rows.1 c.item.place row within at in

@@ -9,6 +9,6 @@ two p q a b (suc (suc k)) h = absurd (omega arith)
 
 pub close-requires-clause-numbers : goal.close-requires-clause-numbers
 close-requires-clause-numbers g c =
-    let items : c.push-2.new.self.items ≡ c.join-first.result.0 ∷ c.join-first.result.1 ∷ [] = search rules in
+    let items : c.push_reserved-2.new.self.items ≡ c.join-first.result.0 ∷ c.join-first.result.1 ∷ [] = search rules in
     let passes : c.in_ok-gate.gate.passes ≡ 2 = search rules in
-    subst (λ (n : ℕ). AreAll n c.push-2.new.self.items) (sym passes) (subst (AreAll 2) (sym items) (two _ _ (search rules) (search rules)))
+    subst (λ (n : ℕ). AreAll n c.push_reserved-2.new.self.items) (sym passes) (subst (AreAll 2) (sym items) (two _ _ (search rules) (search rules)))

@@ -7,7 +7,6 @@ use Rattle.dex_script.specs.Rows.{exceeds_row, instruction_row, is_full}
 use Rattle.dex_desk.specs.BlockInside.{block_inside}
 use Rattle.dex_desk.specs.Blocks.{IsBlock, PlainBlock, with_words}
 use Rattle.dex_desk.proofs.BlockLaws.{found-by, grown, grown-block, grown-is, made, next-is, not-here, too-much, with-it}
-use Rattle.dex_script.proofs.NameLaws.{stand}
 use Rattle.dex_desk.proofs.block.Block.add_instruction.Goals.{then-is_full-via-then-is_full, then-is_full-via-else-is_full+then-exceeds_row}
 use Rattle.dex_desk.proofs.block.Block.add_instruction.Goals as goal
 
@@ -53,11 +52,10 @@ invariant_of-self-2 c =
     ∙ ap (λ (rows : List Row). map row_of rows ++ instruction_row block.number block.draft.clock words ∷ []) c.in_ok-make_room.ensures.rows)
     (omega (arith, c.max-self-inside.ensures, ap (λ (w : PlainInstruction). w.lane) c.words.view_is))
     (sym (next-is block c.self.invariant.block room)) in
-    let at = stand start words.parties c.in-Some.at found in
     record {
       block = subst IsBlock same (grown-block block words c.in-Some.at c.requires.0 c.self.invariant.block c.requires.1 found room within);
-      placed = c.push_placed.ensures.placed start [] at (rw (c.in_ok-make_room.ensures.rows, c.in_ok-make_room.ensures.places) c.self.invariant.placed);
-      beside = c.push_placed.ensures.beside start [] at (rw (c.in_ok-make_room.ensures.rows, c.in_ok-make_room.ensures.places) c.self.invariant.beside);
+      placed = c.push_placed.ensures.placed start [] found (rw (c.in_ok-make_room.ensures.rows, c.in_ok-make_room.ensures.places) c.self.invariant.placed);
+      beside = c.push_placed.ensures.beside start [] found (rw (c.in_ok-make_room.ensures.rows, c.in_ok-make_room.ensures.places) c.self.invariant.beside);
       names = c.self.invariant.names;
     }
 

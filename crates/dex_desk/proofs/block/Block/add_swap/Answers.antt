@@ -6,7 +6,6 @@ use Rattle.dex_types.specs.Rows.{row_of}
 use Rattle.dex_script.specs.Rows.{is_bad_swap}
 use Rattle.dex_script.proofs.FaultLaws.{or-none}
 use Rattle.dex_script.proofs.ItemRows.{first_leg, second_leg}
-use Rattle.dex_script.proofs.NameLaws.{stand}
 use Rattle.dex_desk.specs.BlockInside.{block_inside}
 use Rattle.dex_desk.specs.Blocks.{IsBlock, PlainBlock, with_both}
 use Rattle.dex_desk.proofs.BlockLaws.{AreHere, both-bad, both-behind, both-too-much, both_full, first-not-here, found-by, grown-both-block, grown-both-is, grown_both, made, next-is, of-legs, second-not-here, with-both}
@@ -95,10 +94,10 @@ invariant_of-self-2 c =
     (sym (next-is block kept.block free)) in
     record {
       block = subst IsBlock same (grown-both-block block words at other here c.requires.0 kept.block c.requires.1 room good refl);
-      placed = c.push_placed-2.ensures.placed start [] (stand start second.parties other second_here)
-          (c.push_placed.ensures.placed start [] (stand start first.parties at first_here) (rw (c.in_ok-make_room.ensures.rows, c.in_ok-make_room.ensures.places) kept.placed));
-      beside = c.push_placed-2.ensures.beside start [] (stand start second.parties other second_here)
-          (c.push_placed.ensures.beside start [] (stand start first.parties at first_here) (rw (c.in_ok-make_room.ensures.rows, c.in_ok-make_room.ensures.places) kept.beside));
+      placed = c.push_placed-2.ensures.placed start [] second_here
+          (c.push_placed.ensures.placed start [] first_here (rw (c.in_ok-make_room.ensures.rows, c.in_ok-make_room.ensures.places) kept.placed));
+      beside = c.push_placed-2.ensures.beside start [] second_here
+          (c.push_placed.ensures.beside start [] first_here (rw (c.in_ok-make_room.ensures.rows, c.in_ok-make_room.ensures.places) kept.beside));
       names = kept.names;
     }
 

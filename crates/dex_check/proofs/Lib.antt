@@ -1,0 +1,4 @@
+mod FlawLaws
+mod CopyLaws
+mod WalletLaws
+mod RowLaws

@@ -1,0 +1,4 @@
+pub mod Flaws
+pub mod Wallets
+pub mod Both
+pub mod Rows

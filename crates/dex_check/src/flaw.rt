@@ -1,0 +1,15 @@
+//! What a check finds.
+
+use dex_audit::Finding;
+use dex_types::{AccountFault, Address};
+
+/// The first thing that is wrong with accounts.
+#[derive(Clone, Copy, Debug, PartialEq, Eq)]
+pub enum Flaw {
+    /// The account of this address is not accepted: it has this fault, as a dump that has it would be refused.
+    Fault(Address, AccountFault),
+    /// Two open-orders accounts, or two wallets, have this address.
+    Twice(Address),
+    /// An audit finds this in the market.
+    Found(Finding),
+}
