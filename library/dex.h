@@ -88,8 +88,8 @@ uint8_t dex_chained_wide(uint32_t rows, const uint8_t *script, size_t length, ui
  * dex_market_check, or left by dex_process, and nobody else changed them; `orders` has whole accounts; each wallet that is
  * named is a token account of 165 bytes, no two have one address, and none lies in another place of the call; the sums
  * are those of dex_pending, or left by dex_process. dex_pending wants an event queue that is accepted, as that of such
- * a market is. dex_market_check and dex_process_checked trust with none of this: any bytes will do. They copy the
- * accounts, and take memory, as dex_reply_text does; the others take none. dex_pending reads the events that are
+ * a market is. dex_market_check and dex_process_checked trust with none of this but that nothing lies in two places of
+ * the call: any bytes will do. They copy the accounts, and take memory, as dex_reply_text does; the others take none. dex_pending reads the events that are
  * pending; dex_process looks for an open-orders account from the first on. */
 
 typedef struct {
@@ -182,8 +182,9 @@ uint8_t dex_process(dex_market *market, dex_wallets *wallets, const dex_instruct
  * rules of an audit, but for that of mints; then, of dex_process_checked, the wallets. */
 enum {
   DEX_SOUND = 0,  /* nothing */
-  DEX_FAULT = 1,  /* an account is not accepted: a dump with it is refused with this `kind` (2 to 10), `place`, .. */
-  DEX_TWICE = 2,  /* two open-orders accounts, or two wallets that are named, have the address `account` */
+  DEX_FAULT = 1,  /* an account is not accepted: a dump with it is refused with this `kind` (2 to 10), `place`, ..; of a
+                     slab this is one of its faults */
+  DEX_TWICE = 2,  /* two open-orders accounts, or two wallets that are named, have the address `account` (one such) */
   DEX_FINDING = 3 /* an audit finds this: `kind` is the number of the rule (1 to 11, or 13) */
 };
 
@@ -202,7 +203,7 @@ uint8_t dex_market_check(const dex_market *market, dex_flaw *flaw);
 
 /* Checks the market and then the wallets that are named, counts what is pending, and does what dex_process does. It
  * returns DEX_OK, and *reply is the reply; or DEX_DUMP_REFUSED, and *flaw is the first flaw; or DEX_NO_MEMORY. Of the
- * last two nothing was changed but *flaw and *reply, which is all 0. */
+ * last two no account, no wallet and no sum was changed, and *reply is all 0. */
 uint8_t dex_process_checked(dex_market *market, dex_wallets *wallets, const dex_instruction *instruction, dex_flaw *flaw,
                             dex_reply *reply);
 

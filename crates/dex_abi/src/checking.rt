@@ -1,6 +1,6 @@
 //! Checks of what a caller in C lends.
 
-ghost use Rattle.std.specs.Prelude.{◌≡◌, IfOk};
+ghost use Rattle.std.specs.Prelude.{◌≡◌, ◌⊎◌, IfOk};
 ghost use Rattle.dex_abi.specs.Checked.{EndsCheck, EndsChecked, counted_on};
 ghost use Rattle.dex_abi.specs.Lent as lent;
 ghost use Rattle.dex_check.specs.Both.{CanAct, TellsBoth};
@@ -123,6 +123,7 @@ pub fn process_checked_in(
     ensures ends { EndsChecked instruction.entry.now result flaw.new reply.new market.old wallets.old
         market.new wallets.new }
     ensures places { lent.KeepsPlaces market.old wallets.old market.new wallets.new }
+    ensures alone { (result ≡ 0) ⊎ ((market.new ≡ market.old) × (wallets.new ≡ wallets.old)) }
 {
     match flaw_of(alloc, market, wallets, instruction) {
         Ok(None) => {

@@ -50,15 +50,16 @@ flaw_of_both one other roles purse =
 -- the first place that is no token account
 abbrev pub first_fault : Roles → Purse → Option Flaw
 first_fault roles purse =
-    option_or (option_or (option_or (flaw_at First roles purse) (flaw_at Second roles purse)) (flaw_at Third roles purse))
-    (flaw_at Fourth roles purse)
+    option_or (option_or (option_or
+    (flaw_at First roles purse) (flaw_at Second roles purse)) (flaw_at Third roles purse)) (flaw_at Fourth roles purse)
 
 -- the first two places that have one address
 abbrev pub first_twice : Roles → Purse → Option Flaw
 first_twice roles purse =
     option_or (option_or (option_or (option_or (option_or
-    (flaw_of_both First Second roles purse) (flaw_of_both First Third roles purse)) (flaw_of_both Second Third roles purse))
-    (flaw_of_both First Fourth roles purse)) (flaw_of_both Second Fourth roles purse))
+    (flaw_of_both First Second roles purse) (flaw_of_both First Third roles purse))
+    (flaw_of_both Second Third roles purse)) (flaw_of_both First Fourth roles purse))
+    (flaw_of_both Second Fourth roles purse))
     (flaw_of_both Third Fourth roles purse)
 
 -- the first flaw of the wallets that are named: of one, and then of two

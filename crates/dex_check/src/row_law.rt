@@ -9,8 +9,8 @@ ghost use Rattle.dex_world.specs.Fold.{fold};
 ghost use Rattle.dex_world.specs.World.{World, market_at};
 
 /// Instructions on one market that ask what rows ask, and saw what the rows see where they act one after the other,
-/// leave the market that the rows leave, and have the replies that the rows have in its journal. A replay is that fold of
-/// its rows (`dex_replay`).
+/// leave the market that the rows leave, and have the replies that the rows have in its journal. A replay of rows
+/// without swaps is that fold (`dex_replay`).
 pub fn instructions_of_rows_are_answered_as_the_rows()
     ensures market { (m : Market) (world : World) (rows : List PlainRow) (all : List Processed)
         → market_at m.listing.address world.markets ≡ Some m → AreProcessed m all → AreOfRows world rows all

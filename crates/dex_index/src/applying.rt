@@ -72,7 +72,8 @@ fn apply_lent<O: StepsOrders>(
     )
 }
 
-/// Does what was decided on accounts that are lent one by one, with an index of all open-orders accounts.
+/// Does what was decided on accounts that are lent one by one, with an index of all open-orders accounts. The
+/// parameters are those of `apply_lent`.
 #[inline]
 fn apply_apart(
     address: Address,

@@ -36,7 +36,7 @@ pub fn decide(
     answer
 }
 
-/// What `decide` answers, written where it is wanted.
+/// What `decide` answers, written where it is wanted: hence one parameter more than six.
 pub fn decide_into(
     accounts: &MarketAccounts,
     index: &AccountIndex,

@@ -15,7 +15,7 @@ use dex_cancel::CancelWhat;
 use dex_match::{OrderPlan, Taker};
 use dex_types::{Address, Lots, OrdersAccount, Reply};
 
-/// A new order of the taker's account.
+/// A new order of the taker's account. Each buffer is a parameter, as in the trait (`StepsOrders`).
 pub(crate) fn order_indexed(
     index: &AccountIndex,
     accounts: &mut [OrdersAccount],
@@ -48,7 +48,7 @@ pub(crate) fn order_indexed(
     )
 }
 
-/// A cancel of the owner's orders.
+/// A cancel of the owner's orders. Each buffer is a parameter, as in the trait.
 pub(crate) fn cancel_indexed(
     index: &AccountIndex,
     accounts: &mut [OrdersAccount],

@@ -37,7 +37,7 @@ pub(crate) fn pay_among(accounts: &mut [OrdersAccount], event: &Event)
     OwnedOrders { accounts }.pay_owner(event);
 }
 
-/// A new order of the taker's account.
+/// A new order of the taker's account. Each buffer is a parameter, as in the trait (`StepsOrders`).
 pub(crate) fn order_among(
     accounts: &mut [OrdersAccount],
     plan: &OrderPlan,
@@ -71,7 +71,7 @@ pub(crate) fn settle_among(
     OwnedOrders { accounts }.settle(plan, owner, market);
 }
 
-/// A cancel of the owner's orders.
+/// A cancel of the owner's orders. Each buffer is a parameter, as in the trait.
 pub(crate) fn cancel_among(
     accounts: &mut [OrdersAccount],
     what: &CancelWhat,
