@@ -1,4 +1,5 @@
-//! Orders and cancels of the account to which an index leads.
+//! Orders and cancels of the account to which an index leads. The functions have the parameters of their methods in
+//! `StepsOrders`, and the accounts and the index apart.
 
 ghost use Rattle.std.specs.Prelude.{◌≡◌, map};
 ghost use Rattle.dex_types.specs.Accounts.{orders_account_of};
