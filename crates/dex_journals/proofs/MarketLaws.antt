@@ -1,6 +1,6 @@
 -- A market's journal with one call more.
 use Rattle.std.proofs.Common.{◌≡◌, ℕ, ◌≤◌, ◌<◌, Bool, List, [], ◌∷◌, ◌++◌, length, sym, ap, ◌∙◌, subst, arith}
-use Rattle.std.specs.List.{filter}
+use Rattle.std.specs.List.{All, filter}
 use Rattle.std.proofs.lemmas.List.{length_push}
 use Rattle.std.proofs.lemmas.List.Sums.{length-filter}
 use Rattle.dex_types.specs.declared.replies.Reply.{Reply}
@@ -85,6 +85,22 @@ market-more market cell call stamp kept is_cell more start room few above = reco
 -- a market of these parts
 abbrev pub market_of : MarketCellState → PlainScript → List ℕ → ℕ → BankMarketState
 market_of cell script stamps last = record { cell = cell; stamps = stamps; last = last; script = script }
+
+none-below : (n : ℕ) → 0 ≤ n
+none-below n = omega (arith)
+
+-- what always holds of a market holds of one of which no row has acted
+pub begun : (cell : MarketCellState) (script : PlainScript) (stamps : List ℕ) (last : ℕ) → IsMarketCell cell → cell.calls ≡ [] → stamps ≡ []
+    → cell.room ≡ rows_on cell.start.address script.rows → IsBankMarket (market_of cell script stamps last)
+begun cell script stamps last is none fresh room = record {
+  cell = is;
+  counted = ap length fresh ∙ sym (ap length none);
+  rising = subst (λ (calls : List Call). AreRising (stamped calls stamps)) (sym none) (λ i j d low high. absurd (omega (arith, high)));
+  below = subst (λ (some : List ℕ). All (λ (stamp : ℕ). stamp ≤ last) some) (sym fresh) (λ i d within. absurd (omega (arith, within)));
+  room = room;
+  lanes = λ lane. subst (λ (calls : List Call). calls_by lane calls ≤ length (rows_of_market lane cell.start.address script.rows)) (sym none)
+      (none-below (length (rows_of_market lane cell.start.address script.rows)));
+}
 
 -- it has one call more, and what always holds of it holds again
 pub has-more : (market : BankMarketState) (row : PlainRow) (waits : Bool) (seen : Seen) (reply : Reply) (cell : MarketCellState) (wallets left : List CellState)

@@ -69,6 +69,8 @@ impl BankMarket {
         ensures { IfOk result (λ market. market
             ≡ record { cell = cell; stamps = []; last = 0; script = script.value }) }
     {
+        // Each call of a cell tells what always holds of it.
+        let _spare = cell.spare();
         Ok(BankMarket {
             cell: Box::new(alloc, cell)?,
             stamps: Log::new(),
