@@ -1,22 +1,23 @@
 /* The commands of Daisyhook on one thread, as functions of bytes. docs/LIBRARY.md tells how to build and link them.
  *
- * What a call promises. There are a status and a text that the command answers to these bytes, just as the program's (the table of
- * statuses is in docs/FORMATS.md; dex_shards and dex_chained, which are no commands, say their texts below). The call returns the status, sets *size to the length of the text in bytes, and, where the text
- * fits into the room, writes it to the front of the room and leaves what stands behind it as it was. Where it does not fit, the
- * room is as it was: call again with a room of *size bytes. Two statuses come with no text, *size 0 and the room as it was:
- * DEX_NO_MEMORY, where memory was wanting, and DEX_USAGE, where a number is not within its limits. This is proved of the very
- * functions below; that their callers are C is no part of the proof.
+ * What a call promises. There are a status and a text that the command answers to these bytes, just as the program's
+ * (the table of statuses is in docs/FORMATS.md; dex_shards and dex_chained, which are no commands, say their texts
+ * below). The call returns the status, sets *size to the length of the text in bytes, and, where the text fits into the
+ * room, writes it to the front of the room and leaves what stands behind it as it was. Where it does not fit, the room
+ * is as it was: call again with a room of *size bytes. Two statuses come with no text, *size 0 and the room as it was:
+ * DEX_NO_MEMORY, where memory was wanting, and DEX_USAGE, where a number is not within its limits. This is proved of
+ * the very functions below; that their callers are C is no part of the proof.
  *
  * What the caller keeps, which nothing checks:
- *  - no pointer is null, also where a length is 0; bytes may be read over the whole length, the room written over its whole size,
- *    and *size written;
- *  - bytes, room and *size do not overlap, and no other thread writes to the bytes, or reads or writes the room or *size, during the
- *    call. Calls from several threads at once are fine: the functions share nothing;
+ *  - no pointer is null, also where a length is 0; bytes may be read over the whole length, the room written over its
+ *    whole size, and *size written;
+ *  - bytes, room and *size do not overlap, and no other thread writes to the bytes, or reads or writes the room or
+ *    *size, during the call. Calls from several threads at once are fine: the functions share nothing;
  *  - the program's malloc, realloc and free are those of one allocator and align as the C standard says;
  *  - no call from a signal handler, nor in the child of a fork of a program with threads.
  *
- * `run` and `batch` are not here: they need threads of their own, which a library without a runtime does not make. Scripts with `swap`
- * rows are taken by all that take scripts. */
+ * `run` and `batch` are not here: they need threads of their own, which a library without a runtime does not make.
+ * Scripts with `swap` rows are taken by all that take scripts. */
 #ifndef DEX_H
 #define DEX_H
 
@@ -30,7 +31,7 @@ extern "C" {
 
 /* What a call returns: the exit status of the program. */
 enum {
-  DEX_OK = 0,              /* the report, the dump, the worths, the made script, the summary, or that an audit found nothing */
+  DEX_OK = 0,              /* the report, dump, worths, made script or summary, or that an audit found nothing */
   DEX_USAGE = 1,           /* a number is not within its limits: no text */
   DEX_SCRIPT_REFUSED = 2,  /* a row of the script is at fault: the line that names it */
   DEX_DUMP_REFUSED = 3,    /* a row of the dump is at fault, or its accounts have findings: the lines that tell them */
@@ -50,7 +51,8 @@ uint8_t dex_audit(const uint8_t *dump, size_t length, uint8_t *room, size_t room
 /* What each account of each market is worth when all rows of a script have acted. */
 uint8_t dex_worth(const uint8_t *script, size_t length, uint8_t *room, size_t room_size, size_t *size);
 
-/* The dump of the same accounts with sides of so many nodes (1 to 65536) and event queues for so many events (1 to 65535). */
+/* The dump of the same accounts with sides of so many nodes (1 to 65536) and event queues for so many events (1 to
+ * 65535). */
 uint8_t dex_migrate(uint32_t nodes, uint32_t events, const uint8_t *dump, size_t length, uint8_t *room, size_t room_size,
                     size_t *size);
 
@@ -69,13 +71,14 @@ uint8_t dex_worth_wide(const uint8_t *script, size_t length, uint8_t *room, size
 uint8_t dex_migrate_wide(uint32_t nodes, uint32_t events, const uint8_t *dump, size_t length, uint8_t *room, size_t room_size,
                          size_t *size);
 
-/* Where a script may be cut into shards, which share no market and no wallet: lines `market SHARD` for each market and `wallet SHARD` for each
- * wallet, in declared order, `row SHARD` for each instruction row in its order (two for a swap), and `end`. A shard's number is below
- * that of markets, or 0. A wallet that no row names is of shard 0. */
+/* Where a script may be cut into shards, which share no market and no wallet: lines `market SHARD` for each market and
+ * `wallet SHARD` for each wallet, in declared order, `row SHARD` for each instruction row in its order (two for a
+ * swap), and `end`. A shard's number is below that of markets, or 0. A wallet that no row names is of shard 0. */
 uint8_t dex_shards(const uint8_t *script, size_t length, uint8_t *room, size_t room_size, size_t *size);
 
-/* Where a script may be cut into a chain of parts of at most so many instruction rows (1 or more; two where that is one and they are a
- * swap, which counts two and is never parted): lines `part COUNT`, and `end`. DEX_USAGE where it is 0. */
+/* Where a script may be cut into a chain of parts of at most so many instruction rows (1 or more; two where that is
+ * one and they are a swap, which counts two and is never parted): lines `part COUNT`, and `end`. DEX_USAGE where it
+ * is 0. */
 uint8_t dex_chained(uint32_t rows, const uint8_t *script, size_t length, uint8_t *room, size_t room_size, size_t *size);
 
 /* Both within the widest limits. */
@@ -85,12 +88,13 @@ uint8_t dex_chained_wide(uint32_t rows, const uint8_t *script, size_t length, ui
 /* ---- one instruction on the account bytes of one market, in place, as a ledger's program does it
  *
  * What the caller of dex_process is trusted with beside the points above: the accounts were found sound by
- * dex_market_check, or left by dex_process, and nobody else changed them; `orders` has whole accounts; each wallet that is
- * named is a token account of 165 bytes, no two have one address, and none lies in another place of the call; the sums
- * are those of dex_pending, or left by dex_process. dex_pending wants an event queue that is accepted, as that of such
- * a market is. dex_market_check and dex_process_checked trust with none of this but that nothing lies in two places of
- * the call: any bytes will do. They copy the accounts, and take memory, as dex_reply_text does; the others take none. dex_pending reads the events that are
- * pending; dex_process looks for an open-orders account from the first on. */
+ * dex_market_check, or left by dex_process, and nobody else changed them; `orders` has whole accounts; each wallet that
+ * is named is a token account of 165 bytes, no two have one address, and none lies in another place of the call; the
+ * sums are those of dex_pending, or left by dex_process. dex_pending wants an event queue that is accepted, as that of
+ * such a market is. dex_market_check and dex_process_checked want none of this but that nothing lies in two
+ * places of the call: any bytes will do. They copy the accounts, and take memory, as dex_reply_text does; the others
+ * take none. dex_pending reads the events that are pending; dex_process looks for an open-orders account from the first
+ * on. */
 
 typedef struct {
   uint8_t bytes[32];
@@ -221,8 +225,8 @@ static inline size_t dex_first_room(size_t length) {
   return length > (SIZE_MAX - 65536) / 5 ? SIZE_MAX : 5 * length + 65536;
 }
 
-/* Calls the command with room from malloc, and once more where the text does not fit. *text is the text, *size its length; the caller
- * frees *text, which is null where there is none. `bytes` may be null where `length` is 0. */
+/* Calls the command with room from malloc, and once more where the text does not fit. *text is the text, *size its
+ * length; the caller frees *text, which is null where there is none. `bytes` may be null where `length` is 0. */
 static inline uint8_t dex_text_of(dex_command *command, const uint8_t *bytes, size_t length, uint8_t **text, size_t *size) {
   static const uint8_t nothing[1] = {0};
   size_t room_size = dex_first_room(length), told = 0;

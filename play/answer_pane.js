@@ -225,14 +225,17 @@ export class AnswerPane {
     if (frame.shown === null) frame.main.dataset.view = 'fault';
   }
 
-  // The whole answer to a script that was replayed in two parts; null where something else came before it.
+  // The whole answer to a script that was replayed in two parts; null where something else came before it, or it gives no text, which is told.
   async wholeOf({ bytes }) {
     const { round } = this;
     this.working.begin('replay runs');
-    const answer = await this.runner.call({ call: 'dex_replay', numbers: [], bytes });
-    if (round !== this.round) return null;
+    const answer = await this.runner.call({ call: 'dex_replay', numbers: [], bytes }).catch((fault) => ({ fault: String(fault) }));
+    if (round !== this.round || answer.isStopped) return null;
     this.working.end();
-    return answer.text === undefined ? null : answer;
+    const words = lossWords(answer);
+    if (words === null) return answer;
+    this.tellWords(`${words} Nothing is saved.`);
+    return null;
   }
 
   // Saves the answer as a file; of one in two parts the whole, as the module answers it.

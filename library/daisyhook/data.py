@@ -13,7 +13,7 @@ from .rows import take_data as take_text
 MATCH, CONSUME, SETTLE, DISABLE, SWEEP, NEW, CANCEL, CANCEL_CLIENT, TAKE, CLOSE, INIT, PRUNE, CANCEL_CLIENTS = 2, 3, 5, 7, 8, 10, 11, 12, 13, 14, 15, 16, 18
 NUMBER = re.compile('0|[1-9][0-9]*')
 WORD = ' (0|[1-9][0-9]{0,19})'
-NEW_WORDS = re.compile(f'new (bid|ask){WORD * 3} (decrement|cancel|abort) (limit|ioc|post){WORD * 2}(?:{WORD})?')
+NEW_WORDS = re.compile(f'new (bid|ask){WORD * 3} ({"|".join(SELF_TRADES)}) ({"|".join(ORDER_TYPES)}){WORD * 2}(?:{WORD})?')
 ORDER, LATEST = struct.Struct('<BIIQQQIIQH'), struct.Struct('<q')
 SELF_TRADE_NUMBERS, ORDER_TYPE_NUMBERS = ({word: at for at, word in enumerate(words)} for words in (SELF_TRADES, ORDER_TYPES))
 

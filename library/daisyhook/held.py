@@ -24,7 +24,7 @@ class HeldMarket:
         self.address, self.authority, self.parts, self.orders, self.places = address, authority, parts, orders, places
 
     def copy(self) -> HeldMarket:
-        """The same accounts in memory of their own."""
+        """A copy of these accounts."""
         parts = {name: bytearray(part) for name, part in self.parts.items()}
         return HeldMarket(self.address, self.authority, parts, bytearray(self.orders), self.places)
 
@@ -58,7 +58,7 @@ class Held:
         self.srm, self.msrm = dump.srm, dump.msrm
 
     def copy(self, markets: Iterable[str], wallets: Iterable[str]) -> Held:
-        """The same accounts, of which these markets and wallets are in memory of their own."""
+        """All accounts, of which these markets and wallets are copies."""
         made = Held.__new__(Held)
         made.__dict__.update(self.__dict__)
         made.markets = {**self.markets, **{address: self.markets[address].copy() for address in markets}}

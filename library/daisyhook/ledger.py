@@ -43,9 +43,13 @@ def bridge(name: str) -> ModuleType:
 
 
 def market_among(accounts: dict, market: str | None) -> bytes:
-    """The address of the market: the one that is named, or the only one that there is."""
+    """The address of the market: the one that is named, or the only one that there is. AccountsRefused where there is
+    no such account."""
     if market is not None:
-        return bridge('accounts').read_address(market, 'market')
+        named = bridge('accounts').read_address(market, 'market')
+        if named not in accounts:
+            raise AccountsRefused(f'market {market}: none of the accounts has this address')
+        return named
     snapshot = bridge('snapshot')
     found = [address for address, one in accounts.items()
              if snapshot.kind_by_flags(one.data) == 'market' and not snapshot.length_fault('market', one.data)]

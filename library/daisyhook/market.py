@@ -11,7 +11,7 @@ from . import rows
 from .accounts import INNER, LEAF, SLAB, WALLET, Depth, Event, Level, OpenOrders, Order
 from .accounts import events_of, number_at, orders_of, side_of
 from .addresses import address_at, address_bytes, address_word
-from .commands import Text, accounts
+from .commands import Text, accounts, within
 from .commands import dump as dump_of
 from .entries import Cancelled, Consumed, Done, Ordered, Refused, Reply, Settled, Swept, Took
 from .errors import DexError, Flaw, NotSound
@@ -28,6 +28,8 @@ INSTRUCTION, REPLY = struct.Struct('<32s512s2Qq8B32s32s'), struct.Struct('<4B2I4
 FLAW, FLAWS = struct.Struct('<2B2xI4Q32s'), ('sound', 'fault', 'twice', 'finding')
 PROGRAMS = 'serum', 'openbook'
 NONE, NOBODY, MOST_NAMED = 255, bytes(32), 16
+# Clocks are signed numbers of 64 bits.
+FIRST_CLOCK, LAST_CLOCK = -2**63, 2**63 - 1
 # How many combinations of names are kept.
 KEPT = 4096
 REASONS = {
@@ -97,7 +99,8 @@ class Market:
         one market. Markets of one dump whose traders have wallets in common share them: `wallets` are those of the
         first. `limits` are those of the audit.
 
-        Raises DumpRefused, or AuditFailed where there are findings.
+        Raises DumpRefused, or AuditFailed where there are findings; KeyError where there is no such market; ValueError
+        where there is no such program or clock.
         """
         self._take(Held(accounts(dump, limits)), address, program, clock, wallets)
 
@@ -119,20 +122,24 @@ class Market:
         `coin` and `pc` are its mints, `coin_lot` and `pc_lot` native units of a lot; each side has so many nodes (an
         order and most further ones take two), the queue room for so many events. `accounts` are blank open-orders
         accounts, `wallets` token accounts by address, each with its mint, its owner and its native amount. Mints
-        have 6 `decimals`, MSRM 0, where none are named.
+        have 6 `decimals`, MSRM 0, where none are named. Addresses are labels, digits, or in base58.
 
         Raises ValueError where a word or a number has no place, ScriptRefused where they do not go together.
 
         >>> market = Market.new(coin_lot=100, pc_lot=10, accounts=['amy'], wallets={'ann_coin': ('coin', 'ann', 1000)})
         """
-        held = wallets or {}
-        mints = dict.fromkeys([coin, pc, *filter(None, (srm, msrm)), *(mint for mint, _, _ in held.values())])
-        script = [rows.mint(mint, (decimals or {}).get(mint, 0 if mint == msrm else 6)) for mint in mints]
-        script += [f'{name},{rows.address(word)}\n' for name, word in (('srm', srm), ('msrm', msrm)) if word]
-        script += [rows.wallet(word, mint, owner, amount) for word, (mint, owner, amount) in held.items()]
+        word = address_word
+        address, coin, pc, authority = map(word, (address, coin, pc, authority))
+        srm, msrm = srm and word(srm), msrm and word(msrm)
+        held = [(*map(word, (name, mint, owner)), amount) for name, (mint, owner, amount) in (wallets or {}).items()]
+        places = {word(mint): number for mint, number in (decimals or {}).items()}
+        mints = dict.fromkeys([coin, pc, *filter(None, (srm, msrm)), *(mint for _, mint, _, _ in held)])
+        script = [rows.mint(mint, places.get(mint, 0 if mint == msrm else 6)) for mint in mints]
+        script += [f'{name},{mint}\n' for name, mint in (('srm', srm), ('msrm', msrm)) if mint]
+        script += [rows.wallet(*fields) for fields in held]
         script.append(rows.market(address, coin, pc, authority, coin_lot=coin_lot, pc_lot=pc_lot, nodes=nodes,
                                   events=events))
-        script += [rows.orders(address, account) for account in accounts]
+        script += [rows.orders(address, word(account)) for account in rows.listed(accounts)]
         return cls(dump_of(''.join(script), limits), program=program, clock=clock, limits=limits)
 
     @classmethod
@@ -155,8 +162,18 @@ class Market:
         made.notes = told.notes
         return made
 
+    @property
+    def clock(self) -> int:
+        """The clock that the next instruction sees. It may be set: OutOfLimits, a ValueError, where it has more than
+        64 bits with its sign."""
+        return self._clock
+
+    @clock.setter
+    def clock(self, now: int) -> None:
+        self._clock = within(now, FIRST_CLOCK, LAST_CLOCK, 'clock')
+
     def copy(self) -> Market:
-        """The same market and wallets in memory of their own, to try something."""
+        """A copy of the market and its wallets, to try something."""
         held = self._held_now().copy([self.address], self.wallets)
         made = Market.over(held, self.address, program=PROGRAMS[self._program], clock=self.clock)
         made.notes = self.notes
@@ -170,7 +187,8 @@ class Market:
 
     def _take(self, held: Held, address: str | None, program: str, clock: int,
               wallets: dict[str, bytearray] | None) -> None:
-        """Takes the market of these accounts. KeyError where there is none, or no address and several."""
+        """Takes the market of these accounts. KeyError where there is none, or no address and several; ValueError
+        where there is no such program."""
         is_alone = address is None and len(held.markets) == 1
         word = next(iter(held.markets)) if is_alone else address and address_word(address)
         self._held, self._one = held, held.markets[word]
@@ -178,7 +196,7 @@ class Market:
         self.address, self.authority = one.address, one.authority
         self.parts, self.orders, self._places = one.parts, one.orders, one.places
         self.wallets = held.wallets if wallets is None else wallets
-        self.clock, self._program = clock, PROGRAMS.index(program)
+        self.clock, self._program = clock, PROGRAMS.index(rows.one_of(program, PROGRAMS, 'program'))
         self.notes: tuple[str, ...] = ()
         self._mints = [word and address_bytes(word) for word in (held.srm, held.msrm)]
         self._lend()
@@ -243,20 +261,25 @@ class Market:
         """Does an instruction on the accounts, or refuses it and changes nothing.
 
         `signer` signs it, `named` are the open-orders accounts that it names, in their order, and the roles are
-        wallets. `data` is what it says (module `data`). KeyError where a role names no wallet of this market's dump.
+        wallets. `data` is what it says (module `data`).
+
+        Raises KeyError where a role names no wallet of this market's dump, ValueError where a word is no address or
+        more than 16 accounts are named, TypeError where `named` is one word.
         """
-        pointers = self._laid_out(signer, data, tuple(named), (coin, pc, discount, referrer))
+        pointers = self._laid_out(signer, data, rows.listed(named), (coin, pc, discount, referrer))
         self._act(*pointers)
         return reply_of(REPLY.unpack_from(self._reply))
 
     def process_checked(self, signer: str, data: bytes, *, named: Iterable[str] = (), coin: str | None = None,
                         pc: str | None = None, discount: str | None = None, referrer: str | None = None) -> Reply:
-        """The same for bytes that somebody may have changed: the market and the wallets that are named are checked
-        before, which takes time by their sizes.
+        """Does what `process` does, on bytes that somebody may have changed: the market and the wallets that are named
+        are checked before, which takes time by their sizes.
 
-        Raises NotSound, with what is wrong, and OutOfMemory; then nothing was changed.
+        Raises NotSound, with what is wrong, and OutOfMemory; then nothing was changed. Else it raises what `process`
+        does.
         """
-        market, wallets, instruction, reply = self._laid_out(signer, data, tuple(named), (coin, pc, discount, referrer))
+        roles = coin, pc, discount, referrer
+        market, wallets, instruction, reply = self._laid_out(signer, data, rows.listed(named), roles)
         status = library().dex_process_checked(market, wallets, instruction, self._place(self._flaw), reply)
         if status != 0:
             raise self._refused(status)
@@ -290,7 +313,7 @@ class Market:
             self._pointers[3] = self._place(self._data)
         self._data[:size] = data
         market, instruction, reply, place = self._pointers
-        INSTRUCTION.pack_into(self._instruction, 0, self._addresses.get(signer) or self._signer(signer), names, place, size, self.clock,
+        INSTRUCTION.pack_into(self._instruction, 0, self._addresses.get(signer) or self._signer(signer), names, place, size, self._clock,
                               count, *numbers, *self._end)
         return market, wallets, instruction, reply
 

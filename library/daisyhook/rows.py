@@ -45,6 +45,13 @@ def address(word: str) -> str:
     return word
 
 
+def listed(words: Iterable[str]) -> tuple[str, ...]:
+    """Addresses in their order. TypeError where they are one word, which would be read letter by letter."""
+    if isinstance(words, str):
+        raise TypeError(f'{words!r} is one word, and a list of addresses is wanted')
+    return tuple(words)
+
+
 def number(value: int, what: str, least: int = 0, most: int = MOST_64) -> int:
     """The number, where its field has a place for it."""
     if not least <= value <= most:
@@ -62,7 +69,7 @@ def one_of(word: str, words: Iterable[str], what: str) -> str:
 def row(who: Trader, words: str, *, named: Iterable[str] = (), coin: str | None = None, pc: str | None = None, discount: str | None = None,
         referrer: str | None = None) -> str:
     """A `do` row of these words."""
-    accounts = ' '.join(map(address, named)) or '-'
+    accounts = ' '.join(map(address, listed(named))) or '-'
     roles = (address(word) if word else '-' for word in (coin, pc, discount, referrer))
     return ','.join(('do', str(number(who.lane, 'lane', 0, 15)), address(who.market), address(who.signer), accounts, *roles, words)) + '\n'
 

@@ -51,6 +51,13 @@ def try_new() -> None:
     same('its clock and program', (made.clock, made._program), (4, 1))
     raised('no nodes', ValueError, lambda: daisyhook.Market.new(nodes=0))
     raised('an address that is none', ValueError, lambda: daisyhook.Market.new(accounts=['A!']))
+    raised('one word for accounts', TypeError, lambda: daisyhook.Market.new(accounts='amy'))
+    raised('no such program', ValueError, lambda: daisyhook.Market.new(program='foo'))
+    for clock in (2**63, -2**63 - 1):
+        raised('no such clock', daisyhook.OutOfLimits, lambda: daisyhook.Market.new(clock=clock))
+        raised('set later', daisyhook.OutOfLimits, lambda: setattr(made, 'clock', clock))
+    raised('a clock that is no whole number', TypeError, lambda: setattr(made, 'clock', 1.5))
+    same('the clock stays', made.clock, 4)
     raised('one mint for both', daisyhook.ScriptRefused, lambda: daisyhook.Market.new(coin='x', pc='x'))
     same('the largest sides', daisyhook.Market.new(nodes=65_536).depth(5), daisyhook.Depth((), ()))
 
@@ -73,8 +80,15 @@ def try_words() -> None:
         same(f'its word {word}', daisyhook.addresses.address_word(base58_of(address_of(word))), dump_word(address_of(word)))
     for word in ('Amy', 'a' * 25, '0x' + '0' * 63, 'z' * 44, '1' * 33, 'l' * 40, ''):
         raised(f'{word!r} is no address', ValueError, lambda: daisyhook.addresses.address_bytes(word))
+    raised('one word for those that are named', TypeError, lambda: two_traders().process('ann', data.init(), named='amy'))
+    raised('one word in a row', TypeError, lambda: rows.row(rows.Trader('m', 'ann'), 'consume 1', named='amy'))
     base58, digits = (lambda word: base58_of(address_of(word))), (lambda word: '0x' + address_of(word).hex())
+    plain = daisyhook.Market.new(accounts=['amy'], wallets={'w': ('coin', 'ann', 3)}, decimals={'coin': 9}, srm='srm')
     for spell in (base58, digits):
+        spelt = {spell('w'): (spell('coin'), spell('ann'), 3)}
+        made = daisyhook.Market.new(spell('m'), coin=spell('coin'), pc=spell('pc'), authority=spell('admin'), accounts=[spell('amy')], wallets=spelt,
+                                    decimals={spell('coin'): 9}, srm=spell('srm'))
+        same('a new market by such words', made.dump(), plain.dump())
         market = two_traders()
         told = market.process(spell('bob'), data.new_order(side='bid', price=60, lots=3, pc=2000), named=[spell('ben')], pc=spell('bob_usd'))
         same('a bid by such words', (told.lots_filled, market.amount(spell('bob_usd')), market.open_orders(spell('ben')).owner), (3, 3000, 'bob'))
@@ -111,6 +125,8 @@ def try_ledger(folder: str) -> None:
     for what, words in (('no authority', {'authority': '?'}), ('an account that is no market', {'authority': 'admin', 'market': 'amy'}),
                         ('another program', {'authority': 'admin', 'program': 'serum'}), ('a mint that is not there', {'authority': 'admin', 'srm': 'zzz'})):
         raised(what, daisyhook.AccountsRefused, lambda: daisyhook.Market.from_accounts(other, **words))
+    fault = raised('a market that none is', daisyhook.AccountsRefused, lambda: daisyhook.Market.from_accounts(other, authority='admin', market='zzz'))
+    same('told so', 'market zzz: none of the accounts' in str(fault), True)
     raised('no file', daisyhook.AccountsRefused, lambda: daisyhook.Market.from_accounts(folder + '/none', authority='admin'))
     broken = written(folder, market.dump())
     file = next(Path(broken).glob('*coin_vault*'))

@@ -112,6 +112,22 @@ async function checkAfterScript(suite, player) {
   suite.holds('a made script is played', (await player.saved()).text.startsWith('report 116\n'));
 }
 
+// A joined answer whose whole the module cannot give any more: saving tells so, and saves nothing.
+async function checkLost(suite, player) {
+  await player.page.run(() => {
+    const { postMessage } = Worker.prototype;
+    window.keptBlob = null;
+    Worker.prototype.postMessage = function lose() {
+      Worker.prototype.postMessage = postMessage;
+      this.onmessage({ data: { status: 7 } });
+    };
+  });
+  await player.click('Save the answer');
+  const words = await player.named('fault');
+  suite.holds('no whole to save: it is told', words.startsWith('Memory ran out') && words.endsWith('Nothing is saved.'), words);
+  suite.same('no whole to save: nothing is', await player.page.run(() => window.keptBlob === null), true);
+}
+
 // A long script that is changed again and again at one row: what stands before it is kept soon, and the rows from it on are replayed alone. That
 // is told, with the length of the joined report; what is saved is a replay of the whole.
 async function checkLong(suite, player) {
@@ -131,6 +147,7 @@ async function checkLong(suite, player) {
   const { text } = await player.saved();
   suite.same('a long script: its report', text.slice(0, text.indexOf('\n')), 'report 4016');
   suite.holds('a long script: as long as the joined one', told.includes(`${text.length.toLocaleString('en')} bytes`), `${text.length}, ${told}`);
+  await checkLost(suite, player);
   await player.replace(row, 'do,0,m0,u0,o0_0,-,-,-,-,cancelc');
   const fault = await player.named('row fault');
   const whole = (await player.saved()).text;
