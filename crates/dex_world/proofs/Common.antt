@@ -3,7 +3,7 @@ pub use Rattle.dex_world.proofs.FarLaws.{why-far}
 pub use Rattle.dex_world.proofs.GroupLaws.{EachTwo, Goes, Rise, grouped-firsts, grouped-flat, grouped-rise}
 pub use Rattle.dex_world.proofs.ItemLaws.{idle-step}
 pub use Rattle.dex_world.proofs.NameLaws.{names-roles}
-pub use Rattle.dex_world.proofs.OnceLaws.{asked-once, once-head}
+pub use Rattle.dex_world.proofs.OnceLaws.{asked-once}
 pub use Rattle.dex_world.specs.Fold.{act, acted, fold, is_role, market_acted, markets_acted, names, wallet_acted, wallet_moved}
 pub use Rattle.dex_world.specs.Groups.{Group, alone, grouped, members}
 pub use Rattle.dex_world.specs.Items.{EachApart, ShareNothing, act_item, chosen, fold_items, idle_row, items_of_lane, nothing_to_do, rows_of_lane, why_in, why_on}
@@ -43,7 +43,7 @@ pub use Rattle.std.proofs.Math.Nat.{le-max_left}
 pub use Rattle.std.proofs.lemmas.Bool.{cases_Bool, cond-false, cond-true, cond_both, eq-eqb, eqb-false, eqb-true, false_from_ne_true, false≢true, lt-ltb, ltb-false, ne_eqb, or_left, or_parts, or_right}
 pub use Rattle.std.proofs.lemmas.Iterator.Adapters.{YieldsList-from_vec}
 pub use Rattle.std.proofs.lemmas.Iterator.Consumers.{YieldsList-turn}
-pub use Rattle.std.proofs.lemmas.List.{get_or-map, get_or_read, length-map, map-id, map_push, take_all, take_at, take_more, with_items_is}
+pub use Rattle.std.proofs.lemmas.List.{get_or-map, length-map, map-id, map_push, take_all, take_at, take_more, with_items_is}
 pub use Rattle.std.proofs.lemmas.List.Concat.{flat_map-append}
 pub use Rattle.std.proofs.lemmas.List.Elements.{All-append, All-cons, All-filter, All-head, All-map, All-nil, All-push, All-tail, All-weaker, Contains-append_left, filter-append, filter_passes}
 pub use Rattle.std.proofs.lemmas.List.Folds.{flat_map-map, list_any_at}

@@ -1,5 +1,5 @@
 -- a row leaves what another sees and finds that shares nothing with it
-use Rattle.std.proofs.Common.{◌≡◌, Bool, true, false, cond, List, [], ◌∷◌, map, Option, Some, None, refl, sym, ap, ◌∙◌}
+use Rattle.std.proofs.Common.{◌≡◌, Bool, true, false, cond, List, [], ◌∷◌, map, Option, Some, None, IfSome, refl, sym, ap, ◌∙◌}
 use Rattle.std.proofs.lemmas.Bool.{cond-false, cond_both}
 use Rattle.dex_types.specs.declared.addresses.Address.{Address}
 use Rattle.dex_types.specs.declared.rows.Seen.{Seen}
@@ -15,7 +15,7 @@ use Rattle.dex_history.specs.Journal.{request_of, row_step}
 use Rattle.dex_world.specs.Fold.{act, acted, market_acted, markets_acted, names, wallet_acted, wallet_moved}
 use Rattle.dex_world.specs.Items.{ShareNothing, why_in, why_on}
 use Rattle.dex_world.specs.World.{MarketState, WalletState, World, market_at, role_at, seen_by, wallet_at}
-use Rattle.dex_world.proofs.NameLaws.{coin-named, discount-named, pc-named, referrer-named}
+use Rattle.dex_world.proofs.NameLaws.{row-among}
 
 -- ---- its market
 
@@ -67,10 +67,10 @@ module _ (row other : PlainRow) (share : ShareNothing row other) where
           (ap (names row) (sym (is_same-true address state.seen.address here)) ∙ away))
       either false apart = refl
 
-  role-far : (seen : Seen) (t : Transfers) (states : List WalletState) (role : Option Address) → ((address : Address) → role ≡ Some address → names other address ≡ true)
+  role-far : (seen : Seen) (t : Transfers) (states : List WalletState) (role : Option Address) → IfSome role (λ address. names other address ≡ true)
       → role_at role (map (wallet_acted row seen t) states) ≡ role_at role states
   role-far seen t states None named = refl
-  role-far seen t states (Some address) named = wallet-far seen t address (share.wallets address (named address refl)) states
+  role-far seen t states (Some address) named = wallet-far seen t address (share.wallets address named) states
 
   seen-with : (found : Option Market) (world : World) → seen_by other (acted row found world) ≡ seen_by other world
   seen-with None world = refl
@@ -79,11 +79,12 @@ module _ (row other : PlainRow) (share : ShareNothing row other) where
       let t : Transfers = (row_step row seen m).transfers in
       let early : Seen = seen_by other world in
       let later : Seen = seen_by other (acted row (Some m) world) in
-      ap (λ (one : Option WalletSeen). record later { coin = one }) (role-far seen t world.wallets other.coin (coin-named other))
-      ∙ ap (λ (one : Option WalletSeen). record later { coin = early.coin; pc = one }) (role-far seen t world.wallets other.pc (pc-named other))
-      ∙ ap (λ (one : Option WalletSeen). record later { coin = early.coin; pc = early.pc; discount = one }) (role-far seen t world.wallets other.discount (discount-named other))
+      let named = row-among other in
+      ap (λ (one : Option WalletSeen). record later { coin = one }) (role-far seen t world.wallets other.coin named.0)
+      ∙ ap (λ (one : Option WalletSeen). record later { coin = early.coin; pc = one }) (role-far seen t world.wallets other.pc named.1)
+      ∙ ap (λ (one : Option WalletSeen). record later { coin = early.coin; pc = early.pc; discount = one }) (role-far seen t world.wallets other.discount named.2)
       ∙ ap (λ (one : Option WalletSeen). record later { coin = early.coin; pc = early.pc; discount = early.discount; referrer = one })
-      (role-far seen t world.wallets other.referrer (referrer-named other))
+      (role-far seen t world.wallets other.referrer named.3)
 
   pub seen-far : (world : World) → seen_by other (act row world) ≡ seen_by other world
   seen-far world = seen-with (market_at row.market world.markets) world

@@ -1,5 +1,5 @@
 -- an item of one row acts as the row
-use Rattle.std.proofs.Common.{◌≡◌, ◌||◌, ◌&&◌, not, Bool, true, false, cond, List, [], ◌∷◌, is_some, Result, Ok, refl, ap}
+use Rattle.std.proofs.Common.{◌≡◌, ◌||◌, ◌&&◌, not, Bool, true, false, cond, List, [], ◌∷◌, arith, is_some, Result, Ok, refl, ap}
 use Rattle.std.proofs.lemmas.Bool.{false≢true}
 use Rattle.dex_types.specs.declared.instructions.BadData.{BadData}
 use Rattle.dex_types.specs.declared.instructions.Ix.{Ix}
@@ -18,11 +18,7 @@ use Rattle.dex_world.specs.Items.{act_item, chosen, idle_row, nothing_to_do, why
 use Rattle.dex_world.specs.World.{World}
 
 alone-chosen : (row : PlainRow) (world : World) → chosen world (row ∷ []) ≡ row ∷ []
-alone-chosen row world = either (is_some (why_in world row))
-  where
-    either : (b : Bool) → cond (b || false) (cond b row (idle_row row) ∷ []) (row ∷ []) ≡ row ∷ []
-    either true = refl
-    either false = refl
+alone-chosen row world = grind arith
 
 pub alone-acts : (row : PlainRow) (world : World) → act_item (alone row) world ≡ act row world
 alone-acts row world = ap (λ (rows : List PlainRow). fold rows world) (alone-chosen row world)
@@ -40,6 +36,4 @@ idle-step row seen m = ap (λ (it : Result Ix BadData). step (record (request_of
 -- ---- each waits where one of the two is refused and it is not
 
 pub not-refused : (any refused : Bool) → (any && not refused) ≡ true → refused ≡ false
-not-refused any false held = refl
-not-refused true true held = absurd (false≢true held)
-not-refused false true held = absurd (false≢true held)
+not-refused any refused held = grind arith

@@ -3,6 +3,7 @@ use Rattle.std.proofs.Common.{◌≡◌, ℕ, zero, suc, ◌<◌, Bool, true, fa
 use Rattle.dex_world.proofs.Common.{All-cons, All-head, All-map, All-nil, All-tail, AllZip, cond-false, cond-true, filter, filter-append, flat_map, get_or-map, length-map, list_any}
 use Rattle.std.specs.List.{All, Any}
 use Rattle.std.proofs.lemmas.List.{append-nil}
+use Rattle.dex_world.specs.Lists.{AllThree}
 
 pub map-map : {A B C : Type 0} (f : A → B) (g : B → C) (xs : List A) → map g (map f xs) ≡ map (λ x. g (f x)) xs
 map-map f g [] = refl
@@ -47,9 +48,8 @@ AllZip-maps R f g (x ∷ xs) all = (All-head (λ x. R (f x) (g x)) x xs all, All
 pub zip-map : {A B C : Type 0} (R : A → B → Type 0) (f : A → C) (g : B → C) → ((x : A) (y : B) → R x y → g y ≡ f x) → (xs : List A) (ys : List B)
     → AllZip R xs ys → map g ys ≡ map f xs
 zip-map R f g same [] [] all = refl
-zip-map R f g same [] (y ∷ ys) all = absurd all
-zip-map R f g same (x ∷ xs) [] all = absurd all
 zip-map R f g same (x ∷ xs) (y ∷ ys) all = ap (λ z. z ∷ map g ys) (same x y all.0) ∙ ap (λ zs. f x ∷ zs) (zip-map R f g same xs ys all.1)
+zip-map R f g same _ _ all = absurd all
 
 pub head-same : {A : Type 0} {x y : A} {xs ys : List A} → x ∷ xs ≡ y ∷ ys → x ≡ y
 head-same same = cc
@@ -61,14 +61,13 @@ tail-same same = cc
 pub both-same : {A B C D : Type 0} (f : A → C) (g : B → C) (h : A → D) (i : B → D) (xs : List A) (ys : List B) → map f xs ≡ map g ys → map h xs ≡ map i ys
     → map {B = C × D} (λ x. (f x, h x)) xs ≡ map (λ y. (g y, i y)) ys
 both-same f g h i [] [] one other = refl
-both-same f g h i [] (y ∷ ys) one other = absurd (cc)
-both-same f g h i (x ∷ xs) [] one other = absurd (cc)
 both-same {A} {B} {C} {D} f g h i (x ∷ xs) (y ∷ ys) one other =
     let first : f x ≡ g y = head-same one in
     let second : h x ≡ i y = head-same other in
     ap (λ (c : C). (c, h x) ∷ map (λ z. (f z, h z)) xs) first
     ∙ ap (λ (d : D). (g y, d) ∷ map (λ z. (f z, h z)) xs) second
     ∙ ap (λ (rest : List (C × D)). (g y, i y) ∷ rest) (both-same f g h i xs ys (tail-same one) (tail-same other))
+both-same f g h i _ _ one other = absurd (cc)
 
 -- ---- one of a list
 
@@ -134,12 +133,62 @@ length-filter_map {A} q f xs = ap length (sym (filter-of f q xs)) ∙ length-map
 
 -- ---- two lists, place by place
 
+module _ {A B : Type 0} (R : A → B → Type 0) where
+  -- what holds at each place holds at one
+  pub zip-at : (xs : List A) (ys : List B) (place : ℕ) (d : A) (e : B) → AllZip R xs ys → place < length xs → R (get_or xs place d) (get_or ys place e)
+  zip-at (x ∷ xs) (y ∷ ys) zero d e all within = all.0
+  zip-at (x ∷ xs) (y ∷ ys) (suc place) d e all within = zip-at xs ys place d e all.1 (omega (arith, within))
+  zip-at [] ys place d e all within = absurd (omega (arith, within))
+  zip-at (x ∷ xs) [] place d e all within = absurd all
+
+  pub zip-weaker : (S : A → B → Type 0) → ((x : A) (y : B) → R x y → S x y) → (xs : List A) (ys : List B) → AllZip R xs ys → AllZip S xs ys
+  zip-weaker S each [] [] all = tt
+  zip-weaker S each (x ∷ xs) (y ∷ ys) all = (each x y all.0, zip-weaker S each xs ys all.1)
+  zip-weaker S each _ _ all = absurd all
+
+  -- what R gives of the first holds of all the first ones
+  pub All-first : (P : A → Type 0) → ((x : A) (y : B) → R x y → P x) → (xs : List A) (ys : List B) → AllZip R xs ys → All P xs
+  All-first P each [] [] all = All-nil P
+  All-first P each (x ∷ xs) (y ∷ ys) all = All-cons P x xs (each x y all.0) (All-first P each xs ys all.1)
+  All-first P each _ _ all = absurd all
+
+module _ {A B C : Type 0} (R : A → B → C → Type 0) where
+  pub three-weaker : (S : A → B → C → Type 0) → ((x : A) (y : B) (z : C) → R x y z → S x y z)
+      → (xs : List A) (ys : List B) (zs : List C) → AllThree R xs ys zs → AllThree S xs ys zs
+  three-weaker S each [] [] [] all = tt
+  three-weaker S each (x ∷ xs) (y ∷ ys) (z ∷ zs) all = (each x y z all.0, three-weaker S each xs ys zs all.1)
+  three-weaker S each _ _ _ all = absurd all
+
+  pub three-long : (xs : List A) (ys : List B) (zs : List C) → AllThree R xs ys zs → (length ys ≡ length xs) × (length zs ≡ length xs)
+  three-long [] [] [] all = (refl, refl)
+  three-long (x ∷ xs) (y ∷ ys) (z ∷ zs) all = let rest = three-long xs ys zs all.1 in (ap suc rest.0, ap suc rest.1)
+  three-long _ _ _ all = absurd all
+
+  pub three-at : (xs : List A) (ys : List B) (zs : List C) (place : ℕ) (d : A) (e : B) (f : C) → AllThree R xs ys zs → place < length xs
+      → R (get_or xs place d) (get_or ys place e) (get_or zs place f)
+  three-at (x ∷ xs) (y ∷ ys) (z ∷ zs) zero d e f all within = all.0
+  three-at (x ∷ xs) (y ∷ ys) (z ∷ zs) (suc place) d e f all within = three-at xs ys zs place d e f all.1 (omega (arith, within))
+  three-at [] ys zs place d e f all within = absurd (omega (arith, within))
+  three-at (x ∷ xs) _ _ place d e f all within = absurd all
+
 -- what R gives of the second holds of all the second ones
 pub All-second : {A B : Type 0} (R : A → B → Type 0) (P : B → Type 0) → ((x : A) (y : B) → R x y → P y) → (xs : List A) (ys : List B) → AllZip R xs ys → All P ys
 All-second R P each [] [] all = All-nil P
-All-second R P each [] (y ∷ ys) all = absurd all
-All-second R P each (x ∷ xs) [] all = absurd all
 All-second R P each (x ∷ xs) (y ∷ ys) all = All-cons P y ys (each x y all.0) (All-second R P each xs ys all.1)
+All-second R P each _ _ all = absurd all
+
+-- what stands at a place that is within
+pub item_at : {A : Type 0} (items : List A) (place : ℕ) → place < length items → A
+item_at [] place within = absurd (omega (arith, within))
+item_at (item ∷ items) zero within = item
+item_at (item ∷ items) (suc place) within = item_at items place (omega (arith, within))
+
+pub item-at : {A : Type 0} (items : List A) (place : ℕ) (within : place < length items)
+    → item_at items place within ≡ get_or items place (item_at items place within)
+unfolding item_at
+item-at [] place within = absurd (omega (arith, within))
+item-at (item ∷ items) zero within = refl
+item-at (item ∷ items) (suc place) within = item-at items place (omega (arith, within))
 
 -- whatever stands for what is not there
 pub same-get : {A : Type 0} (xs : List A) (place : ℕ) (d e : A) → place < length xs → get_or xs place d ≡ get_or xs place e
@@ -151,6 +200,11 @@ same-get (x ∷ xs) (suc place) d e within = same-get xs place d e (omega (arith
 pub All-front : {A : Type 0} (P : A → Type 0) (xs ys : List A) → All P (xs ++ ys) → All P xs
 All-front P [] ys all = All-nil P
 All-front P (x ∷ xs) ys all = All-cons P x xs (All-head P x (xs ++ ys) all) (All-front P xs ys (All-tail P x (xs ++ ys) all))
+
+-- and of those behind
+pub All-behind : {A : Type 0} (P : A → Type 0) (xs ys : List A) → All P (xs ++ ys) → All P ys
+All-behind P [] ys all = all
+All-behind P (x ∷ xs) ys all = All-behind P xs ys (All-tail P x (xs ++ ys) all)
 
 module _ {A B : Type 0} (R : A → B → Type 0) where
   pub none-left : (x : A) (xs : List A) → AllZip R (xs ++ x ∷ []) [] → ⊥

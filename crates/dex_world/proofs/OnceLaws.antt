@@ -1,8 +1,8 @@
 -- Addresses of which each stands once; so do the wallets that a row names, and those that it sees.
-use Rattle.std.proofs.Common.{◌≡◌, ℕ, ◌+◌, ◌≤◌, Bool, true, false, ◌||◌, cond, List, [], ◌∷◌, ◌++◌, Option, None, Some, refl, sym, ap, ◌∙◌, subst, arith, ⊎_elim}
+use Rattle.std.proofs.Common.{◌≡◌, ℕ, ◌+◌, ◌≤◌, Bool, true, false, ◌||◌, cond, List, [], ◌∷◌, Option, None, Some, refl, sym, ap, ◌∙◌, subst, arith, ⊎_elim}
 use Rattle.std.specs.List.{All, filter, list_any}
-use Rattle.std.proofs.lemmas.Bool.{cases_Bool, cond-false, cond-true, cond_both, or_parts}
-use Rattle.std.proofs.lemmas.List.Elements.{All-cons, All-head, All-nil, All-tail}
+use Rattle.std.proofs.lemmas.Bool.{cases_Bool, cond-false, cond-true, cond_both, false≢true, or_cases, or_left, or_parts, or_right}
+use Rattle.std.proofs.lemmas.List.Elements.{All-cons, All-head, All-nil, All-tail, All-weaker}
 use Rattle.dex_types.specs.declared.addresses.Address.{Address}
 use Rattle.dex_types.specs.Addresses.{is_same}
 use Rattle.dex_types.specs.Wallets.{is_lower, with_address, with_role}
@@ -59,10 +59,6 @@ pub once-head : (first : Address) (others : List Address) → AreOnce (first ∷
 once-head first others once =
     none-any first others (omega (arith, subst (λ (b : Bool). cond b 1 0 + times first others ≤ 1) (is_same-refl first) (once first)))
 
-pub once-behind : (front behind : List Address) → AreOnce (front ++ behind) → AreOnce behind
-once-behind [] behind once = once
-once-behind (first ∷ front) behind once = once-behind front behind (once-tail first (front ++ behind) once)
-
 -- an address stands there just where it is one of them
 pub times-any : (address : Address) (addresses : List Address) → AreOnce addresses → times address addresses ≡ cond (list_any (is_same address) addresses) 1 0
 times-any address [] once = refl
@@ -102,6 +98,22 @@ one-kept wallet (address ∷ addresses) once =
     (cases_Bool (is_same wallet address))
 
 -- ---- what holds of each, and of one more
+
+-- each of some addresses is one of them
+pub each-any : (addresses : List Address) → All (λ (address : Address). list_any (is_same address) addresses ≡ true) addresses
+each-any [] = All-nil _
+each-any (first ∷ others) =
+    All-cons (λ (address : Address). list_any (is_same address) (first ∷ others) ≡ true) first others (or_left (is_same first first) (list_any (is_same first) others) (is_same-refl first))
+    (All-weaker (λ (address : Address). list_any (is_same address) others ≡ true) (λ (address : Address). list_any (is_same address) (first ∷ others) ≡ true)
+    (λ address among. or_right (is_same address first) (list_any (is_same address) others) among) others (each-any others))
+
+-- what holds of each holds of one of them
+pub of-any : (P : Address → Type 0) (address : Address) (addresses : List Address) → list_any (is_same address) addresses ≡ true → All P addresses → P address
+of-any P address [] any all = absurd (false≢true any)
+of-any P address (other ∷ others) any all =
+    ⊎_elim (λ (same : is_same address other ≡ true). subst P (sym (is_same-true address other same)) (All-head P other others all))
+    (λ (rest : list_any (is_same address) others ≡ true). of-any P address others rest (All-tail P other others all))
+    (or_cases (is_same address other) (list_any (is_same address) others) any)
 
 pub with_address-all : (P : Address → Type 0) (address : Address) (addresses : List Address) → P address → All P addresses → All P (with_address address addresses)
 with_address-all P address [] here all = All-cons P address [] here (All-nil P)
