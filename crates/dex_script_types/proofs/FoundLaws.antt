@@ -1,22 +1,21 @@
 -- The wallets of four roles, found by their addresses: where each stands, and which of them each role names.
-use Rattle.std.proofs.Common.{◌≡◌, ◌∙◌, ℕ, zero, suc, ◌+◌, ◌<◌, ◌≤◌, ◌&&◌, ◌||◌, Bool, true, false, cond, List, [], ◌∷◌, Option, None, Some, IfSome, ap, arith, get_or, is_some, length, refl, sym, subst}
+use Rattle.std.proofs.Common.{◌≡◌, ◌∙◌, ℕ, zero, suc, ◌+◌, ◌<◌, ◌≤◌, ◌&&◌, Bool, true, false, cond, List, [], ◌∷◌, Option, None, Some, IfSome, MatchOption, ap, arith, get_or, is_some, length, refl, replicate, rules, sym, subst, unwrap_or}
 use Rattle.std.specs.List.{All, list_any, position, position_from}
-use Rattle.std.proofs.lemmas.Bool.{and_parts, cond_both, false_from_ne_true, false≢true, or_left, or_right}
+use Rattle.std.proofs.lemmas.Bool.{false_from_ne_true, false≢true}
 use Rattle.std.proofs.lemmas.Iterator.Adapters.{position_from-zero}
-use Rattle.std.proofs.lemmas.List.Elements.{All-cons, All-head, All-nil, All-tail}
+use Rattle.std.proofs.lemmas.List.Elements.{All-head, All-nil, All-replicate, All-tail}
 use Rattle.std.proofs.lemmas.List.Quantifiers.{position-Some}
+use Rattle.std.proofs.lemmas.Option.{MatchOption-at_none, MatchOption-at_some}
 use Rattle.dex_types.specs.declared.addresses.Address.{Address}
 use Rattle.dex_types.specs.Addresses.{is_same}
-use Rattle.dex_types.specs.Wallets.{with_role}
-use Rattle.dex_laws.proofs.TraderLaws.{is_same-refl, is_same-true}
+use Rattle.dex_laws.proofs.TraderLaws.{is_same-true}
 use Rattle.dex_locks.specs.Places.{AreFree, StandInFront, front}
 use Rattle.dex_locks.proofs.PlaceLaws.{length-roles}
 use Rattle.dex_world.specs.Fold.{is_role}
 use Rattle.dex_world.specs.declared.places.RowWallets.{RowWallets}
 use Rattle.dex_world.specs.Places.{ArePlacesOf, AreWalletsAt, IsIndexOf, wallets_of_roles}
-use Rattle.dex_world.proofs.NameLaws.{any-with_role}
-use Rattle.dex_world.proofs.OnceLaws.{with_address-all}
-use Rattle.dex_script_types.specs.Found.{are_found, is_found, places_by, with_place}
+use Rattle.dex_world.proofs.NameLaws.{roles-among, roles-each}
+use Rattle.dex_script_types.specs.Found.{are_found, index_among, is_found, places_by, with_place}
 use Rattle.dex_script_types.specs.Places.{IsMarked}
 
 -- at this place no wallet stands
@@ -30,70 +29,28 @@ module _ (place_of : Address → Option ℕ) where
   abbrev IsFound : Address → Type 0
   IsFound address = is_some (place_of address) ≡ true
 
-  free-found : (wallets : List (Option Address)) → AreFree wallets → IfSome (places_by place_of wallets) (All IsNone)
-  free-found [] free = All-nil IsNone
-  free-found (None ∷ wallets) free = one (places_by place_of wallets) (free-found wallets free)
+  free-places : (wallets : List (Option Address)) → AreFree wallets → places_by place_of wallets ≡ Some (replicate (length wallets) 65535)
+  free-places [] free = refl
+  free-places (None ∷ wallets) free = ap (with_place (Some 65535)) (free-places wallets free)
+  free-places ((Some address) ∷ wallets) free = absurd free
+
+  -- what is told are the places of the wallets in front; where nothing is, not all of these are found
+  told : (wallets : List (Option Address)) → StandInFront wallets
+      → MatchOption (places_by place_of wallets) (All IsFound (front wallets) → ⊥) (ArePlacesOf place_of (front wallets))
+  told [] stand = All-nil IsNone
+  told (None ∷ wallets) stand = rw (free-places wallets stand) (All-replicate IsNone (suc (length wallets)) 65535 refl)
+  told ((Some address) ∷ wallets) stand = one (place_of address) refl (places_by place_of wallets) (told wallets stand)
     where
-      one : (rest : Option (List ℕ)) → IfSome rest (All IsNone) → IfSome (with_place (Some 65535) rest) (All IsNone)
-      one None are = tt
-      one (Some places) are = All-cons IsNone 65535 places refl are
-  free-found ((Some address) ∷ wallets) free = absurd free
+      one : (place : Option ℕ) → place_of address ≡ place → (rest : Option (List ℕ))
+          → MatchOption rest (All IsFound (front wallets) → ⊥) (ArePlacesOf place_of (front wallets))
+          → MatchOption (with_place place rest) (All IsFound (address ∷ front wallets) → ⊥) (ArePlacesOf place_of (address ∷ front wallets))
+      one None is rest told = λ all. false≢true (ap is_some (sym is) ∙ All-head IsFound address (front wallets) all)
+      one (Some place) is None told = λ all. told (All-tail IsFound address (front wallets) all)
+      one (Some place) is (Some places) told = (is, told)
 
-  pub places-found : (wallets : List (Option Address)) → StandInFront wallets
-      → IfSome (places_by place_of wallets) (ArePlacesOf place_of (front wallets))
-  places-found [] stand = All-nil IsNone
-  places-found (None ∷ wallets) stand = free-found (None ∷ wallets) stand
-  places-found ((Some address) ∷ wallets) stand =
-      one (place_of address) (places_by place_of wallets) refl (places-found wallets stand)
-    where
-      one : (place : Option ℕ) (rest : Option (List ℕ)) → place_of address ≡ place
-          → IfSome rest (ArePlacesOf place_of (front wallets))
-          → IfSome (with_place place rest) (ArePlacesOf place_of (address ∷ front wallets))
-      one None rest is are = tt
-      one (Some place) None is are = tt
-      one (Some place) (Some places) is are = (is, are)
-
-  both : (place : Option ℕ) (rest : Option (List ℕ)) → is_some place ≡ true → is_some rest ≡ true
-      → is_some (with_place place rest) ≡ true
-  both None rest here there = cc
-  both (Some place) None here there = cc
-  both (Some place) (Some places) here there = refl
-
-  free-some : (wallets : List (Option Address)) → AreFree wallets → is_some (places_by place_of wallets) ≡ true
-  free-some [] free = refl
-  free-some (None ∷ wallets) free = both (Some 65535) (places_by place_of wallets) refl (free-some wallets free)
-  free-some ((Some address) ∷ wallets) free = absurd free
-
-  front-some : (wallets : List (Option Address)) → StandInFront wallets → All IsFound (front wallets)
-      → is_some (places_by place_of wallets) ≡ true
-  front-some [] stand all = refl
-  front-some (None ∷ wallets) stand all = free-some (None ∷ wallets) stand
-  front-some ((Some address) ∷ wallets) stand all =
-      both (place_of address) (places_by place_of wallets) (All-head IsFound address (front wallets) all)
-      (front-some wallets stand (All-tail IsFound address (front wallets) all))
-
-  role-found : (role : Option Address) (addresses : List Address) → is_found place_of role ≡ true
-      → All IsFound addresses → All IsFound (with_role role addresses)
-  role-found None addresses here all = all
-  role-found (Some address) addresses here all = with_address-all IsFound address addresses here all
-
-  -- where the wallets of all roles are found, so are the places of those that are planned
-  pub roles-some : (coin pc discount referrer : Option Address) (wallets : List (Option Address)) → StandInFront wallets
-      → front wallets ≡ wallets_of_roles coin pc discount referrer → are_found place_of coin pc discount referrer ≡ true
-      → is_some (places_by place_of wallets) ≡ true
-  roles-some coin pc discount referrer wallets stand are found =
-      let c = is_found place_of coin in
-      let p = is_found place_of pc in
-      let d = is_found place_of discount in
-      let r = is_found place_of referrer in
-      let four = and_parts (c && p && d) r found in
-      let three = and_parts (c && p) d four.0 in
-      let two = and_parts c p three.0 in
-      front-some wallets stand
-      (subst (All IsFound) (sym are)
-      (role-found coin _ two.0
-      (role-found pc _ two.1
-      (role-found discount _ three.1 (role-found referrer [] four.1 (All-nil IsFound))))))
+  role-found : (role : Option Address) → is_found place_of role ≡ true → IfSome role IsFound
+  role-found None found = tt
+  role-found (Some address) found = found
 
   -- ---- each of some addresses at its place
 
@@ -140,28 +97,31 @@ module _ (place_of : Address → Option ℕ) where
 
 -- ---- who finds each wallet at the place at which another finds it
 
+-- what one finds another finds there
+pub wallets-weaker : (one other : Address → Option ℕ) → ((address : Address) (place : ℕ) → one address ≡ Some place → other address ≡ Some place)
+    → (coin pc discount referrer : Option Address) (at : RowWallets) → AreWalletsAt one coin pc discount referrer at → AreWalletsAt other coin pc discount referrer at
+wallets-weaker one other right coin pc discount referrer at is = record {
+  places = places-weaker (wallets_of_roles coin pc discount referrer) at.places is.places;
+  of_coin = is.of_coin;
+  of_pc = is.of_pc;
+  of_discount = is.of_discount;
+  of_referrer = is.of_referrer;
+}
+  where
+    places-weaker : (addresses : List Address) (places : List ℕ) → ArePlacesOf one addresses places → ArePlacesOf other addresses places
+    places-weaker [] places are = are
+    places-weaker (address ∷ addresses) [] are = are
+    places-weaker (address ∷ addresses) (place ∷ places) (is, are) = (right address place is, places-weaker addresses places are)
+
 module _ (one other : Address → Option ℕ) (same : (address : Address) → one address ≡ other address) where
   pub is_found-same : (role : Option Address) → is_found one role ≡ is_found other role
   is_found-same None = refl
   is_found-same (Some address) = ap is_some (same address)
 
-  places-same : (addresses : List Address) (places : List ℕ) → ArePlacesOf one addresses places
-      → ArePlacesOf other addresses places
-  places-same [] places are = are
-  places-same (address ∷ addresses) [] are = are
-  places-same (address ∷ addresses) (place ∷ places) (is, are) =
-      (sym (same address) ∙ is, places-same addresses places are)
-
   pub wallets-same : (coin pc discount referrer : Option Address) (at : RowWallets)
       → AreWalletsAt one coin pc discount referrer at
       → AreWalletsAt other coin pc discount referrer at
-  wallets-same coin pc discount referrer at is = record {
-    places = places-same (wallets_of_roles coin pc discount referrer) at.places is.places;
-    of_coin = is.of_coin;
-    of_pc = is.of_pc;
-    of_discount = is.of_discount;
-    of_referrer = is.of_referrer;
-  }
+  wallets-same = wallets-weaker one other (λ address place is. sym (same address) ∙ is)
 
 -- wallets that stand somewhere are found
 module _
@@ -187,116 +147,79 @@ module _
 
 some-any : {X : Type 0} (test : X → Bool) (i : ℕ) (xs : List X) → is_some (position_from test i xs) ≡ list_any test xs
 some-any test i [] = refl
-some-any test i (x ∷ xs) = here (test x) i (position_from test (i + 1) xs) (list_any test xs) (some-any test (i + 1) xs)
-  where
-    here : (b : Bool) (i : ℕ) (rest : Option ℕ) (any : Bool) → is_some rest ≡ any
-        → is_some (cond b (Some i) rest) ≡ b || any
-    here true i rest any e = refl
-    here false i rest any e = e
+some-any test i (x ∷ xs) = let rest = some-any test (i + 1) xs in search (rules, rest)
 
 -- a place is found where a test passes
 pub position-any : {X : Type 0} (test : X → Bool) (xs : List X) → is_some (position test xs) ≡ list_any test xs
 position-any test xs = ap is_some (position_from-zero test xs) ∙ some-any test 0 xs
 
-front-from : (address : Address) (i : ℕ) (wallets : List (Option Address)) (index : ℕ)
-    → position_from (is_same address) i (front wallets) ≡ Some index
-    → position_from (λ wallet. is_role wallet address) i wallets ≡ Some index
-front-from address i [] index is = is
-front-from address i (None ∷ wallets) index is = cc
-front-from address i ((Some wallet) ∷ wallets) index is =
-    cond_both (is_same address wallet) (Some i) (position_from (is_same address) (i + 1) (front wallets)) P
-    (λ same is. ap (λ (b : Bool). cond b (Some i) behind) same ∙ is)
-    (λ apart is. ap (λ (b : Bool). cond b (Some i) behind) apart ∙ front-from address (i + 1) wallets index is)
-    is
-  where
-    behind : Option ℕ
-    behind = position_from (λ wallet. is_role wallet address) (i + 1) wallets
+free-from : (address : Address) (i : ℕ) (wallets : List (Option Address)) → AreFree wallets → position_from (λ wallet. is_role wallet address) i wallets ≡ None
+free-from address i [] free = refl
+free-from address i (None ∷ wallets) free = free-from address (i + 1) wallets free
+free-from address i ((Some wallet) ∷ wallets) free = absurd free
 
-    P : Option ℕ → Type 0
-    P found = found ≡ Some index → cond (is_same address wallet) (Some i) behind ≡ Some index
+front-from : (address : Address) (i : ℕ) (wallets : List (Option Address)) → StandInFront wallets
+    → position_from (λ wallet. is_role wallet address) i wallets ≡ position_from (is_same address) i (front wallets)
+front-from address i [] stand = refl
+front-from address i (None ∷ wallets) stand = free-from address (i + 1) wallets stand
+front-from address i ((Some wallet) ∷ wallets) stand =
+    ap (λ (behind : Option ℕ). cond (is_same address wallet) (Some i) behind) (front-from address (i + 1) wallets stand)
 
--- an address in front stands at its index
-pub front-position : (address : Address) (wallets : List (Option Address)) (index : ℕ)
-    → position (is_same address) (front wallets) ≡ Some index
-    → position (λ wallet. is_role wallet address) wallets ≡ Some index
-front-position address wallets index is =
+-- an address stands where it stands in front
+pub front-position : (address : Address) (wallets : List (Option Address)) → StandInFront wallets
+    → position (λ wallet. is_role wallet address) wallets ≡ position (is_same address) (front wallets)
+front-position address wallets stand =
     position_from-zero (λ wallet. is_role wallet address) wallets
-    ∙ front-from address 0 wallets index (sym (position_from-zero (is_same address) (front wallets)) ∙ is)
-
--- the wallet of the role is one of these
-abbrev IsAmong : List Address → Option Address → Type 0
-IsAmong addresses None = Unit {0}
-IsAmong addresses (Some address) = list_any (is_same address) addresses ≡ true
-
-own : (role : Option Address) (addresses : List Address) → IsAmong (with_role role addresses) role
-own None addresses = tt
-own (Some address) addresses =
-    any-with_role address (Some address) addresses
-    ∙ or_left (is_same address address) (list_any (is_same address) addresses) (is_same-refl address)
-
-with-other : (role other : Option Address) (addresses : List Address) → IsAmong addresses role
-    → IsAmong (with_role other addresses) role
-with-other None other addresses among = tt
-with-other (Some address) other addresses among =
-    any-with_role address other addresses
-    ∙ or_right (is_role other address) (list_any (is_same address) addresses) among
-
--- it has an index
-index-among : (addresses : List Address) (role : Option Address) (told : ℕ) → IsAmong addresses role
-    → ((index : ℕ) → IsIndexOf addresses role index → told ≡ index) → IsIndexOf addresses role told
-index-among addresses None told among is = is 4 refl
-index-among addresses (Some address) told among is =
-    one (position (is_same address) addresses) refl (position-any (is_same address) addresses ∙ among)
-  where
-    one : (found : Option ℕ) → position (is_same address) addresses ≡ found → is_some found ≡ true
-        → position (is_same address) addresses ≡ Some told
-    one None here some = cc
-    one (Some index) here some = here ∙ ap Some (sym (is index here))
+    ∙ front-from address 0 wallets stand ∙ sym (position_from-zero (is_same address) (front wallets))
 
 -- ---- what is found of the wallets that are planned
 
--- of a role this index is told, where it can be no other
-abbrev Tells : List Address → Option Address → ℕ → Type 0
-Tells addresses role told = (index : ℕ) → IsIndexOf addresses role index → told ≡ index
+module _
+    (place_of : Address → Option ℕ) (coin pc discount referrer : Option Address) (wallets : List (Option Address))
+    (are : front wallets ≡ wallets_of_roles coin pc discount referrer) (stand : StandInFront wallets)
+  where
+    abbrev all : List Address
+    all = wallets_of_roles coin pc discount referrer
 
-index-told : (all addresses : List Address) (role : Option Address) (told : ℕ) → all ≡ addresses
-    → IsAmong addresses role → Tells all role told
-    → IsIndexOf addresses role told
-index-told all addresses role told same among is =
-    index-among addresses role told among
-    (λ index of. is index (subst (λ (list : List Address). IsIndexOf list role index) (sym same) of))
+    abbrev Index : Option Address → ℕ → Type 0
+    Index role told = told ≡ index_among wallets role
 
-pub found-where :
-    (place_of : Address → Option ℕ) (coin pc discount referrer : Option Address)
-    (wallets : List (Option Address)) (at : RowWallets)
-    → front wallets ≡ wallets_of_roles coin pc discount referrer → StandInFront wallets
-    → Some at.places ≡ places_by place_of wallets
-    → Tells (front wallets) coin at.coin → Tells (front wallets) pc at.pc → Tells (front wallets) discount at.discount
-    → Tells (front wallets) referrer at.referrer
-    → AreWalletsAt place_of coin pc discount referrer at
-found-where place_of coin pc discount referrer wallets at are stand found c p d r =
-    let all = wallets_of_roles coin pc discount referrer in
-    record {
-      places = subst (λ (list : List Address). ArePlacesOf place_of list at.places) are
-          (subst (λ (places : Option (List ℕ)). IfSome places (ArePlacesOf place_of (front wallets))) (sym found)
-          (places-found place_of wallets stand));
-      of_coin = index-told (front wallets) all coin at.coin are (own coin _) c;
-      of_pc = index-told (front wallets) all pc at.pc are (with-other pc coin _ (own pc _)) p;
-      of_discount =
-          index-told (front wallets) all discount at.discount are
-          (with-other discount coin _ (with-other discount pc _ (own discount _))) d;
-      of_referrer = index-told (front wallets) all referrer at.referrer are
-          (with-other referrer coin _ (with-other referrer pc _ (with-other referrer discount _ (own referrer _)))) r;
-    }
+    -- the index that is told of a role is its own
+    index-told : (role : Option Address) (told : ℕ) → IfSome role (λ address. list_any (is_same address) all ≡ true) → Index role told → IsIndexOf all role told
+    index-told None told among is = is
+    index-told (Some address) told among is =
+        one (position (is_same address) all) (position-any (is_same address) all ∙ among)
+        ∙ ap Some (sym (is ∙ ap (λ (found : Option ℕ). unwrap_or found 4)
+        (front-position address wallets stand ∙ ap (λ (list : List Address). position (is_same address) list) are)))
+      where
+        one : (found : Option ℕ) → is_some found ≡ true → found ≡ Some (unwrap_or found 4)
+        one None some = absurd (false≢true some)
+        one (Some index) some = refl
 
--- where none is told, not all are found
-pub not-found :
-    (place_of : Address → Option ℕ) (coin pc discount referrer : Option Address)
-    (wallets : List (Option Address)) (places : Option (List ℕ))
-    → front wallets ≡ wallets_of_roles coin pc discount referrer → StandInFront wallets
-    → places ≡ places_by place_of wallets → places ≡ None
-    → are_found place_of coin pc discount referrer ≡ false
-not-found place_of coin pc discount referrer wallets places are stand is none =
-    false_from_ne_true (are_found place_of coin pc discount referrer)
-    (λ all.
-    false≢true (ap is_some (sym none ∙ is) ∙ roles-some place_of coin pc discount referrer wallets stand are all))
+    pub found-where : (at : RowWallets) → places_by place_of wallets ≡ Some at.places
+        → Index coin at.coin → Index pc at.pc → Index discount at.discount → Index referrer at.referrer
+        → AreWalletsAt place_of coin pc discount referrer at
+    found-where at found c p d r =
+        let among = roles-among coin pc discount referrer in
+        record {
+          places = subst (λ (list : List Address). ArePlacesOf place_of list at.places) are
+              (MatchOption-at_some _ _ at.places found (told place_of wallets stand));
+          of_coin = index-told coin at.coin among.0 c;
+          of_pc = index-told pc at.pc among.1 p;
+          of_discount = index-told discount at.discount among.2 d;
+          of_referrer = index-told referrer at.referrer among.3 r;
+        }
+
+    -- where none is told, not all are found
+    pub not-found : places_by place_of wallets ≡ None → are_found place_of coin pc discount referrer ≡ false
+    not-found none =
+        false_from_ne_true (are_found place_of coin pc discount referrer) (λ all.
+        let each = four (is_found place_of coin) (is_found place_of pc) (is_found place_of discount) (is_found place_of referrer) all in
+        let found = role-found place_of in
+        MatchOption-at_none _ _ none (told place_of wallets stand)
+        (subst (All (IsFound place_of)) (sym are)
+        (roles-each coin pc discount referrer (IsFound place_of) (found coin each.0, found pc each.1, found discount each.2, found referrer each.3))))
+      where
+        four : (a b c d : Bool) → (a && b && c && d) ≡ true → (a ≡ true) × (b ≡ true) × (c ≡ true) × (d ≡ true)
+        four true true true true all = (refl, refl, refl, refl)
+        four _ _ _ _ all = absurd (cc)

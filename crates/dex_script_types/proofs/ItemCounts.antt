@@ -1,7 +1,5 @@
 -- How many items rows are, counted from the front by the numbers beside them.
-use Rattle.std.proofs.Common.{◌≡◌, ◌∙◌, ◌+◌, ◌<◌, ℕ, suc, Bool, true, false, cond, eqb, not, List, [], ◌∷◌, Option, Some, None, length, map, slice_index_or, drop, refl, ap, sym, arith}
-use Rattle.std.specs.Option.{option_eq}
-use Rattle.std.proofs.Math.Seq.{drop-cons}
+use Rattle.std.proofs.Common.{◌≡◌, ◌∙◌, ◌+◌, ℕ, Bool, true, false, cond, eqb, List, [], ◌∷◌, Option, Some, None, length, map, refl, ap, sym, arith}
 use Rattle.std.proofs.lemmas.List.{length-map}
 use Rattle.dex_world.specs.declared.places.RowPlaces.{RowPlaces}
 use Rattle.dex_types.specs.Rows.{PlainRow}
@@ -19,29 +17,6 @@ goes_with (Some last) number = eqb last number
 abbrev pub begun : Option ℕ → List RowPlaces → ℕ
 begun last [] = 0
 begun last (at ∷ places) = cond (goes_with last at.number) 0 1 + begun (Some at.number) places
-
--- one, where this is so
-abbrev one_where : Bool → ℕ
-one_where so = cond so 1 0
-
--- an item begins where the row before has another number
-begins : (last : Option ℕ) (number : ℕ) (differs : Bool) → differs ≡ not (option_eq eqb last (Some number)) → cond (goes_with last number) 0 1 ≡ one_where differs
-begins None number differs is = ap one_where (sym is)
-begins (Some last) number differs is = turned (eqb last number) ∙ ap one_where (sym is)
-  where
-    turned : (b : Bool) → cond b 0 1 ≡ one_where (not b)
-    turned true = refl
-    turned false = refl
-
--- from a place to those after it
-pub begun-more : (places : List RowPlaces) (place : ℕ) (at : RowPlaces) (last : Option ℕ) (differs : Bool) → place < length places → at ≡ slice_index_or places place at
-    → differs ≡ not (option_eq eqb last (Some at.number))
-    → begun last (drop place places) ≡ one_where differs + begun (Some at.number) (drop (place + 1) places)
-begun-more places place at last differs within here is =
-    let next : suc place ≡ place + 1 = omega arith in
-    ap (begun last)
-    (drop-cons places place at within ∙ ap (λ (one : RowPlaces). one ∷ drop (suc place) places) (sym here) ∙ ap (λ (n : ℕ). at ∷ drop n places) next)
-    ∙ ap (λ (n : ℕ). n + begun (Some at.number) (drop (place + 1) places)) (begins last at.number differs is)
 
 module _ {A : Type 0} (key : A → ℕ) where
   length-joined : (y x : A) (groups : List (Group A)) → length (joined key y (joined key x groups)) ≡ cond (eqb (key y) (key x)) 0 1 + length (joined key x groups)
@@ -81,10 +56,9 @@ begun-all (at ∷ places) = begun-behind at places
 
 numbers : (rows : List PlainRow) (places : List RowPlaces) → AreBeside rows places → map number_at places ≡ map (λ (row : PlainRow). row.number) rows
 numbers [] [] are = refl
-numbers [] (at ∷ places) are = absurd are
-numbers (row ∷ rows) [] are = absurd are
 numbers (row ∷ rows) (at ∷ places) (is, are) =
     ap (λ (n : ℕ). n ∷ map number_at places) is.number ∙ ap (λ (rest : List ℕ). row.number ∷ rest) (numbers rows places are)
+numbers _ _ are = absurd are
 
 by-numbers : {A : Type 0} (key : A → ℕ) (xs : List A) → length (grouped key xs) ≡ length (grouped (λ (n : ℕ). n) (map key xs))
 by-numbers key xs = sym (ap length (grouped-map (λ (n : ℕ). n) key xs) ∙ length-map (grouped key xs) (map_group key))

@@ -1,5 +1,5 @@
 -- Places of rows, read off a list of them.
-use Rattle.std.proofs.Common.{◌≡◌, ℕ, ◌+◌, ◌<◌, zero, suc, cond, List, [], ◌∷◌, ◌++◌, Option, None, Some, get_or, length, map, arith, refl, sym, ap, subst, ◌∙◌}
+use Rattle.std.proofs.Common.{◌≡◌, ℕ, ◌+◌, ◌<◌, cond, List, [], ◌∷◌, ◌++◌, Option, None, Some, get_or, length, map, arith, refl, sym, ap, subst, ◌∙◌}
 use Rattle.std.specs.List.{AllZip, position, position_from}
 use Rattle.std.proofs.lemmas.Iterator.Adapters.{position_from-zero}
 use Rattle.std.proofs.lemmas.List.{get_or-map, length-map}
@@ -13,7 +13,8 @@ use Rattle.dex_types.specs.Addresses.{is_same}
 use Rattle.dex_types.specs.Rows.{PlainRow, row_of}
 use Rattle.dex_types.specs.Wallets.{row_wallets}
 use Rattle.dex_laws.proofs.TraderLaws.{is_same-true}
-use Rattle.dex_world.specs.Places.{ArePlacesOf, AreWalletsAt, IsIndexOf, coin_at, discount_at, pc_at, place_at, referrer_at}
+use Rattle.dex_world.specs.Places.{AreWalletsAt, IsIndexOf, place_at}
+use Rattle.dex_world.proofs.MappedLists.{zip-at}
 use Rattle.dex_script_types.specs.PlainScript.{PlainScript}
 use Rattle.dex_script_types.specs.Places.{AreBeside, ArePlaced, IsBeside, IsMarked, IsPlace, IsPlaced, IsRolePlaced, market_addresses, market_place, wallet_addresses, wallet_place}
 use Rattle.dex_script_types.proofs.FoundLaws.{found-at, role-marked}
@@ -23,43 +24,16 @@ pub placed-long : (start : PlainAccounts) (rows : List PlainRow) (places : List 
     → length places ≡ length rows
 placed-long start rows places are = AllZip-long (IsPlaced start) rows places are
 
--- what holds of each two of two lists side by side holds at one index
-zipped-at : {A B : Type 0} (R : A → B → Type 0) (xs : List A) (ys : List B) → AllZip R xs ys → (index : ℕ) (x : A) (y : B) → index < length xs
-    → R (get_or xs index x) (get_or ys index y)
-zipped-at R [] [] are index x y within = absurd (omega (arith, within))
-zipped-at R [] (next ∷ ys) are index x y within = absurd are
-zipped-at R (first ∷ xs) [] are index x y within = absurd are
-zipped-at R (first ∷ xs) (next ∷ ys) are zero x y within = are.0
-zipped-at R (first ∷ xs) (next ∷ ys) are (suc index) x y within = zipped-at R xs ys are.1 index x y (omega (arith, within))
-
--- so it does of a row and what stands beside it
+-- what holds of each row and what stands beside it holds at one index
 pub row-at : (R : PlainRow → RowPlaces → Type 0) (rows : List Row) (places : List RowPlaces) → AllZip R (map row_of rows) places
     → (index : ℕ) (row : Row) (at : RowPlaces) → index < length rows → R (row_of (get_or rows index row)) (get_or places index at)
 row-at R rows places are index row at within =
     subst (λ (one : PlainRow). R one (get_or places index at)) (get_or-map row_of rows index row (row_of row) within)
-    (zipped-at R (map row_of rows) places are index (row_of row) at (omega (arith, within, length-map rows row_of)))
+    (zip-at R (map row_of rows) places index (row_of row) at are (omega (arith, within, length-map rows row_of)))
 
 -- what stands beside no row
 abbrev pub nowhere : RowPlaces
-nowhere = record {
-  number = 0;
-  lane = 0;
-  market = 0;
-  wallets = record { places = []; coin = 4; pc = 4; discount = 4; referrer = 4 };
-}
-
--- what stands at a place that is within
-pub item_at : {A : Type 0} (items : List A) (place : ℕ) → place < length items → A
-item_at [] place within = absurd (omega (arith, within))
-item_at (item ∷ items) zero within = item
-item_at (item ∷ items) (suc place) within = item_at items place (omega (arith, within))
-
-pub item-at : {A : Type 0} (items : List A) (place : ℕ) (within : place < length items)
-    → item_at items place within ≡ get_or items place (item_at items place within)
-unfolding item_at
-item-at [] place within = absurd (omega (arith, within))
-item-at (item ∷ items) zero within = refl
-item-at (item ∷ items) (suc place) within = item-at items place (omega (arith, within))
+nowhere = record { number = 0; lane = 0; market = 0; wallets = record { places = []; coin = 0; pc = 0; discount = 0; referrer = 0 } }
 
 -- one row more, with its places
 pub placed-push : (start : PlainAccounts) (rows : List PlainRow) (places : List RowPlaces) (row : PlainRow) (at : RowPlaces)
@@ -71,68 +45,18 @@ pub beside-push : (rows : List PlainRow) (places : List RowPlaces) (row : PlainR
     → AreBeside rows places → IsBeside row at → AreBeside (rows ++ row ∷ []) (places ++ at ∷ [])
 beside-push rows places row at are is = all_zipped_more IsBeside rows places row at are is
 
--- a market stands at its place
-pub market-within : (address : Address) (markets : List PlainMarketAccounts) (place : ℕ) → market_place address markets ≡ Some place
-    → place < length markets
-market-within address [] place is = absurd (differ place is)
-  where
-    differ : (place : ℕ) → ◌≡◌ {A = Option ℕ} None (Some place) → ⊥
-    differ place e = cc
-market-within address (market ∷ markets) place is =
-    (position-Some (λ (m : PlainMarketAccounts). is_same address m.address) (market ∷ markets) place market is).0
-
-pub market-here : (address : Address) (markets : List PlainMarketAccounts) (place : ℕ) (default : PlainMarketAccounts)
-    → market_place address markets ≡ Some place → (get_or markets place default).address ≡ address
-market-here address markets place default is =
-    sym (is_same-true address (get_or markets place default).address
-    (position-Some (λ (m : PlainMarketAccounts). is_same address m.address) markets place default is).1)
-
--- a wallet stands at its place
-pub wallet-within : (address : Address) (wallets : List PlainAccount) (place : ℕ) → wallet_place address wallets ≡ Some place
-    → place < length wallets
-wallet-within address wallets place is =
-    (position-Some (λ (w : PlainAccount). is_same address w.address) wallets place (record { address = address; bytes = [] }) is).0
-
-pub wallet-here : (address : Address) (wallets : List PlainAccount) (place : ℕ) (default : PlainAccount)
-    → wallet_place address wallets ≡ Some place → (get_or wallets place default).address ≡ address
-wallet-here address wallets place default is =
-    sym (is_same-true address (get_or wallets place default).address
-    (position-Some (λ (w : PlainAccount). is_same address w.address) wallets place default is).1)
-
 -- ---- the places of a row's roles
 
 -- where a wallet stands among these
 abbrev place_among : List PlainAccount → Address → Option ℕ
 place_among wallets address = wallet_place address wallets
 
-role-placed : (wallets : List PlainAccount) (addresses : List Address) (places : List ℕ)
-    (role : Option Address) (index : ℕ)
-    → ArePlacesOf (place_among wallets) addresses places → IsIndexOf addresses role index
-    → IsRolePlaced wallets role (get_or places index 65535)
-role-placed wallets addresses places None index are is = tt
-role-placed wallets addresses places (Some address) index are is =
-    found-at (place_among wallets) addresses places index address are is
-
-module _ (start : PlainAccounts) (row : PlainRow) (at : RowPlaces) (is : IsPlaced start row at) where
-  pub coin-placed : IsRolePlaced start.wallets row.coin (coin_at at)
-  coin-placed =
-      role-placed start.wallets (row_wallets row) at.wallets.places row.coin at.wallets.coin is.wallets.places
-      is.wallets.of_coin
-
-  pub pc-placed : IsRolePlaced start.wallets row.pc (pc_at at)
-  pc-placed =
-      role-placed start.wallets (row_wallets row) at.wallets.places row.pc at.wallets.pc is.wallets.places
-      is.wallets.of_pc
-
-  pub discount-placed : IsRolePlaced start.wallets row.discount (discount_at at)
-  discount-placed =
-      role-placed start.wallets (row_wallets row) at.wallets.places row.discount at.wallets.discount is.wallets.places
-      is.wallets.of_discount
-
-  pub referrer-placed : IsRolePlaced start.wallets row.referrer (referrer_at at)
-  referrer-placed =
-      role-placed start.wallets (row_wallets row) at.wallets.places row.referrer at.wallets.referrer is.wallets.places
-      is.wallets.of_referrer
+-- the wallet of a role that has an index stands where this tells
+pub role-placed : (start : PlainAccounts) (row : PlainRow) (at : RowPlaces) → IsPlaced start row at → (role : Option Address) (index : ℕ)
+    → IsIndexOf (row_wallets row) role index → IsRolePlaced start.wallets role (place_at at.wallets index)
+role-placed start row at is None index of = tt
+role-placed start row at is (Some address) index of =
+    found-at (place_among start.wallets) (row_wallets row) at.wallets.places index address is.wallets.places of
 
 -- what stands beside a row whose wallets stand somewhere
 pub stands-beside : (place_of : Address → Option ℕ) (row : PlainRow) (at : RowPlaces)
@@ -166,6 +90,12 @@ module _ {A : Type 0} (key : A → Address) (address : Address) where
       let at = λ (d : Address). position-Some (is_same address) (map key xs) place d (position-map xs ∙ is) in
       record { within = (at address).0; here = λ default. sym (is_same-true address _ (at default).1) }
 
+  within : (xs : List A) (place : ℕ) → position (λ x. is_same address (key x)) xs ≡ Some place → place < length xs
+  within xs place is = subst (λ (n : ℕ). place < n) (length-map xs key) (placed xs place is).within
+
+  here : (xs : List A) (place : ℕ) (default : A) → position (λ x. is_same address (key x)) xs ≡ Some place → key (get_or xs place default) ≡ address
+  here xs place default is = sym (is_same-true address _ (position-Some (λ x. is_same address (key x)) xs place default is).1)
+
 pub market-placed : (script : PlainScript) (address : Address) (place : ℕ) → market_place address script.start.markets ≡ Some place
     → IsPlace address (market_addresses script) place
 market-placed script address place is = placed (λ (accounts : PlainMarketAccounts). accounts.address) address script.start.markets place is
@@ -173,3 +103,18 @@ market-placed script address place is = placed (λ (accounts : PlainMarketAccoun
 pub wallet-placed : (script : PlainScript) (address : Address) (place : ℕ) → wallet_place address script.start.wallets ≡ Some place
     → IsPlace address (wallet_addresses script) place
 wallet-placed script address place is = placed (λ (account : PlainAccount). account.address) address script.start.wallets place is
+
+-- a market stands at its place, and a wallet
+pub market-within : (address : Address) (markets : List PlainMarketAccounts) (place : ℕ) → market_place address markets ≡ Some place → place < length markets
+market-within = within (λ (accounts : PlainMarketAccounts). accounts.address)
+
+pub wallet-within : (address : Address) (wallets : List PlainAccount) (place : ℕ) → wallet_place address wallets ≡ Some place → place < length wallets
+wallet-within = within (λ (account : PlainAccount). account.address)
+
+pub market-here : (address : Address) (markets : List PlainMarketAccounts) (place : ℕ) (default : PlainMarketAccounts)
+    → market_place address markets ≡ Some place → (get_or markets place default).address ≡ address
+market-here = here (λ (accounts : PlainMarketAccounts). accounts.address)
+
+pub wallet-here : (address : Address) (wallets : List PlainAccount) (place : ℕ) (default : PlainAccount)
+    → wallet_place address wallets ≡ Some place → (get_or wallets place default).address ≡ address
+wallet-here = here (λ (account : PlainAccount). account.address)

@@ -1,7 +1,9 @@
 -- Wallets that are found by their addresses.
 use Rattle.std.specs.Prelude.{ℕ, Bool, true, ◌&&◌, List, [], ◌∷◌, Option, Some, None}
-use Rattle.std.specs.Option.{is_some}
+use Rattle.std.specs.List.{position}
+use Rattle.std.specs.Option.{is_some, unwrap_or}
 use Rattle.dex_types.specs.declared.addresses.Address.{Address}
+use Rattle.dex_world.specs.Fold.{is_role}
 
 -- the wallet of a role is found, or the role names none
 abbrev pub is_found : (Address → Option ℕ) → Option Address → Bool
@@ -33,3 +35,8 @@ places_by place_of (wallet ∷ wallets) = with_place (role_place place_of wallet
 abbrev pub all_four : Option ℕ → Option ℕ → Option ℕ → Option ℕ → Option (List ℕ)
 all_four first second third fourth =
     with_place first (with_place second (with_place third (with_place fourth (Some []))))
+
+-- the index of a role's wallet among these; 4 of a role that names none, or none of these
+abbrev pub index_among : List (Option Address) → Option Address → ℕ
+index_among wallets None = 4
+index_among wallets (Some address) = unwrap_or (position (λ wallet. is_role wallet address) wallets) 4

@@ -1,11 +1,10 @@
 //! Where the wallets of a row stand, as whoever finds a wallet by its address tells.
 
-ghost use Rattle.std.specs.Prelude.{◌≡◌, ℕ, IfSome, None, Option, Some, false};
+ghost use Rattle.std.specs.Prelude.{◌≡◌, ℕ, IfSome, None, Option, false};
 ghost use Rattle.std.specs.List.{position};
 ghost use Rattle.dex_types.specs.declared.addresses.Address.{Address as AddressOf};
 ghost use Rattle.dex_world.specs.Fold as fold;
-ghost use Rattle.dex_world.specs.Places.{AreWalletsAt, IsIndexOf};
-ghost use Rattle.dex_locks.specs.Places.{front};
+ghost use Rattle.dex_world.specs.Places.{AreWalletsAt};
 ghost use Rattle.dex_script_types.specs.Found as spec;
 
 use dex_locks::plan_wallets;
@@ -78,9 +77,9 @@ fn all_four(
     Some([first?, second?, third?, fourth?])
 }
 
-/// The index of a role's wallet, where it is one of these; 4 of a role that names none.
+/// The index of a role's wallet among these; 4 of a role that names none, or none of these.
 fn index_of(wallets: &[Option<Address>; 4], role: Option<Address>) -> u8
-    ensures { (index : ℕ) → IsIndexOf (front wallets.now) role index → result ≡ index }
+    ensures { result ≡ spec.index_among wallets.now role }
 {
     match role {
         None => 4,
