@@ -49,7 +49,8 @@ seen_in one = seen_by one.roles one.terms one.before.wallets
 -- it was done, on wallets of distinct addresses; and what a journal tells is a row of this market that asks for it and
 -- names the wallets of its roles
 pub record IsDone (one : Done) : Type 0 where
-  pub processed : HasProcessed one.roles one.reply one.before one.after (step_of one.ask (seen_in one) one.before.accounts)
+  pub processed :
+      HasProcessed one.roles one.reply one.before one.after (step_of one.ask (seen_in one) one.before.accounts)
   pub apart : AreApart one.roles one.before.wallets
   pub market : one.asked.market ≡ (market_in one.before.accounts).listing.address
   pub request : one.asked.request ≡ asked_by one.ask
@@ -57,7 +58,8 @@ pub record IsDone (one : Done) : Type 0 where
 
 -- it, as one of a sequence
 abbrev pub processed_as : Done → Processed
-processed_as one = record { asked = one.asked; seen = seen_in one; reply = one.reply; left = market_in one.after.accounts }
+processed_as one =
+    record { asked = one.asked; seen = seen_in one; reply = one.reply; left = market_in one.after.accounts }
 
 -- these were, one after the other: each on what the last one left
 abbrev pub AreProcessed : Market → List Processed → Type 0
