@@ -4,9 +4,10 @@ use Rattle.dex_accounts.specs.Decoded.{market_in}
 use Rattle.dex_history.specs.Journal.{Asked, Call, Sees, asked_step, places}
 use Rattle.dex_plan.specs.declared.ask.Ask.{Ask}
 use Rattle.dex_plan.specs.Given.{asked_by}
-use Rattle.dex_process.specs.Process.{Acting}
+use Rattle.dex_process.specs.declared.processing.Terms.{Terms}
+use Rattle.dex_process.specs.Process.{Acting, HasProcessed, seen_by, step_of}
 use Rattle.dex_purse.specs.declared.lent_wallets.Roles.{Roles}
-use Rattle.dex_purse.specs.Purse.{Names}
+use Rattle.dex_purse.specs.Purse.{AreApart, Names}
 use Rattle.dex_types.specs.declared.replies.Reply.{Reply}
 use Rattle.dex_types.specs.declared.rows.Seen.{Seen}
 use Rattle.dex_types.specs.Market.{Market}
@@ -30,17 +31,35 @@ pub record IsProcessed (one : Processed) (m : Market) : Type 0 where
   pub reply : one.reply ≡ (asked_step one.asked one.seen m).reply
   pub left : one.left ≡ (asked_step one.asked one.seen m).market
 
--- an instruction that is done on lent accounts and wallets, as a journal tells it: a row of this market that asks for
--- it and names the wallets of its roles
-pub record IsAskedBy (asked : Asked) (ask : Ask) (roles : Roles) (before : Acting) : Type 0 where
-  pub market : asked.market ≡ (market_in before.accounts).listing.address
-  pub request : asked.request ≡ asked_by ask
-  pub names : Names asked roles before.wallets
+-- an instruction on lent accounts and wallets: what was asked for and by which terms, as the caller says it and as a
+-- journal tells it, the reply, and what it acted on and left
+pub record Done : Type 0 where
+  pub ask : Ask
+  pub roles : Roles
+  pub terms : Terms
+  pub asked : Asked
+  pub reply : Reply
+  pub before : Acting
+  pub after : Acting
 
--- what `process` did, as one of a sequence
-abbrev pub processed_as : Asked → Seen → Reply → Acting → Processed
-processed_as asked seen reply after =
-    record { asked = asked; seen = seen; reply = reply; left = market_in after.accounts }
+-- what it saw
+abbrev pub seen_in : Done → Seen
+seen_in one = seen_by one.roles one.terms one.before.wallets
+
+-- it was done, on wallets of distinct addresses; and what a journal tells is a row of this market that asks for it and
+-- names the wallets of its roles
+pub record IsDone (one : Done) : Type 0 where
+  pub processed :
+      HasProcessed one.roles one.reply one.before one.after (step_of one.ask (seen_in one) one.before.accounts)
+  pub apart : AreApart one.roles one.before.wallets
+  pub market : one.asked.market ≡ (market_in one.before.accounts).listing.address
+  pub request : one.asked.request ≡ asked_by one.ask
+  pub names : Names one.asked one.roles one.before.wallets
+
+-- it, as one of a sequence
+abbrev pub processed_as : Done → Processed
+processed_as one =
+    record { asked = one.asked; seen = seen_in one; reply = one.reply; left = market_in one.after.accounts }
 
 -- these were, one after the other: each on what the last one left
 abbrev pub AreProcessed : Market → List Processed → Type 0

@@ -1,5 +1,5 @@
-//! One instruction on accounts that lie apart, as C hands them in. A caller learns what is behind a record of loans only
-//! where a function of plain slices builds it: hence so many arguments.
+//! One instruction on accounts that lie apart, as C hands them in. A caller learns what is behind a record of loans
+//! only where a function of plain slices builds it: hence so many arguments.
 
 ghost use Rattle.std.specs.Prelude.{◌≡◌};
 ghost use Rattle.dex_accounts.specs.Decoded.{AreSound, market_in};

@@ -3,26 +3,16 @@
 
 ghost use Rattle.std.specs.Prelude.{◌≡◌, List, map};
 ghost use Rattle.dex_accounts.specs.Decoded.{market_in};
-ghost use Rattle.dex_history.specs.Journal.{Asked, Call, IsLegal, market_after};
-ghost use Rattle.dex_plan.specs.declared.ask.Ask.{Ask};
-ghost use Rattle.dex_process.specs.Histories.{AreProcessed, IsAskedBy, IsProcessed, Processed};
+ghost use Rattle.dex_history.specs.Journal.{Call, IsLegal, market_after};
+ghost use Rattle.dex_process.specs.Histories.{AreProcessed, Done, IsDone, IsProcessed, Processed};
 ghost use Rattle.dex_process.specs.Histories.{calls_of, left_by, processed_as};
-ghost use Rattle.dex_process.specs.Process.{Acting, HasProcessed, seen_by, step_of};
-ghost use Rattle.dex_process.specs.declared.processing.Terms.{Terms};
-ghost use Rattle.dex_purse.specs.declared.lent_wallets.Roles.{Roles};
-ghost use Rattle.dex_purse.specs.Purse.{AreApart};
-ghost use Rattle.dex_types.specs.declared.replies.Reply.{Reply};
 ghost use Rattle.dex_types.specs.Market.{Market};
 
 /// What `process` does is one of a sequence (`done`). Instructions of a sequence on one market, each on what the last
 /// one left, are a legal history of it, as that of a replay is: the market in the end is the one at the end of the
 /// history, and its entries have their replies.
 pub fn instructions_one_after_another_are_a_legal_history()
-    ensures done { (ask : Ask) (asked : Asked) (roles : Roles) (terms : Terms) (reply : Reply) (before after : Acting) →
-        let seen = seen_by roles terms before.wallets in
-        HasProcessed roles reply before after (step_of ask seen before.accounts) →
-        AreApart roles before.wallets → IsAskedBy asked ask roles before →
-        IsProcessed (processed_as asked seen reply after) (market_in before.accounts) }
+    ensures done { (one : Done) → IsDone one → IsProcessed (processed_as one) (market_in one.before.accounts) }
     ensures legal { (m : Market) (all : List Processed) → AreProcessed m all → IsLegal m (calls_of m all) }
     ensures market { (m : Market) (all : List Processed) → AreProcessed m all
         → market_after m (calls_of m all) ≡ left_by m all }
