@@ -1,5 +1,4 @@
 pub mod ReachedLaws
-pub mod OneLaws
+pub mod NearLaws
 pub mod MadeLaws
 pub mod AllLaws
-pub mod LiftLaws

@@ -1,6 +1,6 @@
 //! Where each of a market's open-orders accounts stands among them, by its address.
 
-ghost use Rattle.std.specs.Prelude.{◌≡◌, cond, IfOk, IsSome, MatchOption, None, OnOk, Some, map};
+ghost use Rattle.std.specs.Prelude.{◌≡◌, cond, IfOk, MatchOption, None, OnOk, Some, map};
 ghost use Rattle.std.specs.HashMap as hash;
 ghost use Rattle.dex_types.specs.declared.addresses.Address.{Address};
 ghost use Rattle.dex_types.specs.Accounts.{orders_account_of};
@@ -8,17 +8,21 @@ ghost use Rattle.dex_types.specs.Addresses.{is_same};
 ghost use Rattle.dex_types.specs.Soundness.{AreDistinct};
 ghost use Rattle.dex_accounts.specs.Owners.{bytes_at};
 ghost use Rattle.dex_orders.specs.StandsFor.{traders_of};
-ghost use Rattle.dex_index.specs.Reached.{IsIndexOf, IsReached, LeadsToAll, place_by, reached_by};
+ghost use Rattle.dex_index.specs.Reached.{IsIndexOf, IsNear, LeadsToAll, is_place, leads_by, leads_to, reached_by};
 
-use dex_types::{Address, NoMemory, OrdersAccount, is_same};
+use dex_types::{Address, NoMemory, OrdersAccount};
 use std::alloc::Global;
 use std::collections::HashMap;
+use std::ops::Range;
 
-/// An index of a market's open-orders accounts: for the address of each its place among them. It stays one while no
-/// account gets another address or another place.
+/// So many accounts are looked through sooner than an address is hashed.
+const FEW: usize = 16;
+
+/// An index of a market's open-orders accounts: for the address of each its place among them. Of few accounts none is
+/// kept, and all are looked through. It stays one while no account gets another address or another place.
 #[derive(Drop)]
 pub struct AccountIndex {
-    places: HashMap<Address, usize>,
+    places: Option<HashMap<Address, usize>>,
 }
 
 impl AccountIndex {
@@ -27,16 +31,39 @@ impl AccountIndex {
         requires { AreDistinct (traders_of (map orders_account_of accounts.now)) }
         ensures { IfOk result (λ index. IsIndexOf index (map orders_account_of accounts.now)) }
     {
+        if accounts.len() <= FEW {
+            return Ok(AccountIndex { places: None });
+        }
         Ok(AccountIndex {
-            places: places_of(alloc, accounts)?,
+            places: Some(places_of(alloc, accounts)?),
         })
+    }
+
+    /// Of so many places those to which it leads an address.
+    pub(crate) fn near(&self, address: Address, count: usize) -> Range<usize>
+        ensures { IsNear (leads_to self.now address) count result.start result.end }
+    {
+        match &self.places {
+            None => 0..count,
+            Some(places) => only(places.get(&address).copied(), count),
+        }
+    }
+}
+
+/// The place that was found, where it is one of so many.
+fn only(found: Option<usize>, count: usize) -> Range<usize>
+    ensures { IsNear (is_place found) count result.start result.end }
+{
+    match found {
+        Some(place) if place < count => place..place + 1,
+        _ => 0..0,
     }
 }
 
 /// The place of each account, by its address.
 fn places_of(alloc: Global, accounts: &[OrdersAccount]) -> Result<HashMap<Address, usize>, NoMemory>
     requires { AreDistinct (traders_of (map orders_account_of accounts.now)) }
-    ensures { IfOk result (λ places. LeadsToAll (hash.get is_same places) 0 (map orders_account_of accounts.now)) }
+    ensures { IfOk result (λ places. LeadsToAll (leads_by (Some places)) 0 (map orders_account_of accounts.now)) }
 {
     let mut places = HashMap::with_capacity(alloc, accounts.len())?;
     for place in (0..accounts.len()).rev() {
@@ -57,41 +84,6 @@ fn put(places: &mut HashMap<Address, usize>, address: Address, place: usize) -> 
     }
 }
 
-/// The place that the index has for an address.
-fn place_in(index: &AccountIndex, address: Address) -> Option<usize>
-    ensures { result ≡ place_by index.now address }
-{
-    index.places.get(&address).copied()
-}
-
-/// The place of the account of the address, if the index leads to it.
-fn find_place(index: &AccountIndex, accounts: &[OrdersAccount], address: Address) -> Option<usize>
-    ensures { MatchOption result
-        (bytes_at address (reached_by index.now (map orders_account_of accounts.now)) ≡ None)
-        (IsReached index.now address (map orders_account_of accounts.now)) }
-{
-    let place = place_in(index, address)?;
-    if place >= accounts.len() {
-        return None;
-    }
-    if is_same(address, accounts[place].address) {
-        Some(place)
-    } else {
-        None
-    }
-}
-
-/// The place of the account of an address that the index leads to.
-pub(crate) fn place_of(index: &AccountIndex, accounts: &[OrdersAccount], address: Address) -> usize
-    requires { IsSome (bytes_at address (reached_by index.now (map orders_account_of accounts.now))) }
-    ensures { IsReached index.now address (map orders_account_of accounts.now) result }
-{
-    match find_place(index, accounts, address) {
-        Some(place) => place,
-        None => unreachable!(),
-    }
-}
-
 /// The bytes of the account of the address, if the index leads to it.
 pub(crate) fn find_bytes<'a>(
     index: &AccountIndex,
@@ -102,6 +94,6 @@ pub(crate) fn find_bytes<'a>(
         (bytes_at address (reached_by index.now (map orders_account_of accounts.now)) ≡ None)
         (λ bytes. bytes_at address (reached_by index.now (map orders_account_of accounts.now)) ≡ Some bytes.now) }
 {
-    let place = find_place(index, accounts, address)?;
-    Some(&accounts[place].bytes)
+    let near = index.near(address, accounts.len());
+    dex_accounts::find_bytes(&accounts[near.start..near.end], address)
 }

@@ -9,7 +9,7 @@ ghost use Rattle.dex_step.specs.FundBytes.{CanChange};
 ghost use Rattle.dex_step.specs.OrderActs.{CanOrderAmong, HasOrderedAmong, among};
 ghost use Rattle.dex_index.specs.Reached.{reached_by};
 
-use crate::index::{AccountIndex, place_of};
+use crate::index::AccountIndex;
 use crate::owned::{cancel_among, order_among};
 use dex_cancel::CancelWhat;
 use dex_match::{OrderPlan, Taker};
@@ -35,9 +35,9 @@ pub(crate) fn order_indexed(
         (among market.new requests.new events.new own.new opposite.new
         (reached_by index.now (map orders_account_of accounts.new))) }
 {
-    let place = place_of(index, accounts, taker.account);
+    let near = index.near(taker.account, accounts.len());
     order_among(
-        &mut accounts[place..place + 1],
+        &mut accounts[near.start..near.end],
         plan,
         taker,
         market,
@@ -66,9 +66,9 @@ pub(crate) fn cancel_indexed(
     ensures held { reached_by index.now (map orders_account_of accounts.new)
         ≡ reached_by index.now (map orders_account_of accounts.old) }
 {
-    let place = place_of(index, accounts, owner);
+    let near = index.near(owner, accounts.len());
     cancel_among(
-        &mut accounts[place..place + 1],
+        &mut accounts[near.start..near.end],
         what,
         owner,
         sizes,

@@ -1,5 +1,5 @@
-//! What is done to one open-orders account, done among accounts that own their bytes: in a list of one, nothing is
-//! looked for. The functions have the parameters of their methods in `StepsOrders`.
+//! What is done to one open-orders account, done among accounts that own their bytes. The functions have the
+//! parameters of their methods in `StepsOrders`.
 
 ghost use Rattle.std.specs.Prelude.{◌≡◌, map};
 ghost use Rattle.dex_types.specs.Accounts.{orders_account_of};

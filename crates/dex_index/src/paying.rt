@@ -7,7 +7,7 @@ ghost use Rattle.dex_accounts.specs.Owners.{changed_at};
 ghost use Rattle.dex_crank.specs.PaidBytes.{HasOwner, paid_in};
 ghost use Rattle.dex_index.specs.Reached.{reached_by};
 
-use crate::index::{AccountIndex, place_of};
+use crate::index::AccountIndex;
 use crate::owned::pay_among;
 use dex_types::{Event, OrdersAccount};
 
@@ -18,6 +18,6 @@ pub(crate) fn pay_indexed(index: &AccountIndex, accounts: &mut [OrdersAccount], 
         ≡ changed_at event.now.owner (paid_in (decoded_event event.now))
         (reached_by index.now (map orders_account_of accounts.old)) }
 {
-    let place = place_of(index, accounts, event.owner);
-    pay_among(&mut accounts[place..place + 1], event);
+    let near = index.near(event.owner, accounts.len());
+    pay_among(&mut accounts[near.start..near.end], event);
 }

@@ -14,7 +14,7 @@ ghost use Rattle.dex_step.specs.FundBytes.{
 };
 ghost use Rattle.dex_index.specs.Reached.{reached_by};
 
-use crate::index::{AccountIndex, place_of};
+use crate::index::AccountIndex;
 use crate::owned::{close_among, init_among, settle_among};
 use dex_settle::SettlePlan;
 use dex_types::{Address, OrdersAccount};
@@ -33,8 +33,8 @@ pub(crate) fn settle_indexed(
         (reached_by index.now (map orders_account_of accounts.old))
         (reached_by index.now (map orders_account_of accounts.new)) }
 {
-    let place = place_of(index, accounts, owner);
-    settle_among(&mut accounts[place..place + 1], plan, owner, market);
+    let near = index.near(owner, accounts.len());
+    settle_among(&mut accounts[near.start..near.end], plan, owner, market);
 }
 
 /// Opening the owner's account.
@@ -50,8 +50,8 @@ pub(crate) fn init_indexed(
         (reached_by index.now (map orders_account_of accounts.old))
         (reached_by index.now (map orders_account_of accounts.new)) }
 {
-    let place = place_of(index, accounts, owner);
-    init_among(&mut accounts[place..place + 1], owner, market, person);
+    let near = index.near(owner, accounts.len());
+    init_among(&mut accounts[near.start..near.end], owner, market, person);
 }
 
 /// Closing the owner's account.
@@ -61,6 +61,6 @@ pub(crate) fn close_indexed(index: &AccountIndex, accounts: &mut [OrdersAccount]
         (reached_by index.now (map orders_account_of accounts.old))
         (reached_by index.now (map orders_account_of accounts.new)) }
 {
-    let place = place_of(index, accounts, owner);
-    close_among(&mut accounts[place..place + 1], owner);
+    let near = index.near(owner, accounts.len());
+    close_among(&mut accounts[near.start..near.end], owner);
 }

@@ -1,10 +1,8 @@
-use Rattle.std.proofs.Common.{◌≡◌, ℕ, ◌≤◌, length, map, drop, sym, subst, arith}
+use Rattle.std.proofs.Common.{◌≡◌, ℕ, ◌≤◌, Some, length, map, drop, sym, subst, arith}
 use Rattle.std.proofs.Math.ListN.{drop_of_length-le}
 use Rattle.std.proofs.lemmas.List.{length-map}
-use Rattle.std.specs.HashMap as hash
 use Rattle.dex_types.specs.Accounts.{orders_account_of}
-use Rattle.dex_types.specs.Addresses.{is_same}
-use Rattle.dex_index.specs.Reached.{LeadsToAll}
+use Rattle.dex_index.specs.Reached.{LeadsToAll, leads_by}
 use Rattle.dex_index.proofs.MadeLaws.{put-leads}
 use Rattle.dex_index.proofs.index.places_of.Goals as goal
 
@@ -21,4 +19,4 @@ loop-place-preserved c =
 pub returns : goal.returns
 returns c =
     let none : c.loop-place.place ≡ 0 = omega arith in
-    subst (λ (n : ℕ). LeadsToAll (hash.get is_same c.loop-place.places) n (drop n (map orders_account_of c.args.accounts.now))) none c.loop-place.invariant
+    subst (λ (n : ℕ). LeadsToAll (leads_by (Some c.loop-place.places)) n (drop n (map orders_account_of c.args.accounts.now))) none c.loop-place.invariant
