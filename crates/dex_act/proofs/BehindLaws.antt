@@ -22,7 +22,7 @@ use Rattle.dex_world.specs.Items.{ShareNothing, doing}
 use Rattle.dex_world.specs.World as world
 use Rattle.dex_world.specs.World.{WalletState, World, seen_by}
 use Rattle.dex_world.proofs.FarLaws.{seen-far}
-use Rattle.dex_world.proofs.MappedLists.{map-map}
+use Rattle.dex_world.proofs.MappedLists.{item_at, map-map}
 use Rattle.dex_act.specs.declared.places.WalletPlaces.{WalletPlaces}
 use Rattle.dex_act.specs.Steps.{Terms}
 use Rattle.dex_act.specs.Acted.{HaveActed}
@@ -30,11 +30,6 @@ use Rattle.dex_act.specs.Steps.{CanStep, world_in_hand}
 use Rattle.dex_act.specs.Wallets.{ArePlacesAmong, IsRoleAt, made_of, wallet_state_of}
 
 -- ---- no row moves a cell
-
--- one of the items where there is one
-pub some-of : {A : Type 0} (all : List A) (place : ℕ) → place < length all → A
-some-of [] place none = absurd (omega (arith, none))
-some-of (first ∷ others) place some = first
 
 -- lists of the same addresses have the same one at each place
 pub same-at : {A : Type 0} (of : A → Address) (xs ys : List A) → map of ys ≡ map of xs → (place : ℕ) (default : A) → place < length xs
@@ -59,7 +54,7 @@ module _ (before after : List CellState) (made : map made_of after ≡ map made_
   role-still : (role : Option Address) (place : ℕ) → IsRoleAt before role place → IsRoleAt after role place
   role-still None place at = tt
   role-still (Some address) place at = record {
-    within = (same-at address_in before after same-addresses place (some-of before place at.within) at.within).0;
+    within = (same-at address_in before after same-addresses place (item_at before place at.within) at.within).0;
     here = λ default. ap (is_same address) (same-at address_in before after same-addresses place default at.within).1 ∙ at.here default;
   }
 
@@ -122,12 +117,11 @@ module _ (first second : PlainRow) (share : ShareNothing first second) (waits : 
   all-spare : (xs ys : List CellState) → map wallet_state_of ys ≡ map (wallet_acted done seen moved) (map wallet_state_of xs)
       → map made_of ys ≡ map made_of xs → All Spare xs → All Spare ys
   all-spare [] [] states alike spare = All-nil Spare
-  all-spare [] (new ∷ ys) states alike spare = absurd (omega (arith, ap length alike))
-  all-spare (old ∷ xs) [] states alike spare = absurd (omega (arith, ap length alike))
   all-spare (old ∷ xs) (new ∷ ys) states alike spare =
       All-cons Spare new ys
       (spare-still old new (let one = states in cc) (let one = alike in cc) (All-head Spare old xs spare))
       (all-spare xs ys (let rest = states in cc) (let rest = alike in cc) (All-tail Spare old xs spare))
+  all-spare _ _ states alike spare = absurd (omega (arith, ap length alike))
 
   pub can-behind : HasMoved → (places : WalletPlaces) (market : MarketCellState) → CanStep second places market before → CanStep second places market after
   can-behind acts places market can = record {

@@ -3,17 +3,17 @@ use Rattle.std.proofs.Common.{◌≡◌, ℕ, zero, suc, ◌<◌, ◌^◌, Bool,
 use Rattle.std.specs.List.{All, list_any}
 use Rattle.std.proofs.Math.Bool.{or-true}
 use Rattle.std.proofs.lemmas.List.Elements.{All-nil, All-cons, All-head, All-tail, All-weaker}
-use Rattle.std.proofs.lemmas.Bool.{cases_Bool, cond-true, cond-false, false≢true, or_parts, or_right}
+use Rattle.std.proofs.lemmas.Bool.{cases_Bool, cond-true, cond-false, false≢true, or_parts}
 use Rattle.dex_types.specs.declared.addresses.Address.{Address}
 use Rattle.dex_types.specs.declared.rows.Seen.{Seen}
 use Rattle.dex_types.specs.declared.rows.WalletSeen.{WalletSeen}
 use Rattle.dex_types.specs.Addresses.{is_same}
 use Rattle.dex_types.specs.Wallets.{address_seen, amount_at, balance_in, seen_wallets, with_role}
-use Rattle.dex_laws.proofs.TraderLaws.{is_same-refl, is_same-true, is_same-sym}
+use Rattle.dex_laws.proofs.TraderLaws.{is_same-true, is_same-sym}
 use Rattle.dex_wallet.specs.CellState.{CellState, balance_of, seen_of}
 use Rattle.dex_world.specs.World.{role_at, wallet_at}
 use Rattle.dex_world.proofs.NameLaws.{any-with_address}
-use Rattle.dex_world.proofs.OnceLaws.{with_address-all}
+use Rattle.dex_world.proofs.OnceLaws.{each-any}
 use Rattle.dex_act.specs.Wallets.{AreApart, Fits, IsAt, IsHome, IsRight, any_hit, hits, is_among, roles_of, wallet_state_of}
 
 -- ---- one role
@@ -87,11 +87,6 @@ role_at-home (Some address) cells = wallet_at-home address cells
 
 -- ---- all roles
 
--- what holds of the wallet that a role sees, if it sees one
-abbrev IfSeen : (Address → Type 0) → Option WalletSeen → Type 0
-IfSeen P None = Unit {0}
-IfSeen P (Some wallet) = P wallet.address
-
 any-with_role : (address : Address) (role : Option WalletSeen) (addresses : List Address)
     → list_any (is_same address) (with_role (address_seen role) addresses) ≡ (hits address role || list_any (is_same address) addresses)
 any-with_role address None addresses = refl
@@ -140,27 +135,11 @@ balance-fits cell ((Some wallet) ∷ roles) right fits hit =
     (sym (ap (λ (b : Bool). b || any_hit cell.address roles) other) ∙ hit))
     (cases_Bool (is_same cell.address wallet.address))
 
--- what holds of the wallet of each role holds of the wallets that a row sees
-all-with_role : (P : Address → Type 0) (role : Option WalletSeen) (addresses : List Address) → IfSeen P role → All P addresses → All P (with_role (address_seen role) addresses)
-all-with_role P None addresses here all = all
-all-with_role P (Some wallet) addresses here all = with_address-all P wallet.address addresses here all
-
-all-seen : (P : Address → Type 0) (seen : Seen) → IfSeen P seen.coin → IfSeen P seen.pc → IfSeen P seen.discount → IfSeen P seen.referrer → All P (seen_wallets seen)
-all-seen P seen coin pc discount referrer =
-    all-with_role P seen.coin _ coin (all-with_role P seen.pc _ pc (all-with_role P seen.discount _ discount (all-with_role P seen.referrer [] referrer (All-nil P))))
-
 -- its roles hit them
 pub seen-hit : (seen : Seen) → All (λ (a : Address). any_hit a (roles_of seen) ≡ true) (seen_wallets seen)
 seen-hit seen =
-    all-seen (λ (a : Address). any_hit a (roles_of seen) ≡ true) seen
-    (hit-by seen.coin (λ a is. ap (λ (b : Bool). b || any_hit a (seen.pc ∷ seen.discount ∷ seen.referrer ∷ [])) is))
-    (hit-by seen.pc (λ a is. or_right (hits a seen.coin) _ (ap (λ (b : Bool). b || any_hit a (seen.discount ∷ seen.referrer ∷ [])) is)))
-    (hit-by seen.discount (λ a is. or_right (hits a seen.coin) _ (or_right (hits a seen.pc) _ (ap (λ (b : Bool). b || any_hit a (seen.referrer ∷ [])) is))))
-    (hit-by seen.referrer (λ a is. or_right (hits a seen.coin) _ (or_right (hits a seen.pc) _ (or_right (hits a seen.discount) _ (ap (λ (b : Bool). b || false) is)))))
-  where
-    hit-by : (role : Option WalletSeen) → ((a : Address) → hits a role ≡ true → any_hit a (roles_of seen) ≡ true) → IfSeen (λ (a : Address). any_hit a (roles_of seen) ≡ true) role
-    hit-by None by = tt
-    hit-by (Some wallet) by = by wallet.address (is_same-refl wallet.address)
+    All-weaker (λ (a : Address). list_any (is_same a) (seen_wallets seen) ≡ true) (λ (a : Address). any_hit a (roles_of seen) ≡ true)
+    (λ a among. sym (any-seen a seen) ∙ among) (seen_wallets seen) (each-any (seen_wallets seen))
 
 -- ---- what stands at a place
 

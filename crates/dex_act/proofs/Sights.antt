@@ -1,19 +1,19 @@
 -- What a row of a world sees, where the wallets of the world are cells.
-use Rattle.std.proofs.Common.{◌≡◌, ℕ, Bool, true, false, ◌||◌, cond, List, [], ◌∷◌, map, get_or, Option, Some, None, refl, sym, ap, ◌∙◌, subst, ⊎_elim}
+use Rattle.std.proofs.Common.{◌≡◌, ℕ, Bool, true, false, ◌||◌, List, [], ◌∷◌, map, get_or, Option, Some, None, IfSome, refl, sym, ap, ◌∙◌, subst, ⊎_elim}
 use Rattle.std.specs.List.{All, list_any}
-use Rattle.std.proofs.lemmas.List.Elements.{All-nil, All-cons, All-head, All-tail, All-weaker}
-use Rattle.std.proofs.lemmas.Bool.{cases_Bool, cond-true, cond-false, cond_both, false≢true}
+use Rattle.std.proofs.lemmas.List.Elements.{All-nil, All-cons, All-weaker}
+use Rattle.std.proofs.lemmas.Bool.{cases_Bool, cond-true, cond-false, false≢true}
 use Rattle.dex_types.specs.declared.addresses.Address.{Address}
 use Rattle.dex_types.specs.declared.rows.Seen.{Seen}
 use Rattle.dex_types.specs.declared.rows.WalletSeen.{WalletSeen}
 use Rattle.dex_types.specs.Addresses.{is_same}
 use Rattle.dex_types.specs.Rows.{PlainRow}
-use Rattle.dex_types.specs.Wallets.{address_seen, is_lower, row_wallets, with_address, with_role}
-use Rattle.dex_laws.proofs.TraderLaws.{is_same-true}
+use Rattle.dex_types.specs.Wallets.{address_seen, row_wallets}
 use Rattle.dex_history.specs.Journal.{Agree, Sees, asked_of}
 use Rattle.dex_movements.proofs.PlaceLaws.{seen-wallets}
 use Rattle.dex_world.specs.Fold.{names}
-use Rattle.dex_world.proofs.OnceLaws.{with_address-all}
+use Rattle.dex_world.proofs.NameLaws.{roles-each, row-among}
+use Rattle.dex_world.proofs.OnceLaws.{of-any}
 use Rattle.dex_act.specs.declared.places.WalletPlaces.{WalletPlaces}
 use Rattle.dex_world.specs.World.{WalletState, World, role_at, seen_by, wallet_at}
 use Rattle.dex_wallet.specs.CellState.{CellState, HasSpare, IsWalletCell, seen_of}
@@ -43,12 +43,11 @@ role-seen (Some address) cells named =
 -- two roles of one address see one wallet
 same-seen : (one other : Option Address) (cells : List CellState) (wallet another : WalletSeen) → role_at one (map wallet_state_of cells) ≡ Some wallet
     → role_at other (map wallet_state_of cells) ≡ Some another → wallet.address ≡ another.address → wallet ≡ another
-same-seen None other cells wallet another first second same = absurd (cc)
-same-seen (Some address) None cells wallet another first second same = absurd (cc)
 same-seen (Some address) (Some other) cells wallet another first second same =
     let at : address ≡ other = wallet_at-address address cells wallet first ∙ same ∙ sym (wallet_at-address other cells another second) in
     let both : Some wallet ≡ Some another = sym first ∙ ap (λ (a : Address). wallet_at a (map wallet_state_of cells)) at ∙ second in
     cc
+same-seen _ _ cells wallet another first second same = absurd (cc)
 
 agree : (one other : Option WalletSeen)
     → ((wallet another : WalletSeen) → one ≡ Some wallet → other ≡ Some another → wallet.address ≡ another.address → wallet ≡ another) → Agree one other
@@ -63,29 +62,9 @@ roles-agree one other cells =
 
 -- ---- all roles
 
--- what holds of addresses with one more holds of that one and of the others
-all-parts : (P : Address → Type 0) (address : Address) (addresses : List Address) → All P (with_address address addresses) → P address × All P addresses
-all-parts P address [] all = (All-head P address [] all, All-nil P)
-all-parts P address (first ∷ others) all =
-    cond_both (is_same address first) (first ∷ others) (cond (is_lower address first) (address ∷ first ∷ others) (first ∷ with_address address others))
-    (λ list. All P list → P address × All P (first ∷ others))
-    (λ same these. (subst P (sym (is_same-true address first same)) (All-head P first others these), these))
-    (λ apart.
-    cond_both (is_lower address first) (address ∷ first ∷ others) (first ∷ with_address address others) (λ list. All P list → P address × All P (first ∷ others))
-    (λ lower these. (All-head P address (first ∷ others) these, All-tail P address (first ∷ others) these))
-    (λ higher these.
-    let rest = all-parts P address others (All-tail P first (with_address address others) these) in
-    (rest.0, All-cons P first others (All-head P first (with_address address others) these) rest.1)))
-    all
-
 -- one of the cells has the address
 abbrev IsHere : List CellState → Address → Type 0
 IsHere cells address = is_among address cells ≡ true
-
-role-parts : (cells : List CellState) (role : Option Address) (addresses : List Address) → All (IsHere cells) (with_role role addresses)
-    → IsNamed cells role × All (IsHere cells) addresses
-role-parts cells None addresses all = (tt, all)
-role-parts cells (Some address) addresses all = all-parts (IsHere cells) address addresses all
 
 -- the wallets that a row names are among the cells
 pub record AreNamed (cells : List CellState) (row : PlainRow) : Type 0 where
@@ -96,28 +75,23 @@ pub record AreNamed (cells : List CellState) (row : PlainRow) : Type 0 where
 
 pub row-named : (cells : List CellState) (row : PlainRow) → All (λ (address : Address). is_among address cells ≡ true) (row_wallets row) → AreNamed cells row
 row-named cells row named =
-    let one = role-parts cells row.coin (with_role row.pc (with_role row.discount (with_role row.referrer []))) named in
-    let two = role-parts cells row.pc (with_role row.discount (with_role row.referrer [])) one.1 in
-    let three = role-parts cells row.discount (with_role row.referrer []) two.1 in
-    record { coin = one.0; pc = two.0; discount = three.0; referrer = (role-parts cells row.referrer [] three.1).0 }
+    let among = row-among row in
+    record { coin = here row.coin among.0; pc = here row.pc among.1; discount = here row.discount among.2; referrer = here row.referrer among.3 }
+  where
+    here : (role : Option Address) → IfSome role (λ address. names row address ≡ true) → IsNamed cells role
+    here None among = tt
+    here (Some address) among = of-any (IsHere cells) address (row_wallets row) among named
 
 -- and they are, where they stand there
-named-at : (cells : List CellState) (role : Option Address) (place : ℕ) → IsRoleAt cells role place → IsNamed cells role
-named-at cells None place at = tt
-named-at cells (Some address) place at = among-at address cells place at
-
-named-all : (cells : List CellState) (role : Option Address) (addresses : List Address) → IsNamed cells role → All (IsHere cells) addresses
-    → All (IsHere cells) (with_role role addresses)
-named-all cells None addresses named all = all
-named-all cells (Some address) addresses named all = with_address-all (IsHere cells) address addresses named all
-
 pub placed-named : (cells : List CellState) (row : PlainRow) (places : WalletPlaces) → ArePlacesAmong cells row places
     → All (λ (address : Address). is_among address cells ≡ true) (row_wallets row)
 placed-named cells row places at =
-    named-all cells row.coin _ (named-at cells row.coin places.coin at.coin)
-    (named-all cells row.pc _ (named-at cells row.pc places.pc at.pc)
-    (named-all cells row.discount _ (named-at cells row.discount places.discount at.discount)
-    (named-all cells row.referrer [] (named-at cells row.referrer places.referrer at.referrer) (All-nil (IsHere cells)))))
+    roles-each row.coin row.pc row.discount row.referrer (IsHere cells)
+    (here row.coin places.coin at.coin, here row.pc places.pc at.pc, here row.discount places.discount at.discount, here row.referrer places.referrer at.referrer)
+  where
+    here : (role : Option Address) (place : ℕ) → IsRoleAt cells role place → IfSome role (IsHere cells)
+    here None place at = tt
+    here (Some address) place at = among-at address cells place at
 
 -- what a row sees of these wallets
 abbrev sight : PlainRow → World → List WalletState → Seen

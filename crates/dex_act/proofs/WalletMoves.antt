@@ -146,8 +146,6 @@ debited-together row seen coin pc cells one =
 -- two roles of one wallet
 pub one-amount : (address : Address) (first second : Option WalletSeen) (a b : ℕ) → is_one first second ≡ true
     → amount_at address first (a + b) ≡ amount_at address first a + amount_at address second b
-one-amount address None second a b one = absurd (false≢true one)
-one-amount address (Some wallet) None a b one = absurd (false≢true one)
 one-amount address (Some wallet) (Some other) a b one =
     let same : wallet.address ≡ other.address = is_same-true wallet.address other.address one in
     both (is_same address wallet.address) ∙ ap (λ (x : Address). cond (is_same address wallet.address) a 0 + cond (is_same address x) b 0) same
@@ -155,6 +153,7 @@ one-amount address (Some wallet) (Some other) a b one =
     both : (own : Bool) → cond own (a + b) 0 ≡ cond own a 0 + cond own b 0
     both true = refl
     both false = refl
+one-amount address _ _ a b one = absurd (false≢true one)
 
 -- and of two wallets
 pub apart-amounts : (address : Address) (first second : Option WalletSeen) (a b : ℕ) → is_one first second ≡ false

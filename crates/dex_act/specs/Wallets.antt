@@ -22,7 +22,6 @@ use Rattle.dex_wallet.specs.TokenAmount.{TokenAmount}
 use Rattle.dex_cell.specs.CellState as market_cell
 use Rattle.dex_cell.specs.CellState.{IsFor, IsMarketCell, MarketCellState, step_on}
 use Rattle.dex_cell.specs.Paying.{parcel_of}
-use Rattle.dex_world.specs.Fold.{wallet_acted}
 use Rattle.dex_world.specs.Places.{place_at}
 use Rattle.dex_world.specs.World.{WalletState}
 use Rattle.dex_act.specs.declared.places.WalletPlaces.{WalletPlaces}
@@ -268,14 +267,6 @@ cell_acted row seen t cell = moves_probed row (front (places (movements seen t))
 -- the cells of wallets after what a row takes and brings, where its market's cell is this
 abbrev pub cells_paid : Row → Seen → MarketCellState → List CellState → List CellState
 cells_paid row seen market cells = map (cell_paid (row_of row) seen (step_on row seen market).transfers) cells
-
--- and after all of it
-abbrev pub cells_acted : Row → Seen → MarketCellState → List CellState → List CellState
-cells_acted row seen market cells = map (cell_acted (row_of row) seen (step_on row seen market).transfers) cells
-
--- the wallets with their journals, without their cells, after a row
-abbrev pub states_acted : Row → Seen → MarketCellState → List WalletState → List WalletState
-states_acted row seen market states = map (wallet_acted (row_of row) seen (step_on row seen market).transfers) states
 
 -- ---- what a row sees of cells
 

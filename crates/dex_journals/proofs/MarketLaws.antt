@@ -18,7 +18,7 @@ use Rattle.dex_world.specs.RowsOf.{rows_of_market, rows_on}
 use Rattle.dex_stamps.specs.Stamped.{AreRising, items_of, stamped}
 use Rattle.dex_journals.specs.Journals.{BankMarketState, IsBankMarket, MayStep, calls_by, market_calls, market_more}
 use Rattle.dex_journals.proofs.Counting.{fewer}
-use Rattle.dex_journals.proofs.StampedLists.{below-more, items_of-stamped, lanes-more, length-stamped, rising-more, stamped-more}
+use Rattle.dex_journals.proofs.StampedLists.{below-more, items_of-stamped, lanes-more, length-stamped, rising-more}
 
 -- how many rows of a lane are on the market
 abbrev rows_left : BankMarketState → ℕ → ℕ
@@ -42,14 +42,6 @@ items_of-calls market counted = items_of-stamped market.cell.calls market.stamps
 pub length-calls : (market : BankMarketState) → length market.stamps ≡ length market.cell.calls
     → length (market_calls market) ≡ length market.cell.calls
 length-calls market counted = length-stamped market.cell.calls market.stamps counted
-
--- one call more is one entry more
-pub calls-more : (market : BankMarketState) (cell : MarketCellState) (call : Call) (stamp : ℕ)
-    → length market.stamps ≡ length market.cell.calls → cell.calls ≡ market.cell.calls ++ call ∷ []
-    → market_calls (market_more market cell stamp) ≡ market_calls market ++ record { item = call; stamp = stamp } ∷ []
-calls-more market cell call stamp counted more =
-    ap (λ (calls : List Call). stamped calls (market.stamps ++ stamp ∷ [])) more
-    ∙ stamped-more market.cell.calls market.stamps call stamp counted
 
 -- and what holds of a market holds of it with a call more, of a lane that has a row left
 pub market-more : (market : BankMarketState) (cell : MarketCellState) (call : Call) (stamp : ℕ)

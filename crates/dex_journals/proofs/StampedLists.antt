@@ -17,10 +17,9 @@ module _ {A : Type 0} where
   pub items_of-stamped : (items : List A) (stamps : List ℕ) → length stamps ≡ length items
       → items_of (stamped items stamps) ≡ items
   items_of-stamped [] [] long = refl
-  items_of-stamped [] (stamp ∷ stamps) long = absurd (omega (arith, long))
-  items_of-stamped (item ∷ items) [] long = absurd (omega (arith, long))
   items_of-stamped (item ∷ items) (stamp ∷ stamps) long =
       ap (λ (rest : List A). item ∷ rest) (items_of-stamped items stamps (omega (arith, long)))
+  items_of-stamped _ _ long = absurd (omega (arith, long))
 
   pub length-stamped : (items : List A) (stamps : List ℕ) → length stamps ≡ length items → length (stamped items stamps) ≡ length items
   length-stamped items stamps long =
@@ -31,11 +30,10 @@ module _ {A : Type 0} where
       → stamped (items ++ item ∷ []) (stamps ++ stamp ∷ [])
       ≡ stamped items stamps ++ record { item = item; stamp = stamp } ∷ []
   stamped-more [] [] item stamp long = refl
-  stamped-more [] (other ∷ stamps) item stamp long = absurd (omega (arith, long))
-  stamped-more (one ∷ items) [] item stamp long = absurd (omega (arith, long))
   stamped-more (one ∷ items) (other ∷ stamps) item stamp long =
       ap (λ (rest : List (Stamped A)). record { item = one; stamp = other } ∷ rest)
       (stamped-more items stamps item stamp (omega (arith, long)))
+  stamped-more _ _ item stamp long = absurd (omega (arith, long))
 
   -- ---- stamps that rise
 

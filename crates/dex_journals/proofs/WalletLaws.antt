@@ -14,7 +14,7 @@ use Rattle.dex_stamps.specs.Stamped.{AreRising, items_of, stamped}
 use Rattle.dex_journals.specs.Journals.{AddsEntry, BankWalletState, IsBankWallet, MayComeBack, TrailState, wallet_more}
 use Rattle.dex_journals.specs.Journals.{entries_by, left_by, wallet_entries}
 use Rattle.dex_journals.proofs.Counting.{fewer}
-use Rattle.dex_journals.proofs.StampedLists.{below-more, items_of-stamped, lanes-more, length-stamped, rising-more, stamped-more}
+use Rattle.dex_journals.proofs.StampedLists.{below-more, items_of-stamped, lanes-more, length-stamped, rising-more}
 
 -- how many rows of a lane name the wallet
 abbrev rows_left : BankWalletState → ℕ → ℕ
@@ -38,15 +38,6 @@ items_of-entries wallet counted = items_of-stamped wallet.cell.entries wallet.st
 pub length-entries : (wallet : BankWalletState) → length wallet.stamps ≡ length wallet.cell.entries
     → length (wallet_entries wallet) ≡ length wallet.cell.entries
 length-entries wallet counted = length-stamped wallet.cell.entries wallet.stamps counted
-
--- one entry more of the cell is one more with a stamp
-pub entries-more : (wallet : BankWalletState) (cell : CellState) (entry : WalletEntry) (stamp : ℕ)
-    → length wallet.stamps ≡ length wallet.cell.entries → cell.entries ≡ wallet.cell.entries ++ entry ∷ []
-    → wallet_entries (wallet_more wallet cell stamp)
-    ≡ wallet_entries wallet ++ record { item = entry; stamp = stamp } ∷ []
-entries-more wallet cell entry stamp counted more =
-    ap (λ (entries : List WalletEntry). stamped entries (wallet.stamps ++ stamp ∷ [])) more
-    ∙ stamped-more wallet.cell.entries wallet.stamps entry stamp counted
 
 -- and what holds of a wallet holds of it with an entry more, of a lane that has a row left
 pub wallet-more : (wallet : BankWalletState) (cell : CellState) (stamp : ℕ) (adds : AddsEntry wallet.cell cell)
