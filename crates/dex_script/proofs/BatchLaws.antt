@@ -158,8 +158,8 @@ keeps-row number before after =
 no-swap-before : (number : ℕ) (before last : PlainDraft) (rows : List Fields) → draft_after before number rows ≡ Ok last
     → HasNoSwap last.script.rows → HasNoSwap before.script.rows
 no-swap-before number before last rows is =
-    (through (λ _ (d : PlainDraft). HasNoSwap d.script.rows → HasNoSwap before.script.rows)
-    (λ n d after fields behind one none. behind ((keeps-row n d after fields one).rows none)) number before last rows (λ none. none) is).1
+    through (λ _ (d : PlainDraft). HasNoSwap d.script.rows → HasNoSwap before.script.rows)
+    (λ n d after fields behind one none. behind ((keeps-row n d after fields one).rows none)) number before last rows (λ none. none) is
 
 -- the script is for batches, or has no swap in the end
 abbrev IsQuiet : PlainDraft → PlainDraft → Type 0

@@ -22,3 +22,5 @@ pub mod StartSupplies
 pub mod StartOrders
 pub mod StartRows
 pub mod StartLaws
+pub mod BegunLaws
+pub mod PartLaws

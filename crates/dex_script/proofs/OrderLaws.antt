@@ -25,7 +25,8 @@ use Rattle.dex_statement.specs.Words.{Fields}
 use Rattle.dex_script_types.specs.PlainScript.{PlainScript}
 use Rattle.dex_script_types.specs.Facts.{AreLegs, AreRows, HasNoSwap, IsRowOf, lanes_of}
 use Rattle.dex_script_types.specs.Known.{has_market, is_known_role}
-use Rattle.dex_script.specs.Drafts.{PlainDraft, behind_dump, no_rows}
+use Rattle.dex_script.specs.Drafts.{IsGood, PlainDraft, behind_dump, no_rows}
+use Rattle.dex_script.specs.Pieces.{number_after}
 use Rattle.dex_script.specs.Rows.{exceeds_row, instruction_row, is_full, is_unknown, with_item, with_row, with_statement}
 use Rattle.dex_script.specs.Scripts.{AnswersBy, ReadsWithin, Refusal, begins_with_dump, behind, draft_after, fault_in, script_from, unless_found}
 use Rattle.dex_script.proofs.FaultLaws.{bind-ok, differ, no-error, ok-same, or-none}
@@ -33,15 +34,6 @@ use Rattle.dex_script.proofs.ItemRows.{IsOneRow, IsSwapRow, first_leg, instructi
 use Rattle.dex_script.proofs.KeptLaws.{Kept, kept-clock, kept-setup}
 use Rattle.dex_script.proofs.LegLaws.{are-legs}
 use Rattle.dex_script.proofs.RowOrder.{AreInOrder, items-more, lanes-more, no-rows-in-order, push-row}
-
--- what holds of a script so far, whose next row has this number: its rows are in order, and with lower numbers
-pub record IsGood (number : ℕ) (draft : PlainDraft) : Type 0 where
-  pub rows : AreRows draft.script
-  pub below : All (λ (one : PlainRow). one.number < number) draft.script.rows
-  pub quiet : draft.is_late ≡ false → draft.script.rows ≡ []
-  pub items : draft.items ≡ length (items_of draft.script.rows)
-  pub single : draft.batch ≡ true → HasNoSwap draft.script.rows
-  pub small : number ≤ 2 ^ 32 - 1
 
 -- ---- one more row
 
@@ -178,7 +170,7 @@ empty-rows script none one =
       lanes = one ∙ sym (ap lanes_of none);
     }
 
-same-rows : (before after : PlainScript) → after.rows ≡ before.rows → after.lanes ≡ before.lanes → after.start ≡ before.start
+pub same-rows : (before after : PlainScript) → after.rows ≡ before.rows → after.lanes ≡ before.lanes → after.start ≡ before.start
     → after.limits ≡ before.limits → AreRows before → AreRows after
 same-rows before after rows lanes start limits are =
     let order = subst (λ (s : PlainAccounts). AreInOrder s after.rows) (sym start) (subst (AreInOrder before.start) (sym rows) (in-order before are)) in
@@ -242,14 +234,15 @@ first-row number before last fields rows is =
 -- what each row keeps, all rows keep
 pub through : (P : ℕ → PlainDraft → Type 0)
     → ((number : ℕ) (before after : PlainDraft) (fields : Fields) → P number before → with_row before number fields ≡ Ok after → P (next_number number) after)
-    → (number : ℕ) (before last : PlainDraft) (rows : List Fields) → P number before → draft_after before number rows ≡ Ok last → (end : ℕ) × P end last
-through P step number before last [] holds is = (number, subst (P number) (ok-same {E = Refusal} before last is) holds)
+    → (number : ℕ) (before last : PlainDraft) (rows : List Fields) → P number before → draft_after before number rows ≡ Ok last
+    → P (number_after number rows) last
+through P step number before last [] holds is = subst (P number) (ok-same {E = Refusal} before last is) holds
 through P step number before last (fields ∷ rows) holds is =
     let a = first-row number before last fields rows is in
     through P step (next_number number) a.0 last rows (step number before a.0 fields holds a.1) a.2
 
 -- a good script after the first rows: the start is theirs where setup rows come too late
-record Goes (first : PlainDraft) (number : ℕ) (draft : PlainDraft) : Type 0 where
+pub record Goes (first : PlainDraft) (number : ℕ) (draft : PlainDraft) : Type 0 where
   pub good : IsGood number draft
   pub start : first.is_late ≡ true → draft.script.start ≡ first.script.start
   pub limits : draft.script.limits ≡ first.script.limits
@@ -305,14 +298,47 @@ pub record Gives (draft : PlainDraft) (script : PlainScript) : Type 0 where
   pub limits : script.limits ≡ draft.script.limits
   pub single : draft.batch ≡ true → HasNoSwap script.rows
 
+pub goes-on : (number : ℕ) (draft last : PlainDraft) (rows : List Fields) → IsGood number draft → draft_after draft number rows ≡ Ok last
+    → Goes draft (number_after number rows) last
+goes-on number draft last rows good is =
+    through (Goes draft) (λ n b d fields goes. goes-row draft n b d goes fields) number draft last rows
+    (record { good = good; start = λ _. refl; limits = refl; late = λ late. late; batch = refl }) is
+
 pub from-rows : (number : ℕ) (draft : PlainDraft) (rows : List Fields) (script : PlainScript) → IsGood number draft
     → Ok script ≡ script_from draft number rows → Gives draft script
 from-rows number draft rows script good is =
     let a = bind-ok (draft_after draft number rows) last_script script (sym is) in
-    let before : Goes draft number draft = record { good = good; start = λ _. refl; limits = refl; late = λ late. late; batch = refl } in
-    let ends = (through (Goes draft) (λ n b d fields goes. goes-row draft n b d goes fields) number draft a.0 rows before a.1).1 in
+    let ends = goes-on number draft a.0 rows good a.1 in
     subst (Gives draft) (ok-same {E = Refusal} a.0.script script a.2)
     (record { rows = ends.good.rows; start = ends.start; limits = ends.limits; single = λ batch. ends.good.single (ends.batch ∙ batch) })
+
+-- rows that have no lower numbers
+abbrev pub AreFrom : ℕ → List PlainRow → Type 0
+AreFrom low rows = All (λ (row : PlainRow). low ≤ row.number) rows
+
+abbrev RunFrom : ℕ → ℕ → PlainDraft → Type 0
+RunFrom low number draft = (low ≤ number) × AreFrom low draft.script.rows
+
+runs-from : (low : ℕ) → low ≤ 2 ^ 32 - 1 → (number : ℕ) (before after : PlainDraft) (fields : Fields) → RunFrom low number before
+    → with_row before number fields ≡ Ok after → RunFrom low (next_number number) after
+runs-from low small number before after fields (below, from) is =
+    let Low : PlainRow → Type 0 = λ (row : PlainRow). low ≤ row.number in
+    let rows = before.script.rows in (
+      omega arith,
+      by-row number before after (λ kept. subst (AreFrom low) (sym kept.rows) from)
+          (λ words one. subst (λ (d : PlainDraft). AreFrom low d.script.rows) one.is (All-push Low rows (instruction_row number before.clock words) from below))
+          (λ words two.
+          let first = instruction_row number before.clock (first_leg words) in
+          let second = instruction_row number before.clock (second_leg words) in
+          subst (λ (d : PlainDraft). AreFrom low d.script.rows) two.is
+          (All-append Low rows (first ∷ second ∷ []) from (All-cons Low first (second ∷ []) below (All-cons Low second [] below (All-nil Low)))))
+          fields is,
+    )
+
+pub none-lower : (number : ℕ) (before last : PlainDraft) (rows : List Fields) → number ≤ 2 ^ 32 - 1 → AreFrom number before.script.rows
+    → draft_after before number rows ≡ Ok last → AreFrom number last.script.rows
+none-lower number before last rows small from is =
+    (through (RunFrom number) (runs-from number small) number before last rows (omega arith, from) is).1
 
 -- what a dump and the rows after it give
 pub record StartsWith (limits : Limits) (batch : Bool) (script : PlainScript) : Type 0 where

@@ -203,23 +203,26 @@ module _ (draft piece : PlainDraft) (alike : AreAlike draft piece) (number : ℕ
 
 grows : (number : ℕ) (before last : PlainDraft) (rows : List Fields) → draft_after before number rows ≡ Ok last → before.items ≤ last.items
 grows number before last rows is =
-    (through (λ _ (d : PlainDraft). before.items ≤ d.items)
+    through (λ _ (d : PlainDraft). before.items ≤ d.items)
     (λ n d after fields less one.
     by-row n d after (λ kept. omega (arith, less, kept.items))
     (λ words one. let e = ap (λ (x : PlainDraft). x.items) one.is in omega (arith, less, e))
     (λ words two. let e = ap (λ (x : PlainDraft). x.items) two.is in omega (arith, less, e)) fields one)
-    number before last rows (omega arith) is).1
+    number before last rows (omega arith) is
 
+-- the rows of a piece that was read so far are read after the script too, and what is read stays like it
 pub rows-joined : (draft : PlainDraft) (number : ℕ) (piece last : PlainDraft) (rows : List Fields) → AreAlike draft piece
     → draft_after piece number rows ≡ Ok last → draft.items + last.items ≤ draft.script.limits.items
-    → draft_after (joined draft piece) number rows ≡ Ok (joined draft last)
-rows-joined draft number piece last [] alike is room = ap (λ (d : PlainDraft). Ok (joined draft d)) (ok-same {E = Refusal} piece last is)
+    → (draft_after (joined draft piece) number rows ≡ Ok (joined draft last)) × AreAlike draft last
+rows-joined draft number piece last [] alike is room =
+    let same = ok-same {E = Refusal} piece last is in
+    (ap (λ (d : PlainDraft). Ok (joined draft d)) same, subst (AreAlike draft) same alike)
 rows-joined draft number piece last (fields ∷ rows) alike is room =
     let a = first-row number piece last fields rows is in
     let less = grows (next_number number) a.0 last rows a.2 in
     let step = row-steps draft piece alike number a.0 fields a.1 (omega (arith, less, room)) in
-    ap (λ (r : Result PlainDraft FaultKind). fault_in number r >>= λ d. draft_after d (next_number number) rows) step.is
-    ∙ rows-joined draft (next_number number) a.0 last rows step.alike a.2 room
+    let others = rows-joined draft (next_number number) a.0 last rows step.alike a.2 room in
+    (ap (λ (r : Result PlainDraft FaultKind). fault_in number r >>= λ d. draft_after d (next_number number) rows) step.is ∙ others.0, others.1)
 
 -- markets and wallets stand at the same places without their accounts
 pub bare-same : (start : PlainAccounts) → HaveSamePlaces (bare start) start
@@ -232,15 +235,37 @@ bare-same start = record {
       position_from-zero test (map bare_wallet start.wallets) ∙ position-map test bare_wallet 0 start.wallets ∙ sym (position_from-zero test start.wallets);
 }
 
--- rows that are read beside a script are read after it, where their clock is right and there is room
-pub read-behind : (draft : PlainDraft) (clock : ℤ) (number : ℕ) (rows : List Fields) (piece : PlainDraft) → IsUnderway draft → clock ≡ draft.clock
-    → draft_after (beside draft clock) number rows ≡ Ok piece → draft.items + piece.items ≤ draft.script.limits.items
-    → draft_after draft number rows ≡ Ok (joined draft piece)
-read-behind draft clock number rows piece under same is room =
-    let none = beside draft clock in
-    ap (λ (d : PlainDraft). draft_after d number rows) (sym (joined-none draft under none refl refl refl same))
-    ∙ rows-joined draft number none piece rows
-    (record { draft_underway = under; piece_underway = record { late = refl; first = refl }; batch = refl; limits = refl; places = bare-same draft.script.start }) is room
+pub alike-self : (draft : PlainDraft) → IsUnderway draft → AreAlike draft draft
+alike-self draft under = record {
+  draft_underway = under;
+  piece_underway = under;
+  batch = refl;
+  limits = refl;
+  places = record { markets = λ address. refl; wallets = λ address. refl };
+}
+
+alike-beside : (draft other : PlainDraft) (clock : ℤ) → AreAlike draft other → AreAlike draft (beside other clock)
+alike-beside draft other clock alike =
+    let bare = bare-same other.script.start in record {
+      draft_underway = alike.draft_underway;
+      piece_underway = record { late = refl; first = refl };
+      batch = alike.batch;
+      limits = alike.limits;
+      places = record {
+        markets = λ address. bare.markets address ∙ alike.places.markets address;
+        wallets = λ address. bare.wallets address ∙ alike.places.wallets address;
+      };
+    }
+
+-- rows that are read beside a script, or beside one like it, are read after it, where their clock is right and there is
+-- room
+pub read-behind : (draft other : PlainDraft) (clock : ℤ) (number : ℕ) (rows : List Fields) (piece : PlainDraft) → AreAlike draft other → clock ≡ draft.clock
+    → draft_after (beside other clock) number rows ≡ Ok piece → draft.items + piece.items ≤ draft.script.limits.items
+    → (draft_after draft number rows ≡ Ok (joined draft piece)) × AreAlike draft piece
+read-behind draft other clock number rows piece alike same is room =
+    let none = beside other clock in
+    let read = rows-joined draft number none piece rows (alike-beside draft other clock alike) is room in
+    (ap (λ (d : PlainDraft). draft_after d number rows) (sym (joined-none draft alike.draft_underway none refl refl refl same)) ∙ read.0, read.1)
 
 -- ---- what stays behind an instruction row
 
@@ -268,8 +293,8 @@ module _ (first before after : PlainDraft) (stays : Stays first before) (number 
 pub stays-behind : (first : PlainDraft) (number : ℕ) (last : PlainDraft) (rows : List Fields) → IsUnderway first → draft_after first number rows ≡ Ok last
     → Stays first last
 stays-behind first number last rows under is =
-    (through (λ _ (d : PlainDraft). Stays first d) (λ n before after fields stays one. stays-row first before after stays n fields one) number first last rows
-    (record { under = under; same = λ clock. refl }) is).1
+    through (λ _ (d : PlainDraft). Stays first d) (λ n before after fields stays one. stays-row first before after stays n fields one) number first last rows
+    (record { under = under; same = λ clock. refl }) is
 
 pub stays-joined : (first draft piece : PlainDraft) → Stays first draft → Stays first (joined draft piece)
 stays-joined first draft piece stays = record { under = record { late = stays.under.late; first = stays.under.first }; same = λ clock. stays.same clock }
@@ -293,10 +318,20 @@ after-both number draft [] more = refl
 after-both number draft (fields ∷ rows) more =
     both-behind (next_number number) rows more (λ next. after-both (next_number number) next rows more) (fault_in number (with_row draft number fields))
 
+-- what all rows leave, where it is known what the first of them do
+pub behind-both : (draft : PlainDraft) (number : ℕ) (rows more : List Fields) (next : PlainDraft) → draft_after draft number rows ≡ Ok next
+    → draft_after draft number (rows ++ more) ≡ draft_after next (number_after number rows) more
+behind-both draft number rows more next is =
+    after-both number draft rows more ∙ ap (λ (r : Result PlainDraft Refusal). r >>= λ d. draft_after d (number_after number rows) more) is
+
+pub number-both : (number : ℕ) (rows more : List Fields) → number_after number (rows ++ more) ≡ number_after (number_after number rows) more
+number-both number [] more = refl
+number-both number (row ∷ rows) more = number-both (next_number number) rows more
+
 -- ---- what a reader knows of a piece, and of a script with it
 
 module _ (one other : PlainAccounts) (same : HaveSamePlaces one other) where
-  placed-there : (rows : List PlainRow) (places : List RowPlaces) → ArePlaced one rows places → ArePlaced other rows places
+  pub placed-there : (rows : List PlainRow) (places : List RowPlaces) → ArePlaced one rows places → ArePlaced other rows places
   placed-there [] [] are = tt
   placed-there [] (place ∷ places) are = absurd are
   placed-there (row ∷ rows) [] are = absurd are

@@ -10,6 +10,8 @@ use Rattle.dex_types.specs.declared.limits.Limits.{Limits}
 use Rattle.dex_types.specs.Limits.{AreLimits}
 use Rattle.dex_state.specs.Conserved.{IsConserved}
 use Rattle.dex_audit.specs.Findings.{findings}
+use Rattle.dex_dump.specs.Answers.{AnswersDump, PlainDump}
+use Rattle.dex_dump.proofs.SoFarLaws.{dump-read}
 use Rattle.dex_state.specs.Accepted.{AreAccepted, HasFew, HasMints}
 use Rattle.dex_state.specs.Held.{HoldBytes}
 use Rattle.dex_statement.specs.declared.statement.Statement.{Statement}
@@ -92,14 +94,19 @@ by-row number before after fields so is =
     by-statement number before after a.0 so (row-stated fields a.0 a.1) a.2
 
 -- what rows without a dump give
+pub plain-start : (limits : Limits) → AreLimits limits → (batch : Bool) (rows : List Fields) (draft : PlainDraft)
+    → draft_after (no_rows limits batch) 1 rows ≡ Ok draft → IsStart draft.script.limits draft.script.start
+plain-start limits are batch rows draft is =
+    let last = through (λ _. IsDeclared) by-row 1 (no_rows limits batch) draft rows (nothing-declared limits are batch) is in
+    let start = draft.script.start in
+    declared-start draft.script.limits start draft.taken last.declared last.taken (conserved start last.declared.markets last.backed)
+
 from-rows : (limits : Limits) → AreLimits limits → (batch : Bool) (rows : List Fields) (script : PlainScript)
     → Ok script ≡ script_from (no_rows limits batch) 1 rows → IsStart script.limits script.start
 from-rows limits are batch rows script is =
     let a = bind-ok (draft_after (no_rows limits batch) 1 rows) last_script script (sym is) in
-    let last = (through (λ _. IsDeclared) by-row 1 (no_rows limits batch) a.0 rows (nothing-declared limits are batch) a.1).1 in
-    let start = a.0.script.start in
-    let here = declared-start a.0.script.limits start a.0.taken last.declared last.taken (conserved start last.declared.markets last.backed) in
-    subst (λ (s : PlainScript). IsStart s.limits s.start) (ok-same {E = Refusal} a.0.script script a.2) here
+    subst (λ (s : PlainScript). IsStart s.limits s.start) (ok-same {E = Refusal} a.0.script script a.2)
+    (plain-start limits are batch rows a.0 a.1)
 
 -- accounts without findings are those of sound markets
 abbrev pub AuditedAreSound : Type 0
@@ -111,15 +118,24 @@ abbrev pub AuditedAreConserved : Type 0
 AuditedAreConserved =
     (limits : Limits) (accounts : PlainAccounts) → AreAccepted limits accounts → HoldBytes accounts → findings accounts ≡ [] → All (IsConserved accounts) accounts.mints
 
+module _ (are-sound : AuditedAreSound) (are-conserved : AuditedAreConserved) (limits : Limits) where
+  audited : (accounts : PlainAccounts) → AreAccepted limits accounts → HoldBytes accounts → findings accounts ≡ [] → IsStart limits accounts
+  audited accounts accepted held none = record {
+    accepted = accepted;
+    sound = are-sound limits accounts accepted held none;
+    conserved = are-conserved limits accounts accepted held none;
+  }
+
+  -- what a dump without findings gives
+  pub dump-start : AreLimits limits → (rows : List Fields) (dump : PlainDump) → AnswersDump limits rows (Ok dump) → findings dump.accounts ≡ []
+      → IsStart limits dump.accounts
+  dump-start are rows dump told none = let read = dump-read limits are rows dump told in audited dump.accounts read.accepted read.held none
+
 by-answer : AuditedAreSound → AuditedAreConserved → (limits : Limits) → AreLimits limits → (batch begins : Bool) (rows : List Fields)
     (script : PlainScript) → AnswersBy limits batch begins rows (Ok script) → IsStart script.limits script.start
 by-answer are-sound are-conserved limits are batch true rows script told =
     let starts = from-dump limits are batch rows told.0 script told.1 told.2 in
-    record {
-      accepted = starts.accepted;
-      sound = are-sound script.limits script.start starts.accepted starts.held starts.none;
-      conserved = are-conserved script.limits script.start starts.accepted starts.held starts.none;
-    }
+    audited are-sound are-conserved script.limits script.start starts.accepted starts.held starts.none
 by-answer are-sound are-conserved limits are batch false rows script is = from-rows limits are batch rows script is
 
 pub starts-sound : AuditedAreSound → AuditedAreConserved → (limits : Limits) (batch : Bool) (text : List ℕ) (script : PlainScript)

@@ -1,9 +1,12 @@
 -- A script as far as its rows are read.
-use Rattle.std.specs.Prelude.{ℕ, ℤ, pos, Bool, true, false, List, []}
+use Rattle.std.specs.Prelude.{◌≡◌, ℕ, ℤ, ◌-◌, ◌<◌, ◌≤◌, ◌^◌, pos, Bool, true, false, List, [], All, length}
 use Rattle.dex_types.specs.declared.addresses.Address.{Address}
 use Rattle.dex_types.specs.Accounts.{PlainAccounts}
 use Rattle.dex_types.specs.declared.limits.Limits.{Limits}
+use Rattle.dex_types.specs.Rows.{PlainRow}
 use Rattle.dex_state.specs.Addresses.{addresses_of}
+use Rattle.dex_world.specs.Items.{items_of}
+use Rattle.dex_script_types.specs.Facts.{AreRows, HasNoSwap}
 use Rattle.dex_script_types.specs.PlainScript.{PlainScript, no_accounts, without_rows}
 
 -- the script so far, with every address that is taken, the clock of the next instruction row, whether no row stands
@@ -41,3 +44,12 @@ behind_dump limits batch accounts = record {
   items = 0;
   batch = batch;
 }
+
+-- what holds of a script so far, whose next row has this number: its rows are in order, and with lower numbers
+pub record IsGood (number : ℕ) (draft : PlainDraft) : Type 0 where
+  pub rows : AreRows draft.script
+  pub below : All (λ (one : PlainRow). one.number < number) draft.script.rows
+  pub quiet : draft.is_late ≡ false → draft.script.rows ≡ []
+  pub items : draft.items ≡ length (items_of draft.script.rows)
+  pub single : draft.batch ≡ true → HasNoSwap draft.script.rows
+  pub small : number ≤ 2 ^ 32 - 1

@@ -1,3 +1,4 @@
+pub mod Begun
 pub mod Drafts
 pub mod Known
 pub mod Markets

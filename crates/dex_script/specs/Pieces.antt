@@ -1,12 +1,14 @@
 -- Rows after an instruction row, read in pieces.
-use Rattle.std.specs.Prelude.{◌≡◌, ℕ, ℤ, ◌+◌, true, false, List, [], ◌∷◌, ◌++◌, None, map, max}
+use Rattle.std.specs.Prelude.{◌≡◌, ℕ, ℤ, ◌+◌, true, false, List, [], ◌∷◌, ◌++◌, None, Ok, map, max}
 use Rattle.dex_types.specs.declared.addresses.Address.{Address}
 use Rattle.dex_types.specs.Accounts.{PlainAccount, PlainAccounts, PlainMarketAccounts}
 use Rattle.dex_statement.specs.Words.{Fields}
 use Rattle.dex_dump.specs.Answers.{next_number}
+use Rattle.dex_script_types.specs.PlainScript.{PlainScript}
 use Rattle.dex_script_types.specs.Places.{market_place, wallet_place}
 use Rattle.dex_script.specs.Drafts.{PlainDraft}
 use Rattle.dex_script.specs.Markets.{no_accounts_of}
+use Rattle.dex_script.specs.Scripts.{draft_after}
 
 -- the number of the row after some, the first of which has this number
 abbrev pub number_after : ℕ → List Fields → ℕ
@@ -30,6 +32,13 @@ bare start = record {
   wallets = map bare_wallet start.wallets;
   markets = map bare_market start.markets;
 }
+
+-- the first of these rows leave this draft, and those that are left are numbered from this number on
+pub record IsPartway (first : PlainDraft) (from : ℕ) (rows : List Fields) (draft : PlainDraft) (number : ℕ) (left : List Fields) : Type 0 where
+  pub front : List Fields
+  pub parts : rows ≡ front ++ left
+  pub read : draft_after first from front ≡ Ok draft
+  pub next : number ≡ number_after from front
 
 -- no row of a piece was read yet, which is of the same markets and wallets; its first rows have this clock
 abbrev pub beside : PlainDraft → ℤ → PlainDraft
@@ -72,3 +81,7 @@ joined draft piece = record draft {
   clock = piece.clock;
   items = draft.items + piece.items;
 }
+
+-- the rows of a piece, as a script that starts with these accounts
+abbrev pub part_of : PlainDraft → PlainAccounts → PlainScript
+part_of piece start = record piece.script { start = start; lanes = max 1 piece.script.lanes }

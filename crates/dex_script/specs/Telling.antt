@@ -1,5 +1,5 @@
 -- What the answers of calls tell, without their buffers.
-use Rattle.std.specs.Prelude.{◌≡◌, ◌&&◌, ℕ, Bool, true, false, not, List, [], ◌++◌, map, Result, Ok, Err}
+use Rattle.std.specs.Prelude.{◌≡◌, ℕ, Bool, List, [], ◌++◌, map, Result, Ok, Err}
 use Rattle.dex_audit.specs.Findings.{findings}
 use Rattle.dex_types.specs.declared.limits.Limits.{Limits}
 use Rattle.dex_dump.specs.declared.reader.DumpRead.{DumpRead}
@@ -18,7 +18,7 @@ use Rattle.dex_script.specs.declared.draft.Start.{Start}
 use Rattle.dex_script.specs.declared.fault.ScriptError.{ScriptError}
 use Rattle.dex_script.specs.declared.fault.ScriptError.TheVariants as script
 use Rattle.dex_script.specs.Drafts.{PlainDraft}
-use Rattle.dex_script.specs.Scripts.{IsRefusedWithin, ReadsWithin, Refusal, draft_after}
+use Rattle.dex_script.specs.Scripts.{IsRefusedWithin, ReadsWithin, Refusal}
 use Rattle.dex_script.specs.Scripts.Refusal.{AtRow, InAudit, InDump}
 
 -- the accounts so far
@@ -61,14 +61,6 @@ TellsRefusal script.NoMemory meant = Unit {0}
 abbrev pub TellsDraft : Result PlainDraft ScriptError → Result PlainDraft Refusal → Type 0
 TellsDraft (Ok draft) meant = meant ≡ Ok draft
 TellsDraft (Err error) meant = TellsRefusal error meant
-
--- the draft after the first of some rows: after an instruction row the others, the first of them of this number, leave
--- what all leave, and else there are none; or the first faulty one
-abbrev pub TellsFront : Result PlainDraft ScriptError → ℕ → List Fields → Result PlainDraft Refusal → Type 0
-TellsFront (Ok draft) number left meant =
-    ((draft.is_late && not draft.is_first) ≡ true → meant ≡ draft_after draft number left)
-    × ((draft.is_late && not draft.is_first) ≡ false → meant ≡ Ok draft)
-TellsFront (Err error) number left meant = TellsRefusal error meant
 
 -- after a row without a fault this is what it gives, and after one with a fault all is as it was. A lack of memory
 -- tells nothing

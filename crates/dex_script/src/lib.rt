@@ -31,5 +31,7 @@ pub use market::DeclaredMarket;
 pub use markets::make_markets;
 pub use names::{Names, Stand};
 pub use reader::Reader;
-pub use reading::{ReadRows, read_rows, read_script, read_script_by, read_script_within};
+pub use reading::{
+    Begun, ReadRows, begin_script, read_rows, read_script, read_script_by, read_script_within,
+};
 pub use swap::is_bad_swap;

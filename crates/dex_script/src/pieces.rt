@@ -1,7 +1,8 @@
 //! Rows after an instruction row, read in pieces: each beside the others, and then put together.
 
 ghost use Rattle.std.specs.Prelude.{◌≡◌, ◌≤◌, ◌+◌, ◌&&◌, IfOk, map, not, true};
-ghost use Rattle.dex_types.specs.Accounts.{named_of};
+ghost use Rattle.dex_types.specs.Accounts.{accounts_of, named_of};
+ghost use Rattle.dex_script_types.specs.Facts.{IsScript};
 ghost use Rattle.dex_script.specs.Pieces as spec;
 
 use crate::draft::{Draft, Start};
@@ -9,8 +10,8 @@ use crate::market::DeclaredMarket;
 use crate::mints::Mints;
 use crate::reader::Reader;
 use dex_dump::TakenAddresses;
-use dex_script_types::RowList;
-use dex_types::{Named, NoMemory};
+use dex_script_types::{RowList, Script};
+use dex_types::{Accounts, Named, NoMemory};
 use std::alloc::{AllocError, Global};
 
 impl Reader {
@@ -27,6 +28,13 @@ impl Reader {
         ensures { result ≡ self.now.clock }
     {
         self.draft.clock
+    }
+
+    /// How many instruction rows were read, where a swap is one.
+    pub fn items(&self) -> u32
+        ensures { result ≡ self.now.items }
+    {
+        self.draft.items
     }
 
     /// A reader of rows further on, for the same markets and wallets, which has read none of them; their clock is this
@@ -68,6 +76,26 @@ impl Reader {
     {
         let most = self.draft.limits.items;
         piece.draft.items <= most && self.draft.items <= most - piece.draft.items
+    }
+
+    /// The rows that were read, as a script that starts with other accounts of the same markets and wallets. No row is
+    /// moved.
+    pub fn into_script_of(self, start: Accounts) -> Result<Script, NoMemory>
+        requires script { IsScript (spec.part_of self (accounts_of start)) }
+        requires places { spec.HaveSamePlaces self.script.start (accounts_of start) }
+        ensures { IfOk result (λ script. script ≡ spec.part_of self (accounts_of start)) }
+    {
+        let draft = self.draft;
+        let mut rows = draft.before;
+        rows.push_piece(draft.rows)?;
+        Ok(Script {
+            start,
+            rows,
+            places: self.places,
+            lanes: draft.lanes.max(1),
+            program: draft.program,
+            limits: draft.limits,
+        })
     }
 
     /// What is read with the rows of a piece after, which name the same markets and wallets. No row is moved.

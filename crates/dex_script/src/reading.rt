@@ -1,6 +1,6 @@
 //! A script, from its bytes.
 
-ghost use Rattle.std.specs.Prelude.{◌≡◌, ℕ, IfOk, List, OnOk, true, ⊤};
+ghost use Rattle.std.specs.Prelude.{◌≡◌, ℕ, IfErr, IfOk, List, OnOk, true, ⊤};
 ghost use Rattle.dex_types.specs.Accounts.{accounts_of};
 ghost use Rattle.dex_state.specs.Accepted.{AreAccepted};
 ghost use Rattle.dex_types.specs.Limits.{AreLimits};
@@ -12,7 +12,8 @@ ghost use Rattle.dex_script_types.specs.Facts.{HasNoSwap};
 ghost use Rattle.dex_script.specs.Rows.{with_row};
 ghost use Rattle.dex_script.specs.Pieces.{IsUnderway, number_after};
 ghost use Rattle.dex_script.specs.Scripts.{begins_with_dump, draft_after, fault_in};
-ghost use Rattle.dex_script.specs.Telling.{TellsDraft, TellsFront, TellsLeft, TellsScript, TellsStart, TellsText};
+ghost use Rattle.dex_script.specs.Begun.{HasReadSome, IsDoneOrUnderway, TellsBegun};
+ghost use Rattle.dex_script.specs.Telling.{TellsDraft, TellsLeft, TellsRefusal, TellsScript, TellsStart, TellsText};
 
 use crate::draft::Draft;
 use crate::fault::ScriptError;
@@ -23,7 +24,9 @@ use crate::making::MakeMarkets;
 use crate::market::DeclaredMarket;
 use crate::markets::make_markets;
 use crate::reader::Reader;
-use dex_audit::audit;
+use dex_audit::{
+    accounts_without_findings_are_of_sound_markets, audit, mints_without_findings_are_conserved,
+};
 use dex_dump::{DumpError, DumpRead, is_first_row};
 use dex_rows::records::{Fields, Rows};
 use dex_script_types::Script;
@@ -145,53 +148,71 @@ fn read_text<H: ReadRows>(
     requires ready { H.ready how.now }
     ensures { TellsText limits.now result batch bytes.now }
 {
-    let mut rows = Rows::new(alloc, bytes);
-    if begins_with_dump(alloc, bytes, &rows)? {
-        read_behind_dump(alloc, &mut rows, batch, limits, how)
-    } else {
-        read_all(alloc, Reader::new(alloc, batch, limits), 1, &mut rows, how)
+    let Begun {
+        reader,
+        number,
+        rows,
+    } = begin_script(alloc, bytes, batch, limits)?;
+    match rows {
+        Some(left) => {
+            let mut rows = left;
+            let reader = reader.with_room(bytes_left(&rows))?;
+            how.read_rows(alloc, reader, number, &mut rows)
+        }
+        None => Ok(reader),
     }
 }
 
-/// What rows that begin with a dump say.
-fn read_behind_dump<H: ReadRows>(
+/// A script whose rows are read up to the first instruction row.
+#[derive(Drop)]
+pub struct Begun<'a> {
+    /// What was read.
+    pub reader: Reader,
+    /// The number of the next row.
+    pub number: u32,
+    /// The rows that are left, where an instruction row was found. Else all are read.
+    pub rows: Option<Rows<'a>>,
+}
+
+/// Reads the first rows of a text, a dump among them, up to the first instruction row; or says why the text is no
+/// script, as far as these tell.
+pub fn begin_script<'a>(
     alloc: Global,
-    rows: &mut Rows<'_>,
+    bytes: &'a [u8],
     batch: bool,
     limits: &Limits,
-    how: &H,
-) -> Result<Reader, ScriptError>
-    requires begins { begins_with_dump rows.old ≡ true }
-    requires limits { AreLimits limits.now }
-    requires ready { H.ready how.now }
-    ensures { (bytes : List ℕ) → rows.old ≡ rows_of bytes → TellsText limits.now result batch bytes }
+) -> Result<Begun<'a>, ScriptError>
+    requires { AreLimits limits.now }
+    ensures told { TellsBegun limits.now result batch bytes.now }
+    ensures underway { IfOk result IsDoneOrUnderway }
 {
-    let dump = read_dump(alloc, rows, limits)?;
-    let number = next_number(dump.count);
-    let before = Draft::behind_dump(alloc, dump.accounts, batch, *limits)?;
-    read_all(alloc, Reader::of(alloc, before), number, rows, how)
+    let rows = Rows::new(alloc, bytes);
+    if begins_with_dump(alloc, bytes, &rows)? {
+        begin_behind_dump(alloc, rows, batch, limits)
+    } else {
+        read_first(alloc, Reader::new(alloc, batch, limits), 1, rows)
+    }
 }
 
-/// What is read after the rows that are left, the first of which has this number, or the first faulty one. Those after
-/// the first instruction row are read as the last argument does.
-fn read_all<H: ReadRows>(
+/// Like `begin_script`, of rows that begin with a dump.
+fn begin_behind_dump<'a>(
     alloc: Global,
-    reader: Reader,
-    number: u32,
-    rows: &mut Rows<'_>,
-    how: &H,
-) -> Result<Reader, ScriptError>
-    requires { H.ready how.now }
-    ensures { TellsDraft result (draft_after reader number rows.old) }
+    rows: Rows<'a>,
+    batch: bool,
+    limits: &Limits,
+) -> Result<Begun<'a>, ScriptError>
+    requires begins { begins_with_dump rows ≡ true }
+    requires limits { AreLimits limits.now }
+    ensures told { (text : List ℕ) → rows.entry ≡ rows_of text → TellsBegun limits.now result batch text }
+    ensures underway { IfOk result IsDoneOrUnderway }
 {
-    let mut number = number;
-    let reader = read_first(alloc, reader, &mut number, rows)?;
-    if reader.is_underway() {
-        let reader = reader.with_room(bytes_left(rows))?;
-        how.read_rows(alloc, reader, number, rows)
-    } else {
-        Ok(reader)
-    }
+    accounts_without_findings_are_of_sound_markets();
+    mints_without_findings_are_conserved();
+    let mut rows = rows;
+    let dump = read_dump(alloc, &mut rows, limits)?;
+    let number = next_number(dump.count);
+    let before = Draft::behind_dump(alloc, dump.accounts, batch, *limits)?;
+    read_first(alloc, Reader::of(alloc, before), number, rows)
 }
 
 /// How many bytes are still to be read; 0 where the text has a quote.
@@ -262,23 +283,39 @@ pub fn read_rows(
     Ok(reader)
 }
 
-/// What is read after the rows up to the first instruction row, which is the last that is taken, or the first faulty
-/// one. The rows that are left are those after it; where no instruction row stands among them, all are read.
-fn read_first(
+/// Reads rows up to the first instruction row, which is the last that is taken, or the first faulty one. Where no
+/// instruction row stands among them, all are read.
+fn read_first<'a>(
     alloc: Global,
-    mut reader: Reader,
-    number: &mut u32,
-    rows: &mut Rows<'_>,
-) -> Result<Reader, ScriptError>
-    ensures { TellsFront result number.new rows.new (draft_after reader number.old rows.old) }
+    reader: Reader,
+    number: u32,
+    rows: Rows<'a>,
+) -> Result<Begun<'a>, ScriptError>
+    ensures read { IfOk result (HasReadSome reader number rows.entry) }
+    ensures underway { IfOk result IsDoneOrUnderway }
+    ensures refused { IfErr result (λ error. TellsRefusal error (draft_after reader number rows.entry)) }
 {
+    let mut reader = reader;
+    let mut number = number;
+    let mut rows = rows;
     let mut row = Fields::new();
     let mut words = InstructionWords::none(alloc);
-    'rows: while !reader.is_underway() && rows.next_row(&mut row)? {
-        add_row(alloc, &mut reader, *number, &row, &mut words)?;
-        *number = next_number(*number);
+    'rows: while !reader.is_underway() {
+        if !rows.next_row(&mut row)? {
+            return Ok(Begun {
+                reader,
+                number,
+                rows: None,
+            });
+        }
+        add_row(alloc, &mut reader, number, &row, &mut words)?;
+        number = next_number(number);
     }
-    Ok(reader)
+    Ok(Begun {
+        reader,
+        number,
+        rows: Some(rows),
+    })
 }
 
 /// Adds what the row of this number states. After a fault, what is left does not matter.

@@ -1,35 +1,22 @@
 -- What is read after pieces, one after the other.
-use Rattle.std.proofs.Common.{◌≡◌, ◌∙◌, ◌++◌, ◌+◌, ◌<◌, ◌≤◌, ℕ, ℤ, suc, List, [], ◌∷◌, Result, Ok, Err, IfOk, IsOkAnd, All, ap, append-nil, append_assoc, drop, drop-cons, get_or, length, refl, subst, sym, take}
+use Rattle.std.proofs.Common.{◌≡◌, ◌∙◌, ◌++◌, ◌+◌, ◌<◌, ◌≤◌, ℕ, suc, List, [], ◌∷◌, Result, Ok, Err, IfOk, IsOkAnd, All, ap, append-nil, append_assoc, drop, drop-cons, get_or, length, refl, subst, sym, take}
 use Rattle.std.specs.List.{AllZip}
 use Rattle.std.proofs.lemmas.Grind.{flat_map-append}
 use Rattle.std.proofs.lemmas.List.{take-append-drop}
 use Rattle.std.proofs.lemmas.List.Elements.{All-cons, All-head, All-nil, All-tail}
-use Rattle.dex_types.specs.Accounts.{PlainAccounts}
-use Rattle.dex_dump.specs.Answers.{next_number}
 use Rattle.dex_statement.specs.Faults.{◌>>=◌}
 use Rattle.dex_statement.specs.Words.{Fields}
-use Rattle.dex_script_types.specs.Places.{market_place, wallet_place}
 use Rattle.dex_script.specs.declared.fault.ScriptError.{ScriptError}
 use Rattle.dex_script.specs.declared.fault.ScriptError.TheVariants as script
 use Rattle.dex_script.specs.Drafts.{PlainDraft}
-use Rattle.dex_script.specs.Pieces.{AreAlike, IsUnderway, bare, beside, joined, number_after}
+use Rattle.dex_script.specs.Pieces.{AreAlike, IsUnderway, beside, joined, number_after}
 use Rattle.dex_script.specs.Scripts.{Refusal, draft_after}
 use Rattle.dex_script.specs.Telling.{TellsDraft, TellsRefusal}
-use Rattle.dex_script.proofs.PieceLaws.{Stays, after-both, bare-same, read-behind, stays-behind}
+use Rattle.dex_script.proofs.PieceLaws.{Stays, after-both, alike-self, behind-both, number-both, read-behind, stays-behind}
 use Rattle.dex_script_pieces.specs.Pieces.{HasRead, IsBeside, IsNext, ReadsPiece, rows_of}
 use Rattle.dex_script_pieces.specs.declared.piece.Piece.{Piece}
 
 -- ---- rows behind rows
-
--- what all rows leave, where it is known what the first of them do
-pub behind-both : (draft : PlainDraft) (number : ℕ) (rows more : List Fields) (reader : PlainDraft) → draft_after draft number rows ≡ Ok reader
-    → draft_after draft number (rows ++ more) ≡ draft_after reader (number_after number rows) more
-behind-both draft number rows more reader is =
-    after-both number draft rows more ∙ ap (λ (r : Result PlainDraft Refusal). r >>= λ next. draft_after next (number_after number rows) more) is
-
-pub number-both : (number : ℕ) (rows more : List Fields) → number_after number (rows ++ more) ≡ number_after (number_after number rows) more
-number-both number [] more = refl
-number-both number (row ∷ rows) more = number-both (next_number number) rows more
 
 -- the first fault of some rows is that of these and others
 refused-more : (error : ScriptError) (meant : Result PlainDraft Refusal) (next : PlainDraft → Result PlainDraft Refusal) → TellsRefusal error meant
@@ -47,10 +34,6 @@ refused-both error draft number rows more told =
 
 -- ---- a reader beside a script
 
--- neither setup rows nor others about the program may follow on a reader beside another
-beside-underway : (draft : PlainDraft) (clock : ℤ) → IsUnderway (beside draft clock)
-beside-underway draft clock = record { late = refl; first = refl }
-
 pub stays-first : (draft : PlainDraft) → IsUnderway draft → Stays draft draft
 stays-first draft under = record { under = under; same = λ clock. refl }
 
@@ -59,27 +42,6 @@ pub stays-more : (first before after : PlainDraft) (number : ℕ) (rows : List F
 stays-more first before after number rows stays is =
     let next = stays-behind before number after rows stays.under is in
     record { under = next.under; same = λ clock. next.same clock ∙ stays.same clock }
-
--- what was read beside a script is of the same markets and wallets
-pub alike-behind : (draft : PlainDraft) (clock : ℤ) (number : ℕ) (rows : List Fields) (piece : PlainDraft) → IsUnderway draft
-    → draft_after (beside draft clock) number rows ≡ Ok piece → AreAlike draft piece
-alike-behind draft clock number rows piece under is =
-    let stays = stays-behind (beside draft clock) number piece rows (beside-underway draft clock) is in
-    let start : bare piece.script.start ≡ bare (bare draft.script.start) = ap (λ (d : PlainDraft). d.script.start) (stays.same clock) in
-    record {
-      draft_underway = under;
-      piece_underway = stays.under;
-      batch = ap (λ (d : PlainDraft). d.batch) (stays.same clock);
-      limits = ap (λ (d : PlainDraft). d.script.limits) (stays.same clock);
-      places = record {
-        markets = λ address.
-            sym ((bare-same piece.script.start).markets address) ∙ ap (λ (s : PlainAccounts). market_place address s.markets) start
-            ∙ (bare-same (bare draft.script.start)).markets address ∙ (bare-same draft.script.start).markets address;
-        wallets = λ address.
-            sym ((bare-same piece.script.start).wallets address) ∙ ap (λ (s : PlainAccounts). wallet_place address s.wallets) start
-            ∙ (bare-same (bare draft.script.start)).wallets address ∙ (bare-same draft.script.start).wallets address;
-      };
-    }
 
 -- ---- pieces that were read
 
@@ -125,14 +87,13 @@ read-of draft piece read has is =
     subst (λ (r : Result PlainDraft ScriptError). IfOk r (λ (read : PlainDraft). (draft_after (beside draft piece.clock) piece.number piece.rows ≡ Ok read)
     × (piece.after ≡ number_after piece.number piece.rows))) is has
 
--- its rows leave what it has after a draft that it is next to
-pub next-read : (draft : PlainDraft) (number : ℕ) (piece : Piece) (read both : PlainDraft) → IsUnderway draft → HasRead draft piece → piece.reader ≡ Ok read
-    → IsNext draft number piece → both ≡ joined draft read → draft_after draft number piece.rows ≡ Ok both
-next-read draft number piece read both under has is (at, clock, room) joins =
-    subst (λ (n : ℕ). draft_after draft n piece.rows ≡ Ok both) at
-    (read-behind draft piece.clock piece.number piece.rows read under clock (read-of draft piece read has is).0
-    (subst (λ (r : Result PlainDraft ScriptError). IsOkAnd r (λ (x : PlainDraft). draft.items + x.items ≤ draft.script.limits.items)) is room)
-    ∙ ap (λ (d : PlainDraft). Ok d) (sym joins))
+-- it was read behind a draft that it is next to
+pub next-read : (draft : PlainDraft) (number : ℕ) (piece : Piece) (read : PlainDraft) → IsUnderway draft → HasRead draft piece → piece.reader ≡ Ok read
+    → IsNext draft number piece → (draft_after draft number piece.rows ≡ Ok (joined draft read)) × AreAlike draft read
+next-read draft number piece read under has is (at, clock, room) =
+    subst (λ (n : ℕ). (draft_after draft n piece.rows ≡ Ok (joined draft read)) × AreAlike draft read) at
+    (read-behind draft draft piece.clock piece.number piece.rows read (alike-self draft under) clock (read-of draft piece read has is).0
+    (subst (λ (r : Result PlainDraft ScriptError). IsOkAnd r (λ (x : PlainDraft). draft.items + x.items ≤ draft.script.limits.items)) is room))
 
 -- ---- one piece more
 

@@ -1,17 +1,17 @@
-use Rattle.std.proofs.Common.{◌∙◌, List, ap, sym}
-use Rattle.dex_statement.specs.Words.{Fields}
-use Rattle.dex_script.specs.Scripts.{draft_after}
-use Rattle.dex_script.proofs.FaultLaws.{differ}
-use Rattle.dex_script.proofs.reading.read_first.Goals.{then-rows-test+in_ok-next_row+else-branch, else-rows-test}
+use Rattle.std.proofs.Common.{[], ◌∷◌, Result, ap, rules}
+use Rattle.dex_dump.specs.Answers.{next_number}
+use Rattle.dex_statement.specs.Faults.{◌>>=◌}
+use Rattle.dex_script.specs.Drafts.{PlainDraft}
+use Rattle.dex_script.specs.Scripts.{Refusal, draft_after}
+use Rattle.dex_script.proofs.BegunLaws.{partway-on}
 use Rattle.dex_script.proofs.reading.read_first.Goals as goal
 
-pub returns : goal.returns
-returns c =
-    let after = λ (rows : List Fields). draft_after c.rows.reader c.rows.number rows in
-    elim c.rows-test.branch [
-      | then-rows-test+in_ok-next_row+else-branch w ↦ (
-        λ is. absurd (differ (sym is ∙ sym w.rows-test.ensures)),
-        λ is. sym c.rows.invariant ∙ ap after (w.in_ok-next_row.ensures.end w.if-branch.false),
-      )
-      | else-rows-test w ↦ (λ is. sym c.rows.invariant ∙ ap after (sym w.rows-is), λ is. absurd (differ (w.rows-test.ensures ∙ is)))
-    ]
+pub rows-preserved : goal.rows-preserved
+rows-preserved c = record {
+  partway =
+      partway-on c.args.reader c.args.number c.args.rows c.rows.reader c.rows.number c.rows.rows (c.next_row.new.row ∷ []) c.next_row.new.self
+      c.add_row.new.reader c.next_number-number.result c.rows.invariant.partway (c.in_ok-next_row.ensures.next c.if-not-branch.false)
+      (ap (λ (r : Result PlainDraft Refusal). r >>= λ d. draft_after d (next_number c.rows.number) []) c.in_ok-add_row.ensures)
+      c.next_number-number.ensures;
+  same = search rules;
+}
