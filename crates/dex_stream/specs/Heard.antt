@@ -48,6 +48,7 @@ pub record IsHeard {L : Type 0} (heard : L → PlainScript → PlainOutcome → 
   pub script : PlainScript
   pub outcome : PlainOutcome
   pub reads : ReadsWithin limits false bytes script
+  pub is_script : IsScript script
   pub replay : IsReplayOf script outcome
   pub run : IsRunOf script outcome
   pub leaves : outcome.accounts ≡ accounts
