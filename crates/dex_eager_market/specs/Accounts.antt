@@ -1,11 +1,12 @@
 -- Accounts of a market that pays at once: what came in for each, and what it paid.
-use Rattle.std.specs.Prelude.{ℕ, pos, ◌+◌, ◌-ℤ◌, List, Option, Some, None, if◌then◌else◌}
+use Rattle.std.specs.Prelude.{ℕ, pos, ◌+◌, ◌-ℤ◌, ◌≤◌, List, Option, Some, None, if◌then◌else◌}
 use Rattle.std.specs.List.{All}
 use Rattle.dex_types.specs.declared.addresses.Address.{Address}
 use Rattle.dex_types.specs.Addresses.{is_same}
 use Rattle.dex_eager.specs.Worth.{Worth}
 use Rattle.dex_worth.specs.Amounts as amounts
 use Rattle.dex_worth.specs.Rows.{plain_worth}
+use Rattle.dex_worth.specs.declared.amounts.TokenAmounts.{TokenAmounts}
 use Rattle.dex_worth.specs.declared.table.Worth as declared
 use Rattle.dex_eager_market.specs.declared.accounts.Account.{Account}
 use Rattle.dex_eager_market.specs.declared.accounts.Change.{Change}
@@ -21,10 +22,15 @@ worth_of change = record {
 abbrev pub entry_of : Account → Address × Worth
 entry_of account = (account.address, worth_of account.total)
 
+-- amounts up to a bound
+pub record AreUpTo (bound : ℕ) (sums : TokenAmounts) : Type 0 where
+  pub coin : sums.coin ≤ bound
+  pub pc : sums.pc ≤ bound
+
 -- amounts up to a bound came in and were paid
 pub record IsSmall (bound : ℕ) (change : Change) : Type 0 where
-  pub gained : amounts.IsWithin bound change.gained
-  pub paid : amounts.IsWithin bound change.paid
+  pub gained : AreUpTo bound change.gained
+  pub paid : AreUpTo bound change.paid
 
 -- so of an account
 abbrev pub IsWithin : ℕ → Account → Type 0

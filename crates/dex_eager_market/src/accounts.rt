@@ -3,7 +3,7 @@
 ghost use Rattle.std.specs.Prelude.{◌≡◌, ℕ, ◌+◌, ◌^◌, map};
 ghost use Rattle.std.specs.List.{All};
 ghost use Rattle.dex_eager.specs.Eager as eager;
-ghost use Rattle.dex_worth.specs.Amounts.{IsWithin as AreUpTo};
+ghost use Rattle.dex_eager_market.specs.Accounts.{AreUpTo};
 ghost use Rattle.dex_eager_market.specs.Accounts as book;
 
 use dex_types::{Address, is_same};

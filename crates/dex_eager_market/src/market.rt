@@ -9,7 +9,7 @@ ghost use Rattle.dex_accounts.specs.Decoded.{AreSound, market_in};
 ghost use Rattle.dex_eager.specs.Eager.{eager_step, worth_at};
 ghost use Rattle.dex_eager.specs.Histories.{eager_start};
 ghost use Rattle.dex_history.specs.Journal.{request_of};
-ghost use Rattle.dex_worth.specs.Amounts.{IsWithin as AreUpTo};
+ghost use Rattle.dex_eager_market.specs.Accounts.{AreUpTo};
 ghost use Rattle.dex_worth.specs.Rows.{plain_worth};
 ghost use Rattle.dex_eager_market.specs.Accounts as book;
 

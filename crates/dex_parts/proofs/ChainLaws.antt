@@ -56,7 +56,7 @@ behind-second tell one same (x ∷ xs) [] long = absurd (cc)
 behind-second tell one same (x ∷ xs) (y ∷ ys) long =
     ap (λ z. z ∷ map tell (each_behind one xs ys)) (same x y) ∙ ap (λ zs. tell y ∷ zs) (behind-second tell one same xs ys (cc long))
 
-same-long : {A B C : Type 0} (f : A → C) (g : B → C) (xs : List A) (ys : List B) → map f xs ≡ map g ys → length xs ≡ length ys
+pub same-long : {A B C : Type 0} (f : A → C) (g : B → C) (xs : List A) (ys : List B) → map f xs ≡ map g ys → length xs ≡ length ys
 same-long {C = C} f g xs ys same = sym (length-map xs f) ∙ ap (λ (zs : List C). length zs) same ∙ length-map ys g
 
 stand-behind : (all : List PlainMarketAccounts) (before states : List MarketState) → length before ≡ length states → AllZip StandIn all states

@@ -1,31 +1,32 @@
 -- The calls that entries tell, one by one.
-use Rattle.std.proofs.Common.{ℕ, zero, suc, ◌+◌, ◌≡◌, ◌<◌, List, [], ◌∷◌, length, get_or, take, Option, Some, None, is_some, refl, sym, ap, ◌∙◌, arith}
+use Rattle.std.proofs.Common.{ℕ, zero, suc, ◌+◌, ◌≡◌, ◌<◌, List, [], ◌∷◌, ◌++◌, length, get_or, map, Option, Some, None, is_some, refl, sym, ap, ◌∙◌, arith}
 use Rattle.std.specs.Option.{unwrap_or}
 use Rattle.std.proofs.lemmas.Bool.{false≢true}
+use Rattle.std.proofs.lemmas.Simd.{map-map}
 use Rattle.dex_types.specs.declared.addresses.Address.{Address}
 use Rattle.dex_types.specs.declared.movements.Entry.{Entry}
 use Rattle.dex_types.specs.Side.{Coin, Pc}
 use Rattle.dex_types.specs.Totals.{total}
+use Rattle.dex_laws.proofs.TotalLaws.{total-append}
 use Rattle.dex_history.specs.Journal.{Call}
 use Rattle.dex_script_types.specs.PlainScript.{PlainScript}
 use Rattle.dex_replay.specs.EntryCalls.{call_told, calls_told, with_call}
-use Rattle.dex_totals.proofs.SumLaws.{total-more}
+use Rattle.dex_replay.specs.Told.{told_in, told_out}
 use Rattle.dex_worth.specs.declared.amounts.TokenAmounts.{TokenAmounts}
 use Rattle.dex_worth.specs.declared.entries.Moved.{Moved}
-use Rattle.dex_worth.specs.Amounts.{AreSums, both}
-use Rattle.dex_worth.specs.Entries.{AreMoved, all_in, all_out, deposited_in, settled_in}
-use Rattle.dex_replay.specs.Told.{told_in, told_out}
-use Rattle.dex_worth.proofs.Sums.{same-pair, sums-agree}
+use Rattle.dex_worth.specs.Amounts.{both, capped_amounts}
+use Rattle.dex_worth.specs.Entries.{AreMoved, all_in, all_out, deposited_in, moved_told, settled_in, with_moved}
+use Rattle.dex_worth.proofs.Sums.{both-none, same-pair, with-own}
 
 -- the first call and the others
-record Parts (one : Option Call) (rest : Option (List Call)) (calls : List Call) : Type 0 where
-  call : Call
-  others : List Call
-  first : one ≡ Some call
-  behind : rest ≡ Some others
-  are : calls ≡ call ∷ others
+pub record Parts (one : Option Call) (rest : Option (List Call)) (calls : List Call) : Type 0 where
+  pub call : Call
+  pub others : List Call
+  pub first : one ≡ Some call
+  pub behind : rest ≡ Some others
+  pub are : calls ≡ call ∷ others
 
-parts : (one : Option Call) (rest : Option (List Call)) (calls : List Call) → with_call one rest ≡ Some calls → Parts one rest calls
+pub parts : (one : Option Call) (rest : Option (List Call)) (calls : List Call) → with_call one rest ≡ Some calls → Parts one rest calls
 parts (Some call) (Some others) calls told =
     record { call = call; others = others; first = refl; behind = refl; are = ap (λ (o : Option (List Call)). unwrap_or o calls) (sym told) }
 parts (Some call) None calls told = absurd (false≢true (ap is_some told))
@@ -54,20 +55,37 @@ some-call (call ∷ calls) lt = call
 
 -- ---- one call more
 
-pub in-more : (calls : List Call) (place : ℕ) (d : Call) (moved : Option Moved) (owners : List Address) (sums : List TokenAmounts) → place < length calls → AreMoved (get_or calls place d) moved
-    → AreSums (λ of. both (all_in (take place calls) of) (deposited_in of moved)) owners sums → AreSums (all_in (take (place + 1) calls)) owners sums
-in-more calls place d moved owners sums lt are =
-    sums-agree (λ of. both (all_in (take place calls) of) (deposited_in of moved)) (all_in (take (place + 1) calls)) owners sums
-    (λ of. ap (both (all_in (take place calls) of)) (are.deposited of)
-    ∙ same-pair (total (told_in Coin of) (take place calls) + told_in Coin of (get_or calls place d)) (total (told_in Pc of) (take place calls) + told_in Pc of (get_or calls place d))
-    (total (told_in Coin of) (take (place + 1) calls)) (total (told_in Pc of) (take (place + 1) calls))
-    (sym (total-more (told_in Coin of) calls place d lt)) (sym (total-more (told_in Pc of) calls place d lt)))
+module _ (calls : List Call) (call : Call) (moved : Option Moved) (are : AreMoved call moved) where
+  abbrev later : List Call
+  later = calls ++ call ∷ []
 
-pub out-more : (calls : List Call) (place : ℕ) (d : Call) (moved : Option Moved) (owners : List Address) (sums : List TokenAmounts) → place < length calls → AreMoved (get_or calls place d) moved
-    → AreSums (λ of. both (all_out (take place calls) of) (settled_in of moved)) owners sums → AreSums (all_out (take (place + 1) calls)) owners sums
-out-more calls place d moved owners sums lt are =
-    sums-agree (λ of. both (all_out (take place calls) of) (settled_in of moved)) (all_out (take (place + 1) calls)) owners sums
-    (λ of. ap (both (all_out (take place calls) of)) (are.settled of)
-    ∙ same-pair (total (told_out Coin of) (take place calls) + told_out Coin of (get_or calls place d)) (total (told_out Pc of) (take place calls) + told_out Pc of (get_or calls place d))
-    (total (told_out Coin of) (take (place + 1) calls)) (total (told_out Pc of) (take (place + 1) calls))
-    (sym (total-more (told_out Coin of) calls place d lt)) (sym (total-more (told_out Pc of) calls place d lt)))
+  in-more : (of : Address) → capped_amounts (both (all_in calls of) (deposited_in of moved)) ≡ capped_amounts (all_in later of)
+  in-more of =
+      ap (λ (more : TokenAmounts). capped_amounts (both (all_in calls of) more)) (are.deposited of)
+      ∙ ap capped_amounts (same-pair (total (told_in Coin of) calls + told_in Coin of call) (total (told_in Pc of) calls + told_in Pc of call)
+      (total (told_in Coin of) later) (total (told_in Pc of) later)
+      (omega (arith, total-append (told_in Coin of) calls (call ∷ []))) (omega (arith, total-append (told_in Pc of) calls (call ∷ []))))
+
+  out-more : (of : Address) → capped_amounts (both (all_out calls of) (settled_in of moved)) ≡ capped_amounts (all_out later of)
+  out-more of =
+      ap (λ (more : TokenAmounts). capped_amounts (both (all_out calls of) more)) (are.settled of)
+      ∙ ap capped_amounts (same-pair (total (told_out Coin of) calls + told_out Coin of call) (total (told_out Pc of) calls + told_out Pc of call)
+      (total (told_out Coin of) later) (total (told_out Pc of) later)
+      (omega (arith, total-append (told_out Coin of) calls (call ∷ []))) (omega (arith, total-append (told_out Pc of) calls (call ∷ []))))
+
+pub moved-none : (calls : List Call) (call : Call) (owners : List Address) → AreMoved call None → map (moved_told calls) owners ≡ map (moved_told (calls ++ call ∷ [])) owners
+moved-none calls call owners are = λ i. map (λ (of : Address). record {
+  owner = of;
+  deposited = (sym (both-none (all_in calls of)) ∙ in-more calls call None are of) i;
+  settled = (sym (both-none (all_out calls of)) ∙ out-more calls call None are of) i;
+}) owners
+
+pub moved-more : (calls : List Call) (call : Call) (more : Moved) (owners : List Address) → AreMoved call (Some more)
+    → map (with_moved more) (map (moved_told calls) owners) ≡ map (moved_told (calls ++ call ∷ [])) owners
+moved-more calls call more owners are =
+    map-map (with_moved more) (moved_told calls) owners
+    ∙ λ i. map (λ (of : Address). record {
+      owner = of;
+      deposited = (with-own more.owner of (all_in calls of) more.deposited more.deposited refl ∙ in-more calls call (Some more) are of) i;
+      settled = (with-own more.owner of (all_out calls of) more.settled more.settled refl ∙ out-more calls call (Some more) are of) i;
+    }) owners

@@ -8,7 +8,6 @@ pub mod Moving
 pub mod Calling
 pub mod Holding
 pub mod Outcomes
-pub mod Showing
 pub mod Markets
 pub mod Flows
 mod Examples

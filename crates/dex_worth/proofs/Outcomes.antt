@@ -1,14 +1,15 @@
 -- Outcomes: each market's journal tells what a market leaves that pays each fill at once.
-use Rattle.std.proofs.Common.{ℕ, zero, suc, ◌≡◌, ◌<◌, List, [], ◌∷◌, ◌++◌, length, map, get_or, take, drop, min, Option, Some, refl, sym, ap, ◌∙◌, subst, arith}
+use Rattle.std.proofs.Common.{ℕ, zero, suc, ◌≡◌, ◌<◌, List, [], ◌∷◌, ◌++◌, length, map, get_or, take, drop, Option, Some, refl, sym, ap, ◌∙◌, subst, arith}
 use Rattle.std.specs.List.{All}
 use Rattle.std.specs.Option.{unwrap_or}
-use Rattle.std.proofs.lemmas.List.{append-nil, append_assoc}
+use Rattle.std.proofs.lemmas.List.{append-nil, append_assoc, length-map}
 use Rattle.std.proofs.lemmas.List.Elements.{All-head, All-tail}
 use Rattle.dex_types.specs.declared.addresses.Address.{Address}
 use Rattle.dex_types.specs.Accounts.{PlainMarketAccounts}
 use Rattle.dex_types.specs.Market.{Market}
 use Rattle.dex_types.specs.Trader.{Trader, Traders}
 use Rattle.dex_accounts.specs.Decoded.{AreSound, market_in}
+use Rattle.dex_cell.specs.CellState.{AreOfOneMarket}
 use Rattle.dex_history.specs.Journal.{Call, market_after}
 use Rattle.dex_eager.specs.Eager.{Eager, eager_at}
 use Rattle.dex_eager.specs.Histories.{Deal, counted, deals, eager_end, eager_start, moves_of}
@@ -18,9 +19,13 @@ use Rattle.dex_replay.specs.Lawful.{AllThree, IsLawful}
 use Rattle.dex_state.specs.Outcomes.{PlainMarketJournal, PlainOutcome}
 use Rattle.dex_script_types.specs.PlainScript.{PlainScript}
 use Rattle.dex_script_types.specs.Facts.{IsScript}
+use Rattle.dex_replay.proofs.MappedLists.{zip-map}
 use Rattle.dex_replay.specs.EntryCalls.{TellsHistory, calls_told}
+use Rattle.dex_replay.specs.Replays.{IsOfStart}
 use Rattle.dex_replay.specs.WorthTold.{PlainWorthRow, calls_of, row_told, rows_told, table_told, tables_told, worth_told, worths_told}
-use Rattle.dex_worth.specs.Tables.{AreToldHere, IsTold, PaysAtOnce, deals_told, worth_in_row}
+use Rattle.dex_worth.specs.declared.ledger.Ledger.{Ledger}
+use Rattle.dex_worth.specs.Ledgers.{AreBlank, AreLedgersOf, AreTaken, owners_in}
+use Rattle.dex_worth.specs.Tables.{IsTold, PaysAtOnce, deals_told, worth_in_row}
 use Rattle.dex_worth.proofs.Flows.{add-up}
 use Rattle.dex_worth.proofs.Tables.{worths-told}
 
@@ -46,14 +51,15 @@ three-weaker R S gives (x ∷ xs) [] zs three = absurd three
 three-weaker R S gives (x ∷ xs) (y ∷ ys) [] three = absurd three
 three-weaker R S gives (x ∷ xs) (y ∷ ys) (z ∷ zs) three = (gives x y z three.0, three-weaker R S gives xs ys zs three.1)
 
-three-at : (script : PlainScript) (firsts lasts : List PlainMarketAccounts) (journals : List PlainMarketJournal) → AllThree (IsTold script) firsts lasts journals → AreToldHere script lasts journals
-three-at script [] [] [] three k last journal lt within = absurd (omega arith)
-three-at script [] [] (y ∷ journals) three k last journal lt within = absurd three
-three-at script [] (x ∷ lasts) journals three k last journal lt within = absurd three
-three-at script (first ∷ firsts) [] journals three k last journal lt within = absurd three
-three-at script (first ∷ firsts) (x ∷ lasts) [] three k last journal lt within = absurd three
-three-at script (first ∷ firsts) (x ∷ lasts) (y ∷ journals) three zero last journal lt within = (first, three.0)
-three-at script (first ∷ firsts) (x ∷ lasts) (y ∷ journals) three (suc k) last journal lt within = three-at script firsts lasts journals three.1 k last journal (omega arith) (omega arith)
+-- what holds of the elements at a place
+pub three-at : {A B C : Type 0} (R : A → B → C → Type 0) (xs : List A) (ys : List B) (zs : List C) → AllThree R xs ys zs → (k : ℕ) (x : A) (y : B) (z : C) → k < length ys
+    → R (get_or xs k x) (get_or ys k y) (get_or zs k z)
+three-at R [] [] zs three k x y z lt = absurd (omega arith)
+three-at R [] (b ∷ ys) zs three k x y z lt = absurd three
+three-at R (a ∷ xs) [] zs three k x y z lt = absurd three
+three-at R (a ∷ xs) (b ∷ ys) [] three k x y z lt = absurd three
+three-at R (a ∷ xs) (b ∷ ys) (c ∷ zs) three zero x y z lt = three.0
+three-at R (a ∷ xs) (b ∷ ys) (c ∷ zs) three (suc k) x y z lt = three-at R xs ys zs three.1 k x y z (omega arith)
 
 -- ---- a market
 
@@ -113,10 +119,42 @@ pub all-pay : (script : PlainScript) → IsScript script → (outcome : PlainOut
 all-pay script is outcome lawful tells =
     three-weaker (IsTold script) (PaysAtOnce script) (pays script) script.start.markets outcome.accounts.markets outcome.markets (all-told-here script is outcome lawful tells)
 
-pub all-here : (script : PlainScript) → IsScript script → (outcome : PlainOutcome) → IsLawful script outcome
-    → AllThree (TellsHistory script) script.start.markets outcome.accounts.markets outcome.markets → AreToldHere script outcome.accounts.markets outcome.markets
-all-here script is outcome lawful tells =
-    three-at script script.start.markets outcome.accounts.markets outcome.markets (all-told-here script is outcome lawful tells)
+-- each journal is that of a market
+pub same-markets : (script : PlainScript) (outcome : PlainOutcome) → IsOfStart script outcome
+    → map (λ (market : PlainMarketAccounts). market.address) outcome.accounts.markets ≡ map (λ (journal : PlainMarketJournal). journal.address) outcome.markets
+same-markets script outcome start =
+    zip-map AreOfOneMarket (λ (market : PlainMarketAccounts). market.address) (λ (market : PlainMarketAccounts). market.address) (λ first last one. one.address)
+    script.start.markets outcome.accounts.markets start.markets
+    ∙ sym start.market_journals
+
+pub journals-long : (script : PlainScript) (outcome : PlainOutcome) → IsOfStart script outcome → length outcome.accounts.markets ≡ length outcome.markets
+journals-long script outcome start =
+    sym (length-map outcome.accounts.markets (λ (market : PlainMarketAccounts). market.address))
+    ∙ ap (λ (all : List Address). length all) (same-markets script outcome start)
+    ∙ length-map outcome.markets (λ (journal : PlainMarketJournal). journal.address)
+
+-- ledgers that took the journals of an outcome hold what these tell
+pub all-taken : (script : PlainScript) → IsScript script → (outcome : PlainOutcome) → IsLawful script outcome
+    → AllThree (TellsHistory script) script.start.markets outcome.accounts.markets outcome.markets → (before after : List Ledger)
+    → AreBlank before outcome.accounts.markets → AreTaken script before outcome.markets after → AreLedgersOf script after outcome
+all-taken script is outcome lawful tells before after blank taken = record {
+  long = taken.long ∙ blank.long;
+  are = λ k ledger last journal lt.
+      let lasts : List PlainMarketAccounts = outcome.accounts.markets in
+      let within : k < length before = omega (arith, lt, taken.long) in
+      let here : k < length lasts = omega (arith, within, blank.long) in
+      let first : PlainMarketAccounts = get_or script.start.markets k last in
+      let told : IsTold script first (get_or lasts k last) (get_or outcome.markets k journal) =
+      three-at (IsTold script) script.start.markets lasts outcome.markets (all-told-here script is outcome lawful tells) k last last journal here in
+      let calls : List Call = told.tells.calls in
+      let are = calls-told script first (get_or lasts k last) (get_or outcome.markets k journal) told in
+      record {
+        calls = calls;
+        told = are;
+        tells = taken.taken k ledger journal within (omega (arith, here, journals-long script outcome lawful.start)) (owners_in (get_or lasts k last)) [] calls are
+            (blank.blank k ledger last within);
+      };
+}
 
 -- ---- two outcomes with equal trades
 
@@ -182,13 +220,3 @@ tables-more script (x ∷ lasts) (y ∷ journals) zero last journal lt within = 
 tables-more script (x ∷ lasts) (y ∷ journals) (suc k) last journal lt within =
     ap (λ (rows : List PlainWorthRow). rows_told script x y ++ rows) (tables-more script lasts journals k last journal (omega arith) (omega arith))
     ∙ sym (append_assoc (rows_told script x y) (tables_told script (take k lasts) (take k journals)) (rows_told script (get_or lasts k last) (get_or journals k journal)))
-
-pub tables-all : (script : PlainScript) (lasts : List PlainMarketAccounts) (journals : List PlainMarketJournal) (k : ℕ) → k ≡ min (length lasts) (length journals)
-    → tables_told script (take k lasts) (take k journals) ≡ tables_told script lasts journals
-tables-all script [] journals zero is = refl
-tables-all script [] journals (suc k) is = absurd (omega arith)
-tables-all script (x ∷ lasts) [] zero is = refl
-tables-all script (x ∷ lasts) [] (suc k) is = absurd (omega arith)
-tables-all script (x ∷ lasts) (y ∷ journals) zero is = absurd (omega arith)
-tables-all script (x ∷ lasts) (y ∷ journals) (suc k) is =
-    ap (λ (rows : List PlainWorthRow). rows_told script x y ++ rows) (tables-all script lasts journals k (omega arith))

@@ -1,6 +1,5 @@
 -- Amounts of both tokens, and sums of them for each of some owners.
-use Rattle.std.specs.Prelude.{ℕ, ◌+◌, ◌≡◌, ◌≤◌, List, ◌∷◌, if◌then◌else◌, map}
-use Rattle.std.specs.List.{All}
+use Rattle.std.specs.Prelude.{ℕ, ◌+◌, ◌≡◌, List, ◌∷◌, if◌then◌else◌, map}
 use Rattle.dex_types.specs.declared.addresses.Address.{Address}
 use Rattle.dex_types.specs.declared.terms.Side.{Side}
 use Rattle.dex_types.specs.Addresses.{is_same}
@@ -40,12 +39,3 @@ added owner more _ sums = sums
 -- the sums are these amounts of the owners, one for each
 abbrev pub AreSums : (Address → TokenAmounts) → List Address → List TokenAmounts → Type 0
 AreSums amounts owners sums = sums ≡ map (λ (owner : Address). capped_amounts (amounts owner)) owners
-
--- amounts up to a bound
-pub record IsWithin (bound : ℕ) (amounts : TokenAmounts) : Type 0 where
-  pub coin : amounts.coin ≤ bound
-  pub pc : amounts.pc ≤ bound
-
--- each sum is up to the bound
-abbrev pub AreWithin : ℕ → List TokenAmounts → Type 0
-AreWithin bound sums = All (IsWithin bound) sums

@@ -10,7 +10,7 @@ use Rattle.dex_eager.specs.Worth.{is_first}
 use Rattle.dex_eager.specs.Worth as worth
 use Rattle.dex_worth.specs.declared.amounts.TokenAmounts.{TokenAmounts}
 use Rattle.dex_worth.specs.declared.entries.Moved.{Moved}
-use Rattle.dex_worth.specs.Amounts.{IsWithin, none, own}
+use Rattle.dex_worth.specs.Amounts.{capped_amounts, none, own, with_own}
 use Rattle.dex_replay.specs.Told.{entering, told_in, told_out}
 
 -- what enters the vaults where a new order of this side took so much from its wallet
@@ -56,7 +56,13 @@ pub record AreMoved (call : Call) (moved : Option Moved) : Type 0 where
   pub deposited : (owner : Address) → deposited_in owner moved ≡ one_in call owner
   pub settled : (owner : Address) → settled_in owner moved ≡ one_out call owner
 
--- what was moved is within a bound
-abbrev pub IsSmall : ℕ → Option Moved → Type 0
-IsSmall bound None = Unit {0}
-IsSmall bound (Some moved) = IsWithin bound moved.deposited × IsWithin bound moved.settled
+-- with more, where that was moved for the same account
+abbrev pub with_moved : Moved → Moved → Moved
+with_moved more account = record account {
+  deposited = with_own more.owner more.deposited account.owner account.deposited;
+  settled = with_own more.owner more.settled account.owner account.settled;
+}
+
+-- all that these calls moved for an account; sums stop at 2^128 - 1
+abbrev pub moved_told : List Call → Address → Moved
+moved_told calls owner = record { owner = owner; deposited = capped_amounts (all_in calls owner); settled = capped_amounts (all_out calls owner) }

@@ -1,5 +1,5 @@
 -- What a journal tells of worth, beside a market that pays each fill at once.
-use Rattle.std.specs.Prelude.{ℕ, ◌≡◌, ◌<◌, List, Some, get_or, length, map}
+use Rattle.std.specs.Prelude.{◌≡◌, List, Some, map}
 use Rattle.dex_types.specs.declared.addresses.Address.{Address}
 use Rattle.dex_types.specs.Accounts.{PlainMarketAccounts}
 use Rattle.dex_types.specs.Side.{Token}
@@ -8,9 +8,10 @@ use Rattle.dex_types.specs.Trader.{Trader}
 use Rattle.dex_accounts.specs.Decoded.{market_in}
 use Rattle.dex_accounts.specs.StandsFor.{StandsFor}
 use Rattle.dex_history.specs.Journal.{Call, market_after}
-use Rattle.dex_state.specs.Outcomes.{PlainMarketJournal}
+use Rattle.dex_state.specs.Outcomes.{PlainMarketJournal, PlainOutcome}
 use Rattle.dex_script_types.specs.PlainScript.{PlainScript}
 use Rattle.dex_replay.specs.EntryCalls.{TellsHistory, calls_told}
+use Rattle.dex_replay.specs.Lawful.{AllThree}
 use Rattle.dex_replay.specs.WorthTold.{PlainWorthRow, calls_of, rows_told}
 use Rattle.dex_eager.specs.Histories.{Deal, counted, deals, eager_end, eager_fills, eager_start, fills_of, moves_of}
 use Rattle.dex_eager.specs.Slots.{without_slots}
@@ -27,15 +28,6 @@ pub record IsTold (script : PlainScript) (first last : PlainMarketAccounts) (jou
   pub tells : TellsHistory script first last journal
   pub sound : IsSound (market_in first)
   pub address : first.address ≡ journal.address
-
--- from some first accounts
-abbrev pub IsToldHere : PlainScript → PlainMarketAccounts → PlainMarketJournal → Type 0
-IsToldHere script last journal = (first : PlainMarketAccounts) × IsTold script first last journal
-
--- so does each journal
-abbrev pub AreToldHere : PlainScript → List PlainMarketAccounts → List PlainMarketJournal → Type 0
-AreToldHere script lasts journals = (k : ℕ) (last : PlainMarketAccounts) (journal : PlainMarketJournal)
-    → k < length lasts → k < length journals → IsToldHere script (get_or lasts k last) (get_or journals k journal)
 
 -- an account and its worth
 abbrev pub worth_in_row : PlainWorthRow → Address × Worth
@@ -58,3 +50,7 @@ pub record PaysAtOnce (script : PlainScript) (first last : PlainMarketAccounts) 
   pub fills : fills_of (market_in first) calls ≡ eager_fills (eager_start (market_in first)) (counted calls)
   pub takings : takings_of (market_after (market_in first) calls) (moves_of (market_in first) calls) ≡ (eager_end (market_in first) calls).takings
   pub kept : (token : Token) → AddUp token (market_in first) calls
+
+-- so did each market of an outcome
+abbrev pub ArePaidAtOnce : PlainScript → PlainOutcome → Type 0
+ArePaidAtOnce script outcome = AllThree (PaysAtOnce script) script.start.markets outcome.accounts.markets outcome.markets

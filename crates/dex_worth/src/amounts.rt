@@ -1,11 +1,9 @@
 //! Amounts of both tokens, summed for each account of a market.
 
-ghost use Rattle.std.specs.Prelude.{◌≡◌, length, map, IfOk};
-ghost use Rattle.dex_types.specs.declared.addresses.Address.{Address as AddressOf};
+ghost use Rattle.std.specs.Prelude.{◌≡◌, length};
 ghost use Rattle.dex_worth.specs.Amounts as tally;
 
-use dex_types::{Address, NoMemory, Side, is_same};
-use std::alloc::Global;
+use dex_types::{Address, Side, is_same};
 
 /// An amount of base (coin) and one of quote (pc), in native units. Sums stop at 2^128 - 1.
 #[derive(Clone, Copy, Debug, PartialEq, Eq)]
@@ -72,15 +70,4 @@ pub fn add(sums: &mut Vec<TokenAmounts>, owners: &[Address], owner: Address, mor
     ensures added { sums.new.items ≡ tally.added owner more owners.now sums.old.items }
 {
     add_each(sums, owners, owner, more);
-}
-
-/// A sum of nothing for each of these owners.
-pub fn zeros(alloc: Global, owners: &[Address]) -> Result<Vec<TokenAmounts>, NoMemory>
-    ensures { IfOk result (λ all. all.items ≡ map (λ (owner : AddressOf). tally.none) owners.now) }
-{
-    let mut all = Vec::new(alloc);
-    for place in 0..owners.len() {
-        all.push(NONE)?;
-    }
-    Ok(all)
 }

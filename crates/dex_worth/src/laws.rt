@@ -7,12 +7,12 @@ ghost use Rattle.dex_types.specs.Accounts.{PlainMarketAccounts};
 ghost use Rattle.dex_accounts.specs.Decoded.{market_in};
 ghost use Rattle.dex_replay.specs.EntryCalls.{TellsHistory};
 ghost use Rattle.dex_eager.specs.Histories.{deals, eager_end};
-ghost use Rattle.dex_replay.specs.Lawful.{AllThree, IsLawful};
+ghost use Rattle.dex_replay.specs.Lawful.{IsLawful};
 ghost use Rattle.dex_state.specs.Outcomes.{PlainMarketJournal, PlainOutcome};
 ghost use Rattle.dex_script_types.specs.Facts.{IsScript};
 ghost use Rattle.dex_script_types.specs.PlainScript.{PlainScript};
 ghost use Rattle.dex_replay.specs.WorthTold.{rows_told, table_told, worths_told};
-ghost use Rattle.dex_worth.specs.Tables.{PaysAtOnce, deals_told, worth_in_row};
+ghost use Rattle.dex_worth.specs.Tables.{ArePaidAtOnce, PaysAtOnce, deals_told, worth_in_row};
 ghost use Rattle.dex_types.specs.Side.{Token};
 ghost use Rattle.dex_types.specs.Soundness.{IsSound};
 ghost use Rattle.dex_types.specs.Totals.{total};
@@ -50,7 +50,7 @@ pub fn what_a_journal_tells_is_paid_at_once()
 /// Each market of a lawful outcome left what a market leaves that pays each fill at once.
 pub fn a_table_tells_what_a_market_pays_at_once()
     ensures { (script : PlainScript) → IsScript script → (outcome : PlainOutcome) → IsLawful script outcome
-        → AllThree (PaysAtOnce script) script.start.markets outcome.accounts.markets outcome.markets }
+        → ArePaidAtOnce script outcome }
 {
     an_entry_tells_its_call();
 }
