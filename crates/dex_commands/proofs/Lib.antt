@@ -3,3 +3,5 @@ pub mod LaneAnswerLaws
 pub mod Listed
 mod OneOutcome
 pub mod Pieces
+pub mod PartCalls
+pub mod PartWorths

@@ -65,4 +65,8 @@ with_moved more account = record account {
 
 -- all that these calls moved for an account; sums stop at 2^128 - 1
 abbrev pub moved_told : List Call → Address → Moved
-moved_told calls owner = record { owner = owner; deposited = capped_amounts (all_in calls owner); settled = capped_amounts (all_out calls owner) }
+moved_told calls owner = record {
+  owner = owner;
+  deposited = capped_amounts (all_in calls owner);
+  settled = capped_amounts (all_out calls owner);
+}

@@ -31,13 +31,15 @@ IsTaken script before journal after =
     → Tells before owners calls → Tells after owners (calls ++ more)
 
 -- so each, where there is a journal for it
-pub record AreTaken (script : PlainScript) (before : List Ledger) (journals : List PlainMarketJournal) (after : List Ledger) : Type 0 where
+pub record AreTaken (script : PlainScript) (before : List Ledger) (journals : List PlainMarketJournal)
+    (after : List Ledger) : Type 0 where
   pub long : length after ≡ length before
   pub taken : (k : ℕ) (ledger : Ledger) (journal : PlainMarketJournal) → k < length before → k < length journals
       → IsTaken script (get_or before k ledger) (get_or journals k journal) (get_or after k ledger)
 
 -- the ledger of a market's accounts holds what the script's journal of the market tells
-pub record IsLedgerOf (script : PlainScript) (ledger : Ledger) (market : PlainMarketAccounts) (journal : PlainMarketJournal) : Type 0 where
+pub record IsLedgerOf (script : PlainScript) (ledger : Ledger) (market : PlainMarketAccounts)
+    (journal : PlainMarketJournal) : Type 0 where
   pub calls : List Call
   pub told : calls_told script journal.address journal.entries ≡ Some calls
   pub tells : Tells ledger (owners_in market) calls
@@ -45,5 +47,6 @@ pub record IsLedgerOf (script : PlainScript) (ledger : Ledger) (market : PlainMa
 -- so does each of an outcome's
 pub record AreLedgersOf (script : PlainScript) (ledgers : List Ledger) (outcome : PlainOutcome) : Type 0 where
   pub long : length ledgers ≡ length outcome.accounts.markets
-  pub are : (k : ℕ) (ledger : Ledger) (market : PlainMarketAccounts) (journal : PlainMarketJournal) → k < length ledgers
-      → IsLedgerOf script (get_or ledgers k ledger) (get_or outcome.accounts.markets k market) (get_or outcome.markets k journal)
+  pub are : (k : ℕ) (ledger : Ledger) (market : PlainMarketAccounts) (journal : PlainMarketJournal)
+      → k < length ledgers → IsLedgerOf script (get_or ledgers k ledger) (get_or outcome.accounts.markets k market)
+      (get_or outcome.markets k journal)

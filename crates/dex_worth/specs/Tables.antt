@@ -53,4 +53,5 @@ pub record PaysAtOnce (script : PlainScript) (first last : PlainMarketAccounts) 
 
 -- so did each market of an outcome
 abbrev pub ArePaidAtOnce : PlainScript → PlainOutcome → Type 0
-ArePaidAtOnce script outcome = AllThree (PaysAtOnce script) script.start.markets outcome.accounts.markets outcome.markets
+ArePaidAtOnce script outcome =
+    AllThree (PaysAtOnce script) script.start.markets outcome.accounts.markets outcome.markets

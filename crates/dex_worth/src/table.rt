@@ -49,8 +49,8 @@ pub struct WorthRow {
     pub worth: Worth,
 }
 
-/// An amount as a signed number. From 2^127 on it wants memory: an entry moves at most 2^66, and no memory holds as many
-/// entries as would move more.
+/// An amount as a signed number. From 2^127 on it wants memory: an entry moves at most 2^66, and no memory holds as
+/// many entries.
 fn signed(amount: u128) -> Result<i128, NoMemory>
     ensures { IfOk result (λ number. (number ≡ pos amount) × (amount < 2 ^ 127)) }
 {
@@ -148,7 +148,8 @@ fn add_market(
 }
 
 /// What each account of each market is worth at the end of a lawful outcome, by ledgers that hold what its journals
-/// tell and by its last accounts: markets and accounts in declared order. It answers otherwise for lack of memory alone.
+/// tell and by its last accounts: markets and accounts in declared order. It answers otherwise for lack of memory
+/// alone.
 pub fn table_of(
     alloc: Global,
     ledgers: &[Ledger],
