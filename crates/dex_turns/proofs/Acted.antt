@@ -1,5 +1,5 @@
 -- A row that acts on its market and on the cells in hand, or is held back there, and what is recorded of it.
-use Rattle.std.proofs.Common.{◌≡◌, ℕ, ◌&&◌, ◌||◌, not, Bool, true, false, List, [], ◌∷◌, is_some, Result, Ok, Err, refl, sym, ap, ◌∙◌, subst, ⊎_elim}
+use Rattle.std.proofs.Common.{◌≡◌, ℕ, ◌&&◌, not, Bool, true, false, List, [], ◌∷◌, arith, is_some, Result, Ok, Err, refl, sym, ap, ◌∙◌, subst, ⊎_elim}
 use Rattle.dex_world.proofs.Common.{AllZip, cases_Bool, decoded, false≢true, row_of, All-cons, All-nil, Call, Market, PlainRow, Seen, Sees, Step, asked_of, idle-step, is_done, is_held, is_refusal, is_refused, is_take, request_of, row_step, row_wallets, seen_by, step-refused, why}
 use Rattle.dex_turns.proofs.Common.{AreAllOrNone, AreInHand, BankMarketState, CellState, HasCall, HasEntry, IsAsOthers, IsSight, MarketCellState, PlainScript, Stamped, call_made, terms_of, world_with}
 use Rattle.dex_types.specs.declared.instructions.BadData.{BadData}
@@ -113,20 +113,4 @@ take-or-refused script row leg market cells isnt =
 pub all-or-none : (one two : Stamped Call) (waits next refused other : Bool) → is_held one.item ≡ waits → is_held two.item ≡ next → is_refused one.item ≡ refused
     → is_refused two.item ≡ other → waits ≡ (other && not refused) → next ≡ (refused && not other) → AreAllOrNone (record { first = one; others = two ∷ [] })
 all-or-none one two waits next refused other one_held two_held one_refused two_refused first second =
-    All-cons (IsAsOthers (one ∷ two ∷ [])) one (two ∷ [])
-    (one_held ∙ first ∙ one-is refused other ∙ sym (ap (λ (a : Bool). (a || (is_refused two.item || false)) && not a) one_refused ∙ ap (λ (b : Bool). (refused || (b || false)) && not refused) two_refused))
-    (All-cons (IsAsOthers (one ∷ two ∷ [])) two []
-    (two_held ∙ second ∙ two-is refused other ∙ sym (ap (λ (a : Bool). (a || (is_refused two.item || false)) && not (is_refused two.item)) one_refused ∙ ap (λ (b : Bool). (refused || (b || false)) && not b) two_refused))
-    (All-nil (IsAsOthers (one ∷ two ∷ []))))
-  where
-    one-is : (a b : Bool) → (b && not a) ≡ ((a || (b || false)) && not a)
-    one-is true true = refl
-    one-is true false = refl
-    one-is false true = refl
-    one-is false false = refl
-
-    two-is : (a b : Bool) → (a && not b) ≡ ((a || (b || false)) && not b)
-    two-is true true = refl
-    two-is true false = refl
-    two-is false true = refl
-    two-is false false = refl
+    All-cons (IsAsOthers (one ∷ two ∷ [])) one (two ∷ []) (grind arith) (All-cons (IsAsOthers (one ∷ two ∷ [])) two [] (grind arith) (All-nil (IsAsOthers (one ∷ two ∷ []))))

@@ -2,7 +2,6 @@
 pub use Rattle.dex_accounts.specs.Decoded.{market_in}
 pub use Rattle.dex_act.specs.Wallets.{made_of, wallet_state_of}
 pub use Rattle.dex_cell.specs.CellState.{MarketCellState}
-pub use Rattle.dex_state.specs.Accepted.{AreAccepted}
 pub use Rattle.dex_world.proofs.MappedLists.{All-unmap, any-here, any-there, filter-of, filter-swap, list_any-map}
 pub use Rattle.dex_world.specs.Lists.{AllThree}
 pub use Rattle.dex_world.specs.RowsOf.{rows_of_market, rows_of_wallet}
@@ -16,7 +15,6 @@ pub use Rattle.dex_journals.proofs.StampedLists.{items_of-stamped}
 pub use Rattle.dex_journals.specs.Journals.{BankMarketState, BankWalletState, IsBankWallet, MarketOrigin, TrailState, WalletOrigin, entries_by, left_by, market_calls, wallet_entries}
 pub use Rattle.dex_journals.specs.Lanes.{AreAllOrNone, IsAsOthers, IsLane, MovesEach, number_in}
 pub use Rattle.dex_journals.specs.StampedCalls.{calls_on, entries_in, entries_on, entry_made}
-pub use Rattle.dex_script_types.proofs.Apart.{market-once, wallet-once}
 pub use Rattle.dex_script_types.specs.PlainScript.{PlainScript}
 pub use Rattle.dex_script_types.specs.Facts.{IsRowOf, IsScript}
 pub use Rattle.dex_script_types.specs.Places.{IsPlace, market_addresses, wallet_addresses}

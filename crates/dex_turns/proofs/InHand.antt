@@ -1,6 +1,6 @@
 -- The cells in hand, when they are those of all wallets that a row names: what it sees, and what it leaves.
 use Rattle.std.proofs.Common.{◌≡◌, ℕ, true, List, [], ◌∷◌, ◌++◌, length, map, Option, Some, None, refl, sym, ap, ◌∙◌, subst, arith}
-use Rattle.dex_world.proofs.Common.{Address, All-cons, All-head, All-nil, All-tail, All-weaker, AllZip, Call, Movement, PlainAccount, PlainRow, Reply, Seen, Sees, Transfers, WalletSeen, WalletState, asked_of, cond-true, cond_both, entry_by, filter, is_same, is_same-refl, list_any, movement_of, names, or_left, or_right, places-movements, role_at, row_wallets, seen_by, wallet_acted, wallet_at, wallet_entry_by, wallet_moved}
+use Rattle.dex_world.proofs.Common.{Address, All-head, All-tail, All-weaker, AllZip, Call, Movement, PlainAccount, PlainRow, Reply, Seen, Sees, Transfers, WalletSeen, WalletState, asked_of, cond-true, cond_both, entry_by, filter, is_same, list_any, movement_of, names, places-movements, role_at, row_wallets, seen_by, wallet_acted, wallet_at, wallet_entry_by, wallet_moved}
 use Rattle.dex_turns.proofs.Common.{All-unmap, AreInHand, CellState, HasEntry, IsReady, IsSight, IsWalletCell, IsWalletSeen, MovesEach, PlainScript, Stamped, WalletWords, any-here, any-there, balance_of, entries_in, entry_made, made_of, wallet_state_of, wallet_words, wallet_words-with_amount, world_with}
 use Rattle.std.specs.List.{All, Any}
 use Rattle.std.proofs.lemmas.List.{append-nil}
@@ -11,6 +11,7 @@ use Rattle.dex_act.specs.Steps.{HasWallets}
 use Rattle.dex_act.specs.Wallets.{AreApart, ArePlacesAmong}
 use Rattle.dex_act.proofs.CellLists.{is_among-any}
 use Rattle.dex_world.proofs.KeptMoves.{moves-kept}
+use Rattle.dex_world.proofs.OnceLaws.{each-any}
 use Rattle.dex_turns.specs.Submitted.{written_by}
 use Rattle.dex_turns.specs.Turns.{AreRising}
 use Rattle.dex_turns.proofs.Rising.{AreOnce, rising-once}
@@ -23,14 +24,6 @@ address_in cell = cell.address
 apart-cells : (cells : List CellState) → AreOnce (map address_in cells) → AreApart cells
 apart-cells [] once = tt
 apart-cells (cell ∷ cells) once = (is_among-any cell.address cells ∙ once.0, apart-cells cells once.1)
-
--- each of some addresses is one of them
-pub each-any : (addresses : List Address) → All (λ (address : Address). list_any (is_same address) addresses ≡ true) addresses
-each-any [] = All-nil _
-each-any (first ∷ others) =
-    All-cons (λ (address : Address). list_any (is_same address) (first ∷ others) ≡ true) first others (or_left (is_same first first) (list_any (is_same first) others) (is_same-refl first))
-    (All-weaker (λ (address : Address). list_any (is_same address) others ≡ true) (λ (address : Address). list_any (is_same address) (first ∷ others) ≡ true)
-    (λ address among. or_right (is_same address first) (list_any (is_same address) others) among) others (each-any others))
 
 -- the cells are of wallets of the script, each with room for an entry, and no two of one
 pub record HasHands (script : PlainScript) (cells : List CellState) : Type 0 where
@@ -157,10 +150,9 @@ module _ (row : PlainRow) (seen : Seen) (reply : Reply) (t : Transfers) (stamp :
       → states_of after ≡ map (wallet_acted row seen t) (states_of before) → All IsWalletCell after → map made_of after ≡ map made_of before
       → AllZip (HasEntry (written_by call_by)) before after
   have-entries [] [] named acted kept made = tt
-  have-entries [] (cell ∷ after) named acted kept made = absurd (omega (arith, ap length made))
-  have-entries (cell ∷ before) [] named acted kept made = absurd (omega (arith, ap length made))
   have-entries (first ∷ before) (cell ∷ after) named acted kept made =
       let Named : CellState → Type 0 = λ c. names row c.address ≡ true in (
         has-entry first cell (All-head Named first before named) (let one = acted in cc) (All-head IsWalletCell cell after kept) (let one = made in cc),
         have-entries before after (All-tail Named first before named) (let rest = acted in cc) (All-tail IsWalletCell cell after kept) (let rest = made in cc),
       )
+  have-entries _ _ named acted kept made = absurd (omega (arith, ap length made))

@@ -123,10 +123,8 @@ module _ (first second : PlainRow) (share : ShareNothing first second) (one_wait
       → map wallet_state_of after ≡ map (wallet_acted second two_seen two_step.transfers) (map wallet_state_of mid) → map made_of after ≡ map made_of mid
       → All IsWalletCell after → AllZip (HasEntry (written_by_two one two)) before after
   leg-entries [] [] [] either first_is first_made second_is second_made kept = tt
-  leg-entries [] [] (a ∷ after) either first_is first_made second_is second_made kept = absurd (omega (arith, ap length second_made))
   leg-entries [] (m ∷ mid) after either first_is first_made second_is second_made kept = absurd (omega (arith, ap length first_made))
   leg-entries (b ∷ before) [] after either first_is first_made second_is second_made kept = absurd (omega (arith, ap length first_made))
-  leg-entries (b ∷ before) (m ∷ mid) [] either first_is first_made second_is second_made kept = absurd (omega (arith, ap length second_made))
   leg-entries (b ∷ before) (m ∷ mid) (a ∷ after) either first_is first_made second_is second_made kept =
       let Either : CellState → Type 0 = λ c. (names first c.address || names second c.address) ≡ true in (
         leg-entry b m a (All-head Either b before either) (let it = first_is in cc) (let it = first_made in cc) (let it = second_is in cc) (let it = second_made in cc)
@@ -134,6 +132,7 @@ module _ (first second : PlainRow) (share : ShareNothing first second) (one_wait
         leg-entries before mid after (All-tail Either b before either) (let it = first_is in cc) (let it = first_made in cc) (let it = second_is in cc) (let it = second_made in cc)
             (All-tail IsWalletCell a after kept),
       )
+  leg-entries _ _ _ either first_is first_made second_is second_made kept = absurd (omega (arith, ap length second_made))
 
   -- each cell in hand has the entry of the leg that names it
   pub legs-entries : (before mid after : List CellState) → All (λ (cell : CellState). (names first cell.address || names second cell.address) ≡ true) before

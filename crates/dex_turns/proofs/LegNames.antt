@@ -1,14 +1,14 @@
 -- The wallets of two legs are those that the two name, each once.
-use Rattle.std.proofs.Common.{◌≡◌, Bool, true, false, ◌||◌, List, [], None, Option, refl, sym, ap, ◌∙◌, subst}
+use Rattle.std.proofs.Common.{◌≡◌, Bool, true, false, ◌||◌, List, [], None, Option, sym, ap, ◌∙◌, subst, arith}
 use Rattle.dex_world.proofs.Common.{Address, All-weaker, PlainRow, is_same, list_any, names}
 use Rattle.dex_turns.proofs.Common.{All-unmap, CellState, PlainScript}
 use Rattle.std.specs.List.{All}
-use Rattle.dex_types.specs.Wallets.{with_role}
 use Rattle.dex_world.specs.Fold.{is_role}
-use Rattle.dex_world.proofs.NameLaws.{any-with_role, names-roles}
+use Rattle.dex_world.proofs.OnceLaws.{each-any}
+use Rattle.dex_world.proofs.NameLaws.{names-roles, roles-any}
 use Rattle.dex_script_types.specs.Facts.{AreLegs}
 use Rattle.dex_turns.specs.Turns.{AreInHand, leg_wallets}
-use Rattle.dex_turns.proofs.InHand.{each-any, hands-are}
+use Rattle.dex_turns.proofs.InHand.{hands-are}
 
 -- a leg names what its coin and its pc name
 pub leg-names : (row : PlainRow) → row.discount ≡ None → row.referrer ≡ None → (address : Address)
@@ -22,18 +22,13 @@ leg-names row discount referrer address =
 pub leg-named : (first second : PlainRow) → first.discount ≡ None → first.referrer ≡ None → second.discount ≡ None → second.referrer ≡ None
     → (address : Address) → list_any (is_same address) (leg_wallets first second) ≡ (names first address || names second address)
 leg-named first second first_discount first_referrer second_discount second_referrer address =
-    any-with_role address first.coin (with_role first.pc (with_role second.coin (with_role second.pc [])))
-    ∙ ap (λ (b : Bool). is_role first.coin address || b) (any-with_role address first.pc (with_role second.coin (with_role second.pc []))
-    ∙ ap (λ (b : Bool). is_role first.pc address || b) (any-with_role address second.coin (with_role second.pc [])
-    ∙ ap (λ (b : Bool). is_role second.coin address || b) (any-with_role address second.pc [])))
+    roles-any first.coin first.pc second.coin second.pc address
     ∙ four (is_role first.coin address) (is_role first.pc address) (is_role second.coin address) (is_role second.pc address)
     ∙ ap (λ (b : Bool). b || (is_role second.coin address || (is_role second.pc address || false))) (sym (leg-names first first_discount first_referrer address))
     ∙ ap (λ (b : Bool). names first address || b) (sym (leg-names second second_discount second_referrer address))
   where
     four : (a b c d : Bool) → (a || (b || (c || (d || false)))) ≡ ((a || (b || false)) || (c || (d || false)))
-    four true b c d = refl
-    four false true c d = refl
-    four false false c d = refl
+    four a b c d = grind arith
 
 module _ (first second : PlainRow) (legs : AreLegs first second) where
   pub named-is : (address : Address) → list_any (is_same address) (leg_wallets first second) ≡ (names first address || names second address)

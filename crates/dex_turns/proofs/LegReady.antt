@@ -1,10 +1,10 @@
 -- A seat whose next item is the two legs of a swap: its passes for their wallets may draw.
 use Rattle.std.proofs.Common.{◌≡◌, ℕ, ◌<◌, ◌||◌, Bool, true, false, length, sym, ap, ◌∙◌, subst, ⊎_elim}
-use Rattle.dex_world.proofs.Common.{Address, AllZip, PlainRow, cases_Bool, is_same, list_any, names}
-use Rattle.dex_turns.proofs.Common.{AreNext, AreReady, BankState, IsBank, IsSeat, IsSeatOf, IsWalletPass, PlainScript, SeatState, entries_on, rows_of_wallet}
+use Rattle.dex_world.proofs.Common.{Address, PlainRow, cases_Bool, is_same, list_any, names}
+use Rattle.dex_turns.proofs.Common.{AreNext, AreReady, BankState, IsBank, IsSeat, IsSeatOf, SeatState, entries_on, rows_of_wallet}
 use Rattle.dex_turns.specs.Turns.{leg_wallets}
 use Rattle.dex_turns.proofs.LegNames.{named-is}
-use Rattle.dex_turns.proofs.SeatAfter.{draws, entries-free, first-ahead, lane-is, second-ahead}
+use Rattle.dex_turns.proofs.SeatAfter.{entries-free, first-ahead, lane-is, ready-of, second-ahead}
 
 module _ (bank : BankState) (first second : PlainRow) (before : SeatState) (next : AreNext first second before) (bank_kept : IsBank bank) (of : IsSeatOf bank before)
     (kept : IsSeat before) where
@@ -21,10 +21,5 @@ module _ (bank : BankState) (first second : PlainRow) (before : SeatState) (next
       (cases_Bool (names first address))
 
   pub legs-ready : AreReady bank first.lane (leg_wallets first second) before.wallets
-  legs-ready = record {
-    gates = of.wallets;
-    each =
-        draws bank.script before.lane first.lane before.calls (leg_wallets first second) bank.script.start.wallets before.wallets
-        (lane-is bank first before (first-ahead first second before next) bank_kept of) legs-free
-        (subst (λ (s : PlainScript). AllZip (IsWalletPass before.lane before.calls) s.start.wallets before.wallets) of.script kept.wallets);
-  }
+  legs-ready =
+      ready-of bank before of kept first.lane (leg_wallets first second) (lane-is bank first before (first-ahead first second before next) bank_kept of) legs-free

@@ -1,7 +1,7 @@
 -- A seat before and after the two legs of a swap.
-use Rattle.std.proofs.Common.{◌≡◌, ℕ, ◌<◌, ◌≤◌, ◌||◌, Bool, true, false, cond, List, [], ◌∷◌, ◌++◌, length, set, get_or, Some, refl, sym, ap, ◌∙◌, subst, arith, ⊎_elim}
-use Rattle.dex_world.proofs.Common.{Address, All-append, All-cons, All-nil, All-weaker, AllZip, Asked, Call, IsLegal, IsWalletLegal, PlainAccount, PlainMarketAccounts, PlainRow, Reply, ShareNothing, WalletEntry, asked_of, cases_Bool, false≢true, filter-append, is_same, is_same-refl, is_same-sym, is_same-true, list_any, names}
-use Rattle.dex_turns.proofs.Common.{AllThree, AreNext, BankState, GateView, HasCalled, HaveGrown, HaveSubmitted, IsMarketPass, IsPass, IsSeat, IsSeatOf, IsSight, IsWalletPass, MovesEach, PassView, PlainScript, SeatState, Stamped, Where, balance_of, calls_on, entries_in, entries_on, market_in}
+use Rattle.std.proofs.Common.{◌≡◌, ℕ, ◌<◌, ◌≤◌, ◌||◌, Bool, true, false, cond, List, [], ◌∷◌, ◌++◌, length, map, set, get_or, refl, sym, ap, ◌∙◌, subst, arith, ⊎_elim}
+use Rattle.dex_world.proofs.Common.{Address, All-append, All-cons, All-nil, All-weaker, Asked, Call, IsLegal, IsWalletLegal, PlainAccount, PlainMarketAccounts, PlainRow, Reply, ShareNothing, WalletEntry, asked_of, cases_Bool, false≢true, filter-append, is_same, is_same-refl, is_same-sym, is_same-true, list_any, names}
+use Rattle.dex_turns.proofs.Common.{AllThree, AreNext, BankState, HasCalled, HaveGrown, HaveSubmitted, IsMarketPass, IsSeat, IsSeatOf, IsSight, IsWalletPass, MovesEach, PassView, PlainScript, SeatState, Stamped, Where, balance_of, calls_on, entries_in, entries_on, market_in}
 use Rattle.std.specs.List.{All}
 use Rattle.std.proofs.lemmas.List.{append-nil, append_assoc, set-get_or}
 use Rattle.dex_stamps.specs.Stamped.{items_of}
@@ -10,53 +10,14 @@ use Rattle.dex_journals.proofs.LaneGrowth.{lane-more}
 use Rattle.dex_turns.specs.Submitted.{HasMade, LegMarketGrows, LegWalletGrows, MarketGrows, WhereEither, written_by_two}
 use Rattle.dex_turns.specs.Turns.{HaveLegsTold, leg_wallets}
 use Rattle.dex_turns.specs.Seats.{MarketPass, WalletPass}
-use Rattle.dex_turns.proofs.Growing.{Differ, set-three}
+use Rattle.dex_turns.proofs.Growing.{pass-more, pass-same, set-three, three-after, three-gates, where-off, where-on}
+use Rattle.dex_world.proofs.MappedLists.{three-weaker}
+use Rattle.dex_script_types.proofs.Apart.{AreDistinct}
 use Rattle.dex_turns.proofs.LegNames.{named-is}
 use Rattle.dex_turns.proofs.RowMore.{legs-more}
 use Rattle.dex_turns.proofs.SeatAfter.{IsAfter, as-seen, entries-more, markets-grow, none-in}
 
--- ---- lists of three
-
-module _ {A P : Type 0} where
-  pub three-weaker : (R S : A → P → P → Type 0) → ((x : A) (p q : P) → R x p q → S x p q) → (xs : List A) (ps qs : List P) → AllThree R xs ps qs → AllThree S xs ps qs
-  three-weaker R S weaker [] [] [] all = tt
-  three-weaker R S weaker [] [] (q ∷ qs) all = absurd all
-  three-weaker R S weaker [] (p ∷ ps) qs all = absurd all
-  three-weaker R S weaker (x ∷ xs) [] qs all = absurd all
-  three-weaker R S weaker (x ∷ xs) (p ∷ ps) [] all = absurd all
-  three-weaker R S weaker (x ∷ xs) (p ∷ ps) (q ∷ qs) all = (weaker x p q all.0, three-weaker R S weaker xs ps qs all.1)
-
-  -- what holds of each before and of how it grew holds of each after
-  pub three-after : (R : A → P → P → Type 0) (Old New : A → P → Type 0) → ((x : A) (p q : P) → Old x p → R x p q → New x q) → (xs : List A) (ps qs : List P)
-      → AllZip Old xs ps → AllThree R xs ps qs → AllZip New xs qs
-  three-after R Old New step [] [] [] old all = tt
-  three-after R Old New step [] [] (q ∷ qs) old all = absurd all
-  three-after R Old New step [] (p ∷ ps) qs old all = absurd all
-  three-after R Old New step (x ∷ xs) [] qs old all = absurd all
-  three-after R Old New step (x ∷ xs) (p ∷ ps) [] old all = absurd all
-  three-after R Old New step (x ∷ xs) (p ∷ ps) (q ∷ qs) old all = (step x p q old.0 all.0, three-after R Old New step xs ps qs old.1 all.1)
-
-module _ {A E O : Type 0} where
-  -- each pass is of its gate
-  pub three-gates : (R : A → PassView E O → PassView E O → Type 0) → ((x : A) (p q : PassView E O) → R x p q → q.gate ≡ p.gate) → (xs : List A) (gates : List (GateView E O))
-      (ps qs : List (PassView E O)) → AllThree R xs ps qs → AllZip (λ (gate : GateView E O) (pass : PassView E O). pass.gate ≡ Some gate) gates ps
-      → AllZip (λ (gate : GateView E O) (pass : PassView E O). pass.gate ≡ Some gate) gates qs
-  three-gates R same [] [] [] [] all of = tt
-  three-gates R same [] gates [] (q ∷ qs) all of = absurd all
-  three-gates R same [] gates (p ∷ ps) qs all of = absurd all
-  three-gates R same [] (g ∷ gates) [] [] all of = absurd of
-  three-gates R same (x ∷ xs) gates [] qs all of = absurd all
-  three-gates R same (x ∷ xs) gates (p ∷ ps) [] all of = absurd all
-  three-gates R same (x ∷ xs) [] (p ∷ ps) (q ∷ qs) all of = absurd of
-  three-gates R same (x ∷ xs) (g ∷ gates) (p ∷ ps) (q ∷ qs) all of = (same x p q all.0 ∙ of.0, three-gates R same xs gates ps qs all.1 of.1)
-
-where-on : (b : Bool) (Here Elsewhere : Type 0) → b ≡ true → Where b Here Elsewhere → Here
-where-on true Here Elsewhere on is = is
-where-on false Here Elsewhere on is = absurd (false≢true on)
-
-where-off : (b : Bool) (Here Elsewhere : Type 0) → b ≡ false → Where b Here Elsewhere → Elsewhere
-where-off true Here Elsewhere off is = absurd (false≢true (sym off))
-where-off false Here Elsewhere off is = is
+-- ---- the passes of one or of the other
 
 either-of : {b c : Bool} {One Other Elsewhere Result : Type 0} → WhereEither b c One Other Elsewhere → (b ≡ true → One → Result) → (b ≡ false → c ≡ true → Other → Result)
     → (b ≡ false → c ≡ false → Elsewhere → Result) → Result
@@ -65,19 +26,6 @@ either-of {b} {c} is by_one by_other by_none =
     (λ (off : b ≡ false).
     ⊎_elim (λ (on : c ≡ true). by_other off on (is.second on)) (λ (none : c ≡ false). by_none off none (is.neither off none)) (cases_Bool c))
     (cases_Bool b)
-
--- a pass that made more
-pass-more : {E O : Type 0} (lane : ℕ) (old new more : List E) (Legal : List E → Type 0) (p q : PassView E O) → IsPass lane old p → HasMade new Legal p q → more ≡ old ++ new
-    → IsPass lane more q
-pass-more {E} {O} lane old new more Legal p q is has longer = record {
-  number = ap (λ (x : PassView E O). x.number) has.pass ∙ is.number;
-  none_left = subst (λ (x : PassView E O). x.until ≤ x.next) (sym has.pass) is.none_left;
-  idle = ap (λ (x : PassView E O). x.stage) has.pass ∙ is.idle;
-  mine = ap (λ (x : PassView E O). x.mine) has.pass ∙ ap (λ (l : List E). l ++ new) is.mine ∙ sym longer;
-}
-
-pass-same : {E O : Type 0} (lane : ℕ) (old more : List E) (p q : PassView E O) → IsPass lane old p → q ≡ p → more ≡ old → IsPass lane more q
-pass-same {E} {O} lane old more p q is same longer = subst (IsPass lane more) (sym same) (subst (λ (l : List E). IsPass lane l p) (sym longer) is)
 
 -- ---- the legs
 
@@ -105,13 +53,13 @@ module _ (first second : PlainRow) (legs : AreLegs first second) (one two : Stam
 
   -- the passes of both markets have grown
   pub legs-grow : (starts : List PlainMarketAccounts) (passes : List MarketPass) (place next : ℕ) (before before_next left left_next : MarketPass)
-      → Differ (λ (accounts : PlainMarketAccounts). accounts.address) starts → place < length starts → next < length starts → length passes ≡ length starts
+      → AreDistinct (map (λ (accounts : PlainMarketAccounts). accounts.address) starts) → place < length starts → next < length starts → length passes ≡ length starts
       → ((d : PlainMarketAccounts) → (get_or starts place d).address ≡ first.market) → ((d : PlainMarketAccounts) → (get_or starts next d).address ≡ second.market)
       → before ≡ get_or passes place before → before_next ≡ get_or passes next before_next
       → ((d : PlainMarketAccounts) (e : MarketPass) → HasCalled one (get_or starts place d) (get_or passes place e) left)
       → ((d : PlainMarketAccounts) (e : MarketPass) → HasCalled two (get_or starts next d) (get_or passes next e) left_next)
       → AllThree (LegMarketGrows first second one two) starts passes (set (set passes place left) next left_next)
-  legs-grow starts passes place next before before_next left left_next differ within within_next long here here_next before_is next_is called called_next =
+  legs-grow starts passes place next before before_next left left_next distinct within within_next long here here_next before_is next_is called called_next =
       set-three (λ (accounts : PlainMarketAccounts). accounts.address) (MarketGrows first one) (LegMarketGrows first second one two) second.market
       (λ x apart p q grows.
       let off : is_same second.market x.address ≡ false = is_same-sym second.market x.address ∙ apart in
@@ -120,10 +68,10 @@ module _ (first second : PlainRow) (legs : AreLegs first second) (one two : Stam
         second = λ on. absurd (false≢true (sym off ∙ on));
         neither = λ none also. where-off (is_same first.market x.address) (HasCalled one x p q) (q ≡ p) none grows;
       })
-      starts passes (set passes place left) next before_next left_next differ within_next here_next
+      starts passes (set passes place left) next before_next left_next distinct within_next here_next
       (subst (λ (l : List MarketPass). AllThree (MarketGrows first one) starts l (set passes place left))
       (sym (ap (set passes next) next_is ∙ set-get_or passes next before_next))
-      (markets-grow first one asked.0 starts passes place before left differ within long here before_is called))
+      (markets-grow first one asked.0 starts passes place before left distinct within long here before_is called))
       (λ d e.
       let on_second : is_same second.market (get_or starts next d).address ≡ true = ap (is_same second.market) (here_next d) ∙ is_same-refl second.market in
       record {

@@ -8,7 +8,7 @@ use Rattle.dex_script_types.specs.Facts.{AreLegs}
 use Rattle.dex_turns.specs.Bank.{MarketGate}
 use Rattle.dex_turns.specs.Submitted.{LegMarketGrows, MarketGrows}
 use Rattle.dex_turns.specs.Turns.{AreOutAt, HasSeenAt, IsAwayFor, IsHomeAt, IsMarketOut, IsOutAt, MarketAway, MayCall, MayCallBoth, MayEnterAt, MayLeaveAt, left_with}
-use Rattle.dex_turns.proofs.Distinct.{markets-differ}
+use Rattle.dex_script_types.proofs.Apart.{markets-distinct}
 use Rattle.dex_turns.proofs.Entering.{adds, called, may-call, still-from}
 use Rattle.dex_turns.specs.Seats.{MarketPass}
 use Rattle.dex_turns.proofs.LegSeat.{legs-grow}
@@ -99,7 +99,7 @@ module _ (bank : BankState) (row : PlainRow) (place : ℕ) (passes taken : List 
         ∙ set-again passes place out.out left_one in
         subst (AllThree (MarketGrows row call) bank.script.start.markets passes) (sym is)
         (markets-grow row call asked bank.script.start.markets passes place (get_or passes place out.out) left_one
-        (markets-differ bank.script.start kept.script.start.accepted) may.within.0 many may.here
+        (markets-distinct bank.script.start kept.script.start.accepted) may.within.0 many may.here
         (same-get passes place out.out (get_or passes place out.out) may.within.2)
         (λ d e.
         subst (λ (s : PlainMarketAccounts). HasCalled call s (get_or passes place e) left_one) (start-at bank row place passes gate may gate_is d)
@@ -205,7 +205,7 @@ module _ (bank : BankState) (first second : PlainRow) (legs : AreLegs first seco
           markets-grown kept many =
               subst (AllThree (LegMarketGrows first second one two) bank.script.start.markets passes) (sym end-so)
               (legs-grow first second legs one two asked bank.script.start.markets passes place next (get_or passes place out.out) (get_or passes next out.out) left left_next
-              (markets-differ bank.script.start kept.script.start.accepted) one_may.within.0 two_may.within.0 many one_may.here two_may.here
+              (markets-distinct bank.script.start kept.script.start.accepted) one_may.within.0 two_may.within.0 many one_may.here two_may.here
               (same-get passes place out.out (get_or passes place out.out) one_may.within.2) (same-get passes next out.out (get_or passes next out.out) two_may.within.2)
               (λ d e. subst (λ (s : PlainMarketAccounts). HasCalled one s (get_or passes place e) left) (start-at bank first place passes gate one_may gate_is d) (one-called e))
               (λ d e. subst (λ (s : PlainMarketAccounts). HasCalled two s (get_or passes next e) left_next) (start-at bank second next passes gate_next two_may next_is d) (two-called e)))

@@ -5,7 +5,6 @@ mod Rising
 mod Examples
 mod Counts
 mod Growing
-mod Distinct
 mod LeavingTurns
 mod InHand
 mod Acted

@@ -1,7 +1,7 @@
 -- Addresses that rise; so do the wallets that a row names, and those of two legs.
-use Rattle.std.proofs.Common.{◌≡◌, ℕ, true, false, Bool, ◌||◌, ◌&&◌, eqb, List, [], ◌∷◌, ◌++◌, None, Option, Some, refl, sym, ap, ◌∙◌, arith, ⊎_elim}
+use Rattle.std.proofs.Common.{◌≡◌, ℕ, true, false, Bool, ◌||◌, List, [], ◌∷◌, ◌++◌, None, Option, Some, refl, sym, ap, ◌∙◌, arith}
 use Rattle.std.proofs.lemmas.Bool.{le-ltb}
-use Rattle.dex_world.proofs.Common.{Address, All-head, All-tail, PlainRow, cases_Bool, eq-eqb, false≢true, is_same, is_same-true, list_any, row_wallets}
+use Rattle.dex_world.proofs.Common.{Address, All-head, All-tail, PlainRow, eq-eqb, false_from_ne_true, false≢true, is_same, is_same-true, list_any, row_wallets}
 use Rattle.std.specs.List.{All}
 use Rattle.dex_types.specs.Wallets.{is_less, is_lower, with_role}
 use Rattle.dex_history.proofs.AddressOrder.{with_address-rising}
@@ -18,18 +18,12 @@ IsAbove address other = is_lower address other ≡ true
 
 is_less-itself : (bytes : List ℕ) → is_less bytes bytes ≡ false
 is_less-itself [] = refl
-is_less-itself (byte ∷ bytes) =
-    ap (λ (b : Bool). b || (eqb byte byte && is_less bytes bytes)) (le-ltb byte byte (omega arith))
-    ∙ ap (λ (b : Bool). b && is_less bytes bytes) (eq-eqb byte byte refl)
-    ∙ is_less-itself bytes
+is_less-itself (byte ∷ bytes) = rw (le-ltb byte byte (omega arith), eq-eqb byte byte refl) (is_less-itself bytes)
 
-pub is_lower-apart : (address other : Address) → is_lower address other ≡ true → is_same address other ≡ false
+is_lower-apart : (address other : Address) → is_lower address other ≡ true → is_same address other ≡ false
 is_lower-apart address other lower =
-    ⊎_elim
-    (λ (same : is_same address other ≡ true).
-    absurd (false≢true (sym (is_less-itself address.0) ∙ ap (λ (a : Address). is_less address.0 a.0) (is_same-true address other same) ∙ lower)))
-    (λ (apart : is_same address other ≡ false). apart)
-    (cases_Bool (is_same address other))
+    false_from_ne_true (is_same address other) (λ same.
+    false≢true (sym (is_less-itself address.0) ∙ ap (λ (a : Address). is_less address.0 a.0) (is_same-true address other same) ∙ lower))
 
 not-among : (address : Address) (others : List Address) → All (IsAbove address) others → list_any (is_same address) others ≡ false
 not-among address [] above = refl

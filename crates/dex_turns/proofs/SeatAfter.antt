@@ -1,39 +1,42 @@
 -- A seat before and after a row.
-use Rattle.std.proofs.Common.{◌≡◌, ℕ, zero, suc, ◌<◌, ◌≤◌, ◌==◌, Bool, true, false, cond, List, [], ◌∷◌, ◌++◌, length, set, get_or, take, Some, refl, sym, ap, ◌∙◌, subst, arith}
-use Rattle.dex_world.proofs.Common.{Address, All-filter, All-push, All-tail, All-weaker, AllZip, AllZip-long, Asked, Call, IsLegal, IsWalletLegal, PlainAccount, PlainMarketAccounts, PlainRow, Reply, WalletEntry, asked_of, asked_wallets, eqb-true, filter-append, filter_passes, get_or-map, is_same, is_same-refl, is_same-sym, length-map, is_held, list_any, names, row_wallets, rows_of_lane}
+use Rattle.std.proofs.Common.{◌≡◌, ℕ, ◌<◌, ◌≤◌, ◌==◌, Bool, true, false, cond, List, [], ◌∷◌, ◌++◌, length, map, set, get_or, take, Some, refl, sym, ap, ◌∙◌, subst, arith}
+use Rattle.dex_world.proofs.Common.{Address, All-filter, All-head, All-push, All-weaker, AllZip, AllZip-long, Asked, Call, IsLegal, IsWalletLegal, PlainAccount, PlainMarketAccounts, PlainRow, Reply, WalletEntry, asked_of, asked_wallets, eqb-true, filter-append, filter_passes, get_or-map, is_same, is_same-refl, is_same-sym, length-map, is_held, list_any, names, row_wallets, rows_of_lane}
 use Rattle.dex_turns.proofs.Common.{AllThree, AreNext, AreReady, BankState, GateView, HasCalled, HasSubmitted, HaveGrown, IsBank, IsMarketGate, IsMarketPass, IsNext, IsPlace, IsRowOf, IsScript, IsSeat, IsSeatOf, IsSight, IsWalletPass, MarketOrigin, MayDraw, MayEnter, MovesEach, PlainScript, SeatState, Stamped, Where, balance_of, calls_on, entries_in, entries_on, market_addresses, market_in, rows_of_market, rows_of_wallet}
 use Rattle.std.specs.List.{All}
-use Rattle.std.proofs.lemmas.List.{append-nil, append_assoc}
+use Rattle.std.proofs.lemmas.List.{append-nil, append_assoc, set-get_or}
 use Rattle.dex_stamps.specs.Stamped.{items_of}
 use Rattle.dex_turns.specs.Submitted.{MarketGrows, WalletGrows}
 use Rattle.dex_turns.specs.Turns.{IsTold, MayEnterAt}
 use Rattle.dex_turns.proofs.Counts.{IsAhead, calls-left, entries-left, entries-one}
 use Rattle.dex_turns.specs.Seats.{MarketPass, WalletPass}
 use Rattle.dex_journals.proofs.LaneGrowth.{lane-more}
-use Rattle.dex_turns.proofs.Growing.{Differ, gates-grown, passes-grown, set-three}
+use Rattle.dex_turns.proofs.Growing.{gate-where, pass-where, set-three, three-after, three-gates, three-same}
 use Rattle.dex_turns.proofs.RowMore.{row-more}
-use Rattle.dex_world.proofs.MappedLists.{same-get}
-use Rattle.dex_turns.proofs.Taking.{all-midst, zip-at}
+use Rattle.dex_world.proofs.MappedLists.{All-behind, same-get, zip-at, zip-weaker}
+use Rattle.dex_script_types.proofs.Apart.{AreDistinct}
 use Rattle.dex_turns.specs.Submitted.{written_by}
 
 -- ---- before
 
-pub draws : (script : PlainScript) (lane other : ℕ) (calls : List (Stamped Call)) (others : List Address) (starts : List PlainAccount) (passes : List WalletPass) → other ≡ lane
-    → ((address : Address) → list_any (is_same address) others ≡ true → length (entries_on address calls) < length (rows_of_wallet other address script.rows))
-    → AllZip (IsWalletPass lane calls) starts passes → AllZip (MayDraw script other others) starts passes
-draws script lane other calls others [] [] same free all = tt
-draws script lane other calls others [] (p ∷ passes) same free all = absurd all
-draws script lane other calls others (start ∷ starts) [] same free all = absurd all
-draws script lane other calls others (start ∷ starts) (p ∷ passes) same free all = (
-  record {
-    number = all.0.number ∙ sym same;
-    idle = λ among. all.0.idle;
-    left = λ among.
-        subst (λ (made : List (Stamped WalletEntry)). length made < length (rows_of_wallet other start.address script.rows)) (sym all.0.mine) (free start.address among);
-    below = λ holds. absurd (holds all.0.idle);
-  },
-  draws script lane other calls others starts passes same free all.1,
-)
+-- passes for wallets of which each has rows left may draw
+pub ready-of : (bank : BankState) (before : SeatState) → IsSeatOf bank before → IsSeat before → (lane : ℕ) (others : List Address) → lane ≡ before.lane
+    → ((address : Address) → list_any (is_same address) others ≡ true → length (entries_on address before.calls) < length (rows_of_wallet lane address bank.script.rows))
+    → AreReady bank lane others before.wallets
+ready-of bank before of kept lane others same free = record {
+  gates = of.wallets;
+  each =
+      zip-weaker (IsWalletPass before.lane before.calls) (MayDraw bank.script lane others)
+      (λ start p is.
+      record {
+        number = is.number ∙ sym same;
+        idle = λ among. is.idle;
+        left = λ among.
+            subst (λ (made : List (Stamped WalletEntry)). length made < length (rows_of_wallet lane start.address bank.script.rows)) (sym is.mine) (free start.address among);
+        below = λ holds. absurd (holds is.idle);
+      })
+      bank.script.start.wallets before.wallets
+      (subst (λ (s : PlainScript). AllZip (IsWalletPass before.lane before.calls) s.start.wallets before.wallets) of.script kept.wallets);
+}
 
 -- there is a gate for each market
 pub within-gates : (bank : BankState) → IsBank bank → (address : Address) (place : ℕ) → IsPlace address (market_addresses bank.script) place → place < length bank.markets
@@ -48,14 +51,10 @@ within-gates bank kept address place at =
 abbrev IsAtMarket : GateView (Stamped Call) MarketOrigin → MarketPass → Type 0
 IsAtMarket gate pass = pass.gate ≡ Some gate
 
--- what holds of all holds of those after
-all-back : {A : Type 0} (P : A → Type 0) (front rest : List A) → All P (front ++ rest) → All P rest
-all-back P [] rest all = all
-all-back P (x ∷ front) rest all = all-back P front rest (All-tail P x (front ++ rest) all)
-
 all-ahead : (P : PlainRow → Type 0) (rows : List PlainRow) (done : ℕ) (row : PlainRow) → (ahead : IsAhead rows done row) → All P rows → P row
 all-ahead P rows done row ahead all =
-    all-midst P ahead.between row ahead.later (all-back P (take done rows) (ahead.between ++ row ∷ ahead.later) (subst (All P) ahead.is all))
+    All-head P row ahead.later
+    (All-behind P ahead.between (row ∷ ahead.later) (All-behind P (take done rows) (ahead.between ++ row ∷ ahead.later) (subst (All P) ahead.is all)))
 
 -- the next row is ahead of those that are done, and so are two legs
 pub next-ahead : (row : PlainRow) (seat : SeatState) → IsNext row seat → IsAhead (rows_of_lane seat.lane seat.script.rows) (length seat.calls) row
@@ -104,12 +103,7 @@ module _ (bank : BankState) (row : PlainRow) (before : SeatState) (ahead : IsAhe
         (calls-left before.script before.lane row before.calls kept.calls ahead address on))
 
     pub ready : AreReady bank row.lane (row_wallets row) before.wallets
-    ready = record {
-      gates = of.wallets;
-      each =
-          draws bank.script before.lane row.lane before.calls (row_wallets row) bank.script.start.wallets before.wallets lane-is entries-free
-          (subst (λ (s : PlainScript). AllZip (IsWalletPass before.lane before.calls) s.start.wallets before.wallets) of.script kept.wallets);
-    }
+    ready = ready-of bank before of kept row.lane (row_wallets row) lane-is entries-free
 
     module _ (place : ℕ) (at : IsPlace row.market (market_addresses bank.script) place) where
       abbrev market_starts : List PlainMarketAccounts
@@ -170,32 +164,20 @@ module _ (bank : BankState) (row : PlainRow) (before : SeatState) (ahead : IsAhe
 
 -- ---- what grows
 
-same-three : {A P : Type 0} (xs : List A) (ps : List P) (place : ℕ) (out : P) → length ps ≡ length xs → out ≡ get_or ps place out
-    → AllThree (λ (x : A) (p q : P). q ≡ p) xs (set ps place out) ps
-same-three [] [] place out long is = tt
-same-three [] (p ∷ ps) place out long is = absurd (omega (arith, long))
-same-three (x ∷ xs) [] place out long is = absurd (omega (arith, long))
-same-three (x ∷ xs) (p ∷ ps) zero out long is = (sym is, same-all xs ps (omega (arith, long)))
-  where
-    same-all : {A P : Type 0} (ys : List A) (qs : List P) → length qs ≡ length ys → AllThree (λ (y : A) (p q : P). q ≡ p) ys qs qs
-    same-all [] [] same = tt
-    same-all [] (q ∷ qs) same = absurd (omega (arith, same))
-    same-all (y ∷ ys) [] same = absurd (omega (arith, same))
-    same-all (y ∷ ys) (q ∷ qs) same = (refl, same-all ys qs (omega (arith, same)))
-same-three (x ∷ xs) (p ∷ ps) (suc place) out long is = (refl, same-three xs ps place out (omega (arith, long)) is)
-
 module _ (row : PlainRow) (call : Stamped Call) (asked : call.item.asked ≡ asked_of row) where
   -- the pass of the row's market has the call, and the others are as they were
   pub markets-grow : (starts : List PlainMarketAccounts) (passes : List MarketPass) (place : ℕ) (before left : MarketPass)
-      → Differ (λ (accounts : PlainMarketAccounts). accounts.address) starts → place < length starts → length passes ≡ length starts
+      → AreDistinct (map (λ (accounts : PlainMarketAccounts). accounts.address) starts) → place < length starts → length passes ≡ length starts
       → ((d : PlainMarketAccounts) → (get_or starts place d).address ≡ row.market) → before ≡ get_or passes place before
       → ((d : PlainMarketAccounts) (e : MarketPass) → HasCalled call (get_or starts place d) (get_or passes place e) left)
       → AllThree (MarketGrows row call) starts passes (set passes place left)
-  markets-grow starts passes place before left differ within long here before_is called =
+  markets-grow starts passes place before left distinct within long here before_is called =
       set-three (λ (accounts : PlainMarketAccounts). accounts.address) (λ (x : PlainMarketAccounts) (p q : MarketPass). q ≡ p) (MarketGrows row call) row.market
       (λ x apart p q same.
       subst (λ (b : Bool). Where b (HasCalled call x p q) (q ≡ p)) (sym (is_same-sym row.market x.address ∙ apart)) same)
-      starts passes passes place before left differ within here (same-three starts passes place before long before_is)
+      starts passes passes place before left distinct within here
+      (subst (λ (l : List MarketPass). AllThree (λ (x : PlainMarketAccounts) (p q : MarketPass). q ≡ p) starts l passes)
+      (sym (ap (set passes place) before_is ∙ set-get_or passes place before)) (three-same starts passes long))
       (λ d e.
       subst (λ (b : Bool). Where b (HasCalled call (get_or starts place d) (get_or passes place e) left) (left ≡ get_or passes place e))
       (sym (ap (is_same row.market) (here d) ∙ is_same-refl row.market)) (called d e))
@@ -209,10 +191,11 @@ module _ (row : PlainRow) (call : Stamped Call) (asked : call.item.asked ≡ ask
   pub market-passes : (lane : ℕ) (calls : List (Stamped Call)) (starts : List PlainMarketAccounts) (before after : List MarketPass) → AllZip (IsMarketPass lane calls) starts before
       → AllThree (MarketGrows row call) starts before after → AllZip (IsMarketPass lane (calls ++ call ∷ [])) starts after
   market-passes lane calls =
-      passes-grown (λ (start : PlainMarketAccounts). is_same row.market start.address) (λ (start : PlainMarketAccounts). call ∷ [])
-      (λ (start : PlainMarketAccounts) (seen : List (Stamped Call)). IsLegal (market_in start) (items_of seen)) lane (λ (start : PlainMarketAccounts). calls_on start.address calls)
-      (λ (start : PlainMarketAccounts). calls_on start.address (calls ++ call ∷ [])) (λ start on. calls-more start.address calls true on)
-      (λ start off. calls-more start.address calls false off ∙ append-nil (calls_on start.address calls))
+      three-after (MarketGrows row call) (IsMarketPass lane calls) (IsMarketPass lane (calls ++ call ∷ []))
+      (λ start p q.
+      pass-where (is_same row.market start.address) (call ∷ []) (λ (seen : List (Stamped Call)). IsLegal (market_in start) (items_of seen)) p q lane
+      (calls_on start.address calls) (calls_on start.address (calls ++ call ∷ [])) (λ on. calls-more start.address calls true on)
+      (λ off. calls-more start.address calls false off ∙ append-nil (calls_on start.address calls)))
 
   pub entries-more : (address : Address) (calls : List (Stamped Call)) → entries_on address (calls ++ call ∷ []) ≡ entries_on address calls ++ entries_in address call
   entries-more address [] = append-nil (entries_in address call)
@@ -232,13 +215,14 @@ module _ (row : PlainRow) (call : Stamped Call) (asked : call.item.asked ≡ ask
   pub wallet-passes : (lane : ℕ) (calls : List (Stamped Call)) (starts : List PlainAccount) (before after : List WalletPass) → MovesEach call.item
       → AllZip (IsWalletPass lane calls) starts before → AllThree (WalletGrows row call) starts before after → AllZip (IsWalletPass lane (calls ++ call ∷ [])) starts after
   wallet-passes lane calls starts before after moves =
-      passes-grown (λ (start : PlainAccount). names row start.address) (λ (start : PlainAccount). entries_in start.address call)
-      (λ (start : PlainAccount) (seen : List (Stamped WalletEntry)). IsWalletLegal (balance_of start.bytes) (items_of seen)) lane
-      (λ (start : PlainAccount). entries_on start.address calls) (λ (start : PlainAccount). entries_on start.address (calls ++ call ∷ [])) (λ start on. entries-more start.address calls)
-      (λ start off.
+      three-after (WalletGrows row call) (IsWalletPass lane calls) (IsWalletPass lane (calls ++ call ∷ []))
+      (λ start p q.
+      pass-where (names row start.address) (entries_in start.address call) (λ (seen : List (Stamped WalletEntry)). IsWalletLegal (balance_of start.bytes) (items_of seen)) p q lane
+      (entries_on start.address calls) (entries_on start.address (calls ++ call ∷ [])) (λ on. entries-more start.address calls)
+      (λ off.
       entries-more start.address calls
       ∙ ap (λ (l : List (Stamped WalletEntry)). entries_on start.address calls ++ l) (none-in start.address moves off)
-      ∙ append-nil (entries_on start.address calls))
+      ∙ append-nil (entries_on start.address calls)))
       starts before after
 
   pub below-more : (script : PlainScript) (last : ℕ) (calls : List (Stamped Call)) → All (λ (c : Stamped Call). c.stamp ≤ last) calls → last < call.stamp
@@ -295,13 +279,16 @@ module _ (bank : BankState) (row : PlainRow) (before : SeatState) (next : IsNext
   seat-of = record {
     script = of.script;
     markets =
-        gates-grown (λ (start : PlainMarketAccounts). is_same row.market start.address) (λ (start : PlainMarketAccounts). call ∷ [])
-        (λ (start : PlainMarketAccounts) (seen : List (Stamped Call)). IsLegal (market_in start) (items_of seen)) bank.script.start.markets bank.markets before.markets markets
-        markets_grown of.markets;
+        three-gates (MarketGrows row call)
+        (λ start p q.
+        gate-where (is_same row.market start.address) (call ∷ []) (λ (seen : List (Stamped Call)). IsLegal (market_in start) (items_of seen)) p q)
+        bank.script.start.markets bank.markets before.markets markets markets_grown of.markets;
     wallets =
-        gates-grown (λ (start : PlainAccount). names row start.address) (λ (start : PlainAccount). entries_in start.address call)
-        (λ (start : PlainAccount) (seen : List (Stamped WalletEntry)). IsWalletLegal (balance_of start.bytes) (items_of seen)) bank.script.start.wallets bank.wallets
-        before.wallets wallets grown of.wallets;
+        three-gates (WalletGrows row call)
+        (λ start p q.
+        gate-where (names row start.address) (entries_in start.address call)
+        (λ (seen : List (Stamped WalletEntry)). IsWalletLegal (balance_of start.bytes) (items_of seen)) p q)
+        bank.script.start.wallets bank.wallets before.wallets wallets grown of.wallets;
   }
 
   seat-kept : IsSeat seat_after

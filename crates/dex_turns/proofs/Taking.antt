@@ -1,16 +1,17 @@
 -- The turn of an item's next wallet: what is known when it is taken, and when it is left.
-use Rattle.std.proofs.Common.{◌≡◌, ℕ, zero, suc, ◌+◌, ◌-◌, ◌<◌, ◌==◌, true, false, List, [], ◌∷◌, ◌++◌, drop, length, map, set, take, get_or, Some, None, refl, sym, ap, ◌∙◌, subst, arith, ⊎_elim}
-use Rattle.dex_world.proofs.Common.{Address, All-head, All-push, All-tail, AllZip, AllZip-long, PlainAccount, WalletEntry, cases_Bool, cond-false, cond-true, eq-eqb, eqb-true, get_or-map, is_same, is_same-refl, length-map, list_any, or_left}
-use Rattle.dex_world.proofs.MappedLists.{same-get}
+use Rattle.std.proofs.Common.{◌≡◌, ℕ, suc, ◌+◌, ◌-◌, ◌<◌, ◌==◌, true, false, List, [], ◌∷◌, ◌++◌, drop, length, map, set, take, get_or, Some, None, refl, sym, ap, ◌∙◌, subst, arith}
+use Rattle.dex_world.proofs.Common.{Address, All-head, All-push, AllZip-long, PlainAccount, WalletEntry, cond-true, eq-eqb, get_or-map, is_same, is_same-refl, length-map, list_any, or_left}
+use Rattle.dex_world.proofs.MappedLists.{same-get, three-long, zip-at}
 use Rattle.dex_world.specs.Places.{ArePlacesOf}
-use Rattle.dex_turns.proofs.Common.{AllThree, AreInHand, AreReady, BankState, CellState, HasEntry, HasLeft, HaveGrown, Idle, IsBank, IsPlace, IsReady, IsWalletGate, MayDraw, MayLeave, OneGrows, Stamped, TrailState, WalletOrigin, added, entries_by, left_by, of_lane, rows_of_wallet, wallet_addresses, wallet_entries}
-use Rattle.std.specs.List.{All}
-use Rattle.std.proofs.Math.Seq.{take-length}
-use Rattle.std.proofs.lemmas.List.{length-append}
+use Rattle.dex_turns.proofs.Common.{AreInHand, AreReady, BankState, CellState, HasEntry, HasLeft, HaveGrown, Idle, IsBank, IsPlace, IsReady, IsWalletGate, MayDraw, MayLeave, OneGrows, Stamped, TrailState, WalletOrigin, added, entries_by, left_by, of_lane, rows_of_wallet, wallet_addresses, wallet_entries}
+use Rattle.std.proofs.Math.Seq.{drop-cons, take-length}
+use Rattle.std.proofs.lemmas.List.{drop-drop, length-append, take-append-drop}
+use Rattle.std.proofs.lemmas.Bool.Decides.{nat_tests}
 use Rattle.std.proofs.lemmas.Option.{none-some}
 use Rattle.dex_gate.specs.declared.stage.Stage.TheVariants.{Out}
 use Rattle.dex_journals.specs.Journals.{wallet_origin}
 use Rattle.dex_journals.proofs.WalletLaws.{spare-wallet}
+use Rattle.dex_script_types.proofs.Apart.{wallets-distinct}
 use Rattle.dex_script_types.proofs.PlacedLaws.{wallet-placed, wallet-within}
 use Rattle.dex_turns.specs.Bank.{WalletGate}
 use Rattle.dex_turns.specs.Seats.{WalletPass}
@@ -18,49 +19,9 @@ use Rattle.dex_turns.specs.Turns.{AreRising, IsAboveWallets, IsOut, IsWalletOutA
 use Rattle.dex_types.specs.Wallets.{is_lower}
 use Rattle.dex_turns.proofs.Rising.{IsAbove, rising-behind, rising-once}
 use Rattle.dex_turns.proofs.Counts.{length-stamped}
-use Rattle.dex_turns.proofs.Distinct.{wallets-differ}
 use Rattle.dex_turns.proofs.Growing.{IsAtGate, drawn-ready, gates-set, one-grows, still-out}
 use Rattle.dex_turns.proofs.LeavingTurns.{has-moved}
 use Rattle.dex_turns.specs.Submitted.{HasWritten, Written}
-
--- ---- lists
-
-module _ {A B : Type 0} (R : A → B → Type 0) where
-  pub zip-at : (xs : List A) (ys : List B) (place : ℕ) (d : A) (e : B) → AllZip R xs ys → place < length xs → R (get_or xs place d) (get_or ys place e)
-  zip-at [] ys place d e all within = absurd (omega (arith, within))
-  zip-at (x ∷ xs) [] place d e all within = absurd all
-  zip-at (x ∷ xs) (y ∷ ys) zero d e all within = all.0
-  zip-at (x ∷ xs) (y ∷ ys) (suc place) d e all within = zip-at xs ys place d e all.1 (omega (arith, within))
-
-pub three-long : {A B C : Type 0} (R : A → B → C → Type 0) (xs : List A) (ys : List B) (zs : List C) → AllThree R xs ys zs → (length ys ≡ length xs) × (length zs ≡ length xs)
-three-long R [] [] [] all = (refl, refl)
-three-long R [] [] (z ∷ zs) all = absurd all
-three-long R [] (y ∷ ys) [] all = absurd all
-three-long R [] (y ∷ ys) (z ∷ zs) all = absurd all
-three-long R (x ∷ xs) [] [] all = absurd all
-three-long R (x ∷ xs) [] (z ∷ zs) all = absurd all
-three-long R (x ∷ xs) (y ∷ ys) [] all = absurd all
-three-long R (x ∷ xs) (y ∷ ys) (z ∷ zs) all =
-    let rest = three-long R xs ys zs all.1 in
-    (ap suc rest.0, ap suc rest.1)
-
--- what stands at a place, between the others
-pub record Splits {A : Type 0} (xs : List A) (x : A) : Type 0 where
-  pub earlier : List A
-  pub later : List A
-  pub is : xs ≡ earlier ++ x ∷ later
-
-pub splits-at : {A : Type 0} (xs : List A) (place : ℕ) (d : A) → place < length xs → Splits xs (get_or xs place d)
-splits-at [] place d within = absurd (omega (arith, within))
-splits-at (x ∷ xs) zero d within = record { earlier = []; later = xs; is = refl }
-splits-at {A} (x ∷ xs) (suc place) d within =
-    let rest = splits-at xs place d (omega (arith, within)) in
-    record { earlier = x ∷ rest.earlier; later = rest.later; is = ap (λ (l : List A). x ∷ l) rest.is }
-
--- what holds of all holds in the midst
-pub all-midst : {A : Type 0} (P : A → Type 0) (before : List A) (x : A) (behind : List A) → All P (before ++ x ∷ behind) → P x
-all-midst P [] x behind all = All-head P x behind all
-all-midst P (y ∷ before) x behind all = all-midst P before x behind (All-tail P y (before ++ x ∷ behind) all)
 
 -- ---- the wallets still to come
 
@@ -75,27 +36,12 @@ pub rest-long : (places : List ℕ) (place : ℕ) → first_in places ≡ Some p
 rest-long [] place is = absurd (none-some place is)
 rest-long (first ∷ places) place is = omega (arith, ap length (rest-is first places))
 
--- the first of some places, where there is one
+-- the first of some places, where there is one, and where there is none
 some-first : (first place : ℕ) (places : List ℕ) → first_in (first ∷ places) ≡ Some place → first ≡ place
-some-first first place places is =
-    ⊎_elim (λ (none : (first == 65535) ≡ true). absurd (none-some place (sym (cond-true (first == 65535) None (Some first) none) ∙ is)))
-    (λ (some : (first == 65535) ≡ false).
-    let same : Some first ≡ Some place = sym (cond-false (first == 65535) None (Some first) some) ∙ is in
-    (cc))
-    (cases_Bool (first == 65535))
+some-first first place places is = grind arith
 
--- and where there is none
 none-first : (first : ℕ) (places : List ℕ) → first_in (first ∷ places) ≡ None → first ≡ 65535
-none-first first places is =
-    ⊎_elim (λ (none : (first == 65535) ≡ true). eqb-true first 65535 none)
-    (λ (some : (first == 65535) ≡ false). absurd (none-some first (sym is ∙ cond-false (first == 65535) None (Some first) some)))
-    (cases_Bool (first == 65535))
-
-drop-more : {A : Type 0} (n : ℕ) (xs : List A) (x : A) (rest : List A) → drop n xs ≡ x ∷ rest → drop (suc n) xs ≡ rest
-drop-more zero [] x rest is = absurd (omega (arith, ap length is))
-drop-more zero (y ∷ xs) x rest is = (cc)
-drop-more (suc n) [] x rest is = absurd (omega (arith, ap length is))
-drop-more (suc n) (y ∷ xs) x rest is = drop-more n xs x rest is
+none-first first places is = grind (arith, nat_tests)
 
 -- where none is still to come, the cells of all are in hand
 pub none-left : (bank : BankState) (left : List Address) (places : List ℕ) → IsBank bank → ArePlacesOf (place_of bank.script) left places → first_in places ≡ None
@@ -110,13 +56,6 @@ none-left bank (address ∷ left) (place ∷ places) kept at none =
       kept.script.start.accepted.few_wallets,
       kept.script.start.accepted.within.wallets,
     ))
-
--- and the passes are as they were
-pub grown-none : (written : Written) (starts : List PlainAccount) (passes : List WalletPass) → length passes ≡ length starts → AllThree (OneGrows [] written) starts passes passes
-grown-none written [] [] long = tt
-grown-none written [] (p ∷ passes) long = absurd (omega (arith, long))
-grown-none written (start ∷ starts) [] long = absurd (omega (arith, long))
-grown-none written (start ∷ starts) (p ∷ passes) long = (refl, grown-none written starts passes (omega (arith, long)))
 
 abbrev address_in : CellState → Address
 address_in cell = cell.address
@@ -263,15 +202,16 @@ module _ {bank : BankState} {named : List Address} {lane : ℕ} {hands : List Ce
     -- its cell is ready, and in hand with the others
     ready-cell : IsReady bank.script trail.before
     ready-cell =
-        let split = splits-at starts place any_start within in
         let same : record { address = trail.before.address; bytes = trail.before.start } ≡ start = ap (λ (o : WalletOrigin). o.start) origin in
         record {
           kept = is_out.kept.cell;
           spare = spare-wallet (left_by trail) is_out.kept lane few;
           start = record {
-            earlier = split.earlier;
-            later = split.later;
-            is = split.is ∙ ap (λ (x : PlainAccount). split.earlier ++ x ∷ split.later) (sym same);
+            earlier = take place starts;
+            later = drop (suc place) starts;
+            is =
+                sym (take-append-drop place starts)
+                ∙ ap (λ (behind : List PlainAccount). take place starts ++ behind) (drop-cons starts place any_start within ∙ ap (λ (x : PlainAccount). x ∷ drop (suc place) starts) (sym same));
           };
         }
 
@@ -281,9 +221,8 @@ module _ {bank : BankState} {named : List Address} {lane : ℕ} {hands : List Ce
 
       left-is : left_of named more ≡ c.others
       left-is =
-          let long : length more ≡ suc (length hands) = omega (arith, ap length pushed, length-append hands (cell ∷ [])) in
-          ap (λ (n : ℕ). drop n named) long
-          ∙ drop-more (length hands) named c.address c.others c.left
+          let long : length more ≡ length hands + 1 = ap length pushed ∙ length-append hands (cell ∷ []) in
+          ap (λ (n : ℕ). drop n named) long ∙ sym (drop-drop 1 (length hands) named) ∙ ap (drop 1) c.left
 
       pub next-hand : AreInHand bank.script named (left_of named more) more
       next-hand =
@@ -348,7 +287,7 @@ module _ {bank : BankState} {named : List Address} {lane : ℕ} {hands : List Ce
               let moved : HasWritten written start before left =
               has-moved written start trail before now left (Out (wallet_entries (left_by trail))) (idle-at out.out) mid-is has cell-address cell-start in
               subst (λ (l : List Address). HaveGrown bank l written passes (set mid place left)) (sym c.left)
-              (one-grows c.address c.others written starts passes mid place out.out left (wallets-differ bank.script.start c.kept.script.start.accepted) within here grown
+              (one-grows c.address c.others written starts passes mid place out.out left (wallets-distinct bank.script.start c.kept.script.start.accepted) within here grown
               (λ x p.
               subst (λ (q : WalletPass). HasWritten written (get_or starts place x) q left) (same-get passes place out.out p within-passes)
               (subst (λ (s : PlainAccount). HasWritten written s before left) (same-get starts place any_start x within) moved)))

@@ -6,7 +6,8 @@ use Rattle.std.proofs.Math.Nat.{le-max_right}
 use Rattle.dex_world.proofs.MappedLists.{AllZip-last}
 use Rattle.dex_turns.specs.Bank.{WalletGate}
 use Rattle.dex_turns.specs.Turns.{MayLeave, left_of}
-use Rattle.dex_turns.proofs.Taking.{Coming, above, coming, gate-at, grown-none, have-grown, idle-at, may-leave, next-hand, next-places, next-ready, none-left, number-mid, rest-long, within-gates, within-mid, within-passes}
+use Rattle.dex_turns.proofs.Growing.{three-same}
+use Rattle.dex_turns.proofs.Taking.{Coming, above, coming, gate-at, have-grown, idle-at, may-leave, next-hand, next-places, next-ready, none-left, number-mid, rest-long, within-gates, within-mid, within-passes}
 use Rattle.dex_turns.specs.Submitted.{Written}
 use Rattle.dex_turns.proofs.at.At.+with_wallets.Given as given
 use Rattle.dex_turns.proofs.at.At.+with_wallets.Goals.{After-first_of, After-take_from_hand-cell, After-wallet_gate-gate}
@@ -178,6 +179,6 @@ returns-in-None-clause-passes g t c =
     let written : Written = g.A.Acts.written c.args.item.now c.act.result in
     subst (λ (l : List Address). HaveGrown c.args.self.now.bank.now l written c.args.wallets.now.passes.items c.args.wallets.now.passes.items)
     (sym (none g t (goal.at.returns-in-None-clause-passes g t c).After-first_of c.in-None.is))
-    (grown-none written c.args.self.now.bank.now.script.start.wallets c.args.wallets.now.passes.items
+    (three-same c.args.self.now.bank.now.script.start.wallets c.args.wallets.now.passes.items
     (AllZip-long (MayDraw c.args.self.now.bank.now.script (g.A.Acts.lane c.args.item.now) (left_of (g.A.Acts.named c.args.item.now) c.args.wallets.now.hands.items))
     c.args.self.now.bank.now.script.start.wallets c.args.wallets.now.passes.items c.requires.passes.each))
