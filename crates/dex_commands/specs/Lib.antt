@@ -1,4 +1,5 @@
 pub mod Ending
 pub mod LaneAnswers
 pub mod Listed
+pub mod Process
 pub mod Stops
