@@ -5,8 +5,9 @@ use Rattle.dex_words.specs.declared.command.Command.TheVariants.{Replay, Run, Du
 use Rattle.dex_words.specs.declared.command.PlainCommand.{PlainCommand}
 use Rattle.dex_words.specs.declared.command.PlainCommand.TheVariants as plain
 use Rattle.dex_words.specs.Threads.{of_plain}
+use Rattle.dex_types.specs.declared.limits.Limits.{Limits}
 use Rattle.dex_types.specs.declared.limits.TheConstants.{STANDARD}
-use Rattle.dex_answers.specs.Answers.{Answers, IsNoScript}
+use Rattle.dex_answers.specs.Answers.{AnswersWithin, IsNoScript}
 use Rattle.dex_answers.specs.Suits.{Suits}
 use Rattle.dex_answers.specs.declared.status.Status.{Status}
 use Rattle.dex_answers.specs.declared.status.Status.TheVariants as status
@@ -14,15 +15,15 @@ use Rattle.dex_answers.proofs.AnswerLaws.{answered, read-told}
 use Rattle.dex_commands.specs.LaneAnswers.{AnswersAll, AnswersBatch, AnswersRun}
 
 -- a command on one thread answers so as one of all
-pub plain_answers : (command : PlainCommand) (bytes : List ℕ) (stood : Status) (text : List ℕ) → Answers (of_plain command) bytes stood text
-    → AnswersAll (of_plain command) bytes stood text
-plain_answers plain.Replay bytes stood text told = told
-plain_answers plain.Dump bytes stood text told = told
-plain_answers plain.Audit bytes stood text told = told
-plain_answers plain.Worth bytes stood text told = told
-plain_answers (plain.Make number rows) bytes stood text told = told
-plain_answers (plain.Bulk number rows) bytes stood text told = told
-plain_answers (plain.Migrate nodes events) bytes stood text told = told
+pub plain_answers : (limits : Limits) (command : PlainCommand) (bytes : List ℕ) (stood : Status) (text : List ℕ)
+    → AnswersWithin limits (of_plain command) bytes stood text → AnswersAll limits (of_plain command) bytes stood text
+plain_answers limits plain.Replay bytes stood text told = told
+plain_answers limits plain.Dump bytes stood text told = told
+plain_answers limits plain.Audit bytes stood text told = told
+plain_answers limits plain.Worth bytes stood text told = told
+plain_answers limits (plain.Make number rows) bytes stood text told = told
+plain_answers limits (plain.Bulk number rows) bytes stood text told = told
+plain_answers limits (plain.Migrate nodes events) bytes stood text told = told
 
 -- bytes that are no script are not run, on lanes or in a batch
 pub no-run : (bytes : List ℕ) (stood : Status) (text : List ℕ) → IsNoScript STANDARD false bytes stood text → AnswersRun bytes stood text
@@ -34,7 +35,7 @@ no-batch bytes status.Ok text why = absurd why
 no-batch bytes _ text why = why
 
 -- what suits is answered
-pub all-answered : (command : Command) (bytes : List ℕ) (stood : Status) (text : List ℕ) → Suits command bytes → AnswersAll command bytes stood text
+pub all-answered : (command : Command) (bytes : List ℕ) (stood : Status) (text : List ℕ) → Suits command bytes → AnswersAll STANDARD command bytes stood text
     → stood ≡ status.Ok
 all-answered Run bytes status.Ok text suits told = refl
 all-answered Run bytes stood text suits told = absurd (read-told STANDARD false bytes suits.0 stood text suits.1 told)

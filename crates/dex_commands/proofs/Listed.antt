@@ -12,7 +12,7 @@ use Rattle.dex_commands.specs.Ending.{Ends, HasRead, Input, Output}
 use Rattle.dex_commands.specs.Listed.{IsListed, ListedOrder, WhereListed}
 
 -- what was written of what was read, where the source told these bytes
-listed-end : (batch : Bool) (i : Input) (o : Output) (bytes all text : List ℕ) → HasRead i bytes → Reported STANDARD batch bytes text
+listed-end : (batch : Bool) (i : Input) (o : Output) (bytes all text : List ℕ) → HasRead STANDARD i bytes → Reported STANDARD batch bytes text
     → o.taken_after ≡ append_known o.taken text → i.left ≡ Some all → ListedOrder batch all o
 listed-end batch i o bytes all text read a taken told =
     let same : bytes ≡ all = rw told at read.told in

@@ -5,12 +5,13 @@ use Rattle.dex_words.specs.declared.command.Command.TheVariants.{Batch, Run}
 use Rattle.dex_script_types.specs.PlainScript.{PlainScript}
 use Rattle.dex_script_types.specs.Facts.{HasNoSwap}
 use Rattle.dex_script.specs.Scripts.{Reads}
+use Rattle.dex_types.specs.declared.limits.Limits.{Limits}
 use Rattle.dex_types.specs.declared.limits.TheConstants.{STANDARD}
 use Rattle.dex_state.specs.Outcomes.{PlainOutcome}
 use Rattle.dex_report.specs.Report.{report_text}
 use Rattle.dex_report.specs.Telling.{IsToldOutcome}
 use Rattle.dex_replay.specs.Runs.{IsOneOrder, IsOneOrderOfRows, IsRunOf}
-use Rattle.dex_answers.specs.Answers.{Answers, IsNoScript, Reported, rows_told}
+use Rattle.dex_answers.specs.Answers.{AnswersWithin, IsNoScript, Reported, rows_told}
 use Rattle.dex_answers.specs.Paired.{ArePaired}
 use Rattle.dex_answers.specs.declared.status.Status.{Status}
 use Rattle.dex_answers.specs.declared.status.Status.TheVariants as status
@@ -43,8 +44,8 @@ abbrev pub AnswersBatch : List ℕ → Status → List ℕ → Type 0
 AnswersBatch bytes status.Ok text = Reported STANDARD true bytes text
 AnswersBatch bytes stood text = IsNoScript STANDARD true bytes stood text
 
--- what each command answers to bytes, on one thread or on several
-abbrev pub AnswersAll : Command → List ℕ → Status → List ℕ → Type 0
-AnswersAll Run bytes stood text = AnswersRun bytes stood text
-AnswersAll (Batch workers) bytes stood text = AnswersBatch bytes stood text
-AnswersAll command bytes stood text = Answers command bytes stood text
+-- what each command answers to bytes, on one thread within these limits, or on several within the program's
+abbrev pub AnswersAll : Limits → Command → List ℕ → Status → List ℕ → Type 0
+AnswersAll limits Run bytes stood text = AnswersRun bytes stood text
+AnswersAll limits (Batch workers) bytes stood text = AnswersBatch bytes stood text
+AnswersAll limits command bytes stood text = AnswersWithin limits command bytes stood text

@@ -4,27 +4,20 @@ ghost use Rattle.std.specs.Prelude.{IfOk};
 ghost use Rattle.dex_words.specs.Spelling.{IsWithin};
 ghost use Rattle.dex_words.specs.Threads.{of_plain};
 ghost use Rattle.dex_types.specs.Limits.{AreLimits};
-ghost use Rattle.dex_answers.specs.Answers.{Answers, AnswersWithin};
+ghost use Rattle.dex_answers.specs.Answers.{AnswersWithin};
 ghost use Rattle.dex_answers.specs.Told.{text_of};
 
 use crate::worth::worth_answer;
 use dex_answers::{
     StatusText, audit_answer, bulk_answer, dump_answer, make_answer, migrate_answer, replay_answer,
 };
-use dex_types::{Limits, NoMemory, STANDARD};
+use dex_types::{Limits, NoMemory};
 use dex_words::PlainCommand;
 use std::alloc::Global;
 
-/// What a command on one thread, whose numbers are within their limits, answers to the bytes that it read: the text,
-/// and the status under which it is written. `make` and `bulk` read none. It answers otherwise only for lack of memory.
-pub fn answer_to(alloc: Global, command: PlainCommand, bytes: &[u8]) -> Result<StatusText, NoMemory>
-    requires { IsWithin (of_plain command) }
-    ensures { IfOk result (λ told. Answers (of_plain command) bytes.now told.status (text_of told)) }
-{
-    answer_within(alloc, command, bytes, &STANDARD)
-}
-
-/// Like `answer_to`, within these limits. What `make` and `bulk` answer is of the program's.
+/// What a command on one thread, whose numbers are within their limits, answers to the bytes that it read, within these
+/// limits: the text, and the status under which it is written. `make` and `bulk` read none, and their answers are of the
+/// program's limits. It answers otherwise only for lack of memory.
 pub fn answer_within(
     alloc: Global,
     command: PlainCommand,

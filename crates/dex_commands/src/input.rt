@@ -3,26 +3,28 @@
 ghost use Rattle.std.specs.Prelude.{◌≡◌, IfErr, IfOk, IsTrue, Some, false};
 ghost use Rattle.dex_words.specs.declared.command.Command.{Command};
 ghost use Rattle.dex_words.specs.Threads.{of_plain};
-ghost use Rattle.dex_commands.specs.Ending.{HasRead, IsReading, Stands, Took, input};
+ghost use Rattle.dex_commands.specs.Ending.{HasRead, IsReading, StandsWithin, Took, input};
 ghost use Rattle.dex_commands.specs.Stops.{line_of, status_of};
 
 use crate::stop::Stop;
 use dex_io::{Source, read_all};
+use dex_types::Limits;
 use dex_words::PlainCommand;
 use std::alloc::Global;
 
-/// The most bytes that an input may have.
-const INPUT_LIMIT: usize = 67_108_864;
-
-/// All bytes of the input, or why a command that reads has no answer.
-pub fn read_input<S: Source>(alloc: Global, source: &mut S) -> Result<Vec<u8>, Stop>
-    ensures read { IfOk result (λ bytes. HasRead
+/// All bytes of the input, within these limits, or why a command that reads has no answer.
+pub fn read_input<S: Source>(
+    alloc: Global,
+    limits: &Limits,
+    source: &mut S,
+) -> Result<Vec<u8>, Stop>
+    ensures read { IfOk result (λ bytes. HasRead limits.now
         (input (S.left source.old) (S.left source.new) (S.faults source.old) (S.faults source.new)) bytes.items) }
     ensures stopped { IfErr result (λ stop. (command : Command) → IsReading command
-        → Stands (status_of stop) (Some command)
+        → StandsWithin limits.now (status_of stop) (Some command)
         (input (S.left source.old) (S.left source.new) (S.faults source.old) (S.faults source.new)) (line_of stop)) }
 {
-    match read_all(alloc, source, INPUT_LIMIT) {
+    match read_all(alloc, source, limits.bytes) {
         Ok(bytes) => Ok(bytes),
         Err(why) => Err(Stop::from(why)),
     }
@@ -33,17 +35,18 @@ pub fn read_input<S: Source>(alloc: Global, source: &mut S) -> Result<Vec<u8>, S
 pub(crate) fn taken<S: Source>(
     alloc: Global,
     command: PlainCommand,
+    limits: &Limits,
     source: &mut S,
 ) -> Result<Vec<u8>, Stop>
-    ensures read { IfOk result (λ bytes. Took (of_plain command)
+    ensures read { IfOk result (λ bytes. Took limits.now (of_plain command)
         (input (S.left source.old) (S.left source.new) (S.faults source.old) (S.faults source.new)) bytes.items) }
-    ensures stopped { IfErr result (λ stop. Stands (status_of stop) (Some (of_plain command))
+    ensures stopped { IfErr result (λ stop. StandsWithin limits.now (status_of stop) (Some (of_plain command))
         (input (S.left source.old) (S.left source.new) (S.faults source.old) (S.faults source.new)) (line_of stop)) }
 {
     if !is_reading(command) {
         return Ok(Vec::new(alloc));
     }
-    read_input(alloc, source)
+    read_input(alloc, limits, source)
 }
 
 /// Whether the command reads its input.

@@ -13,7 +13,7 @@ ghost use Rattle.dex_commands.specs.LaneAnswers.{AnswersAll, Ran};
 /// of which all fits, is refused.
 pub fn what_suits_a_command_is_answered()
     ensures { (command : Command) (bytes : List ℕ) (stood : Status) (text : List ℕ)
-        → Suits command bytes → AnswersAll command bytes stood text → stood ≡ Done }
+        → Suits command bytes → AnswersAll STANDARD command bytes stood text → stood ≡ Done }
 {}
 
 /// One text is the report of one outcome: two outcomes of which `run`, `replay` or `batch` wrote one text are equal,

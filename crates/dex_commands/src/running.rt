@@ -4,17 +4,19 @@ ghost use Rattle.std.specs.Prelude.{◌≡◌, IfErr, IfOk, Some};
 ghost use Rattle.dex_words.specs.declared.command.PlainCommand.{PlainCommand};
 ghost use Rattle.dex_words.specs.Spelling.{IsWithin};
 ghost use Rattle.dex_words.specs.Threads.{of_plain};
+ghost use Rattle.dex_types.specs.Limits.{AreLimits};
 ghost use Rattle.dex_answers.specs.Told.{text_of};
-ghost use Rattle.dex_commands.specs.Ending.{Completes, Ends, Stands, input, output};
+ghost use Rattle.dex_commands.specs.Ending.{Completes, Ends, EndsWithin, StandsWithin, input, output};
 ghost use Rattle.dex_commands.specs.Listed.{ListedOrder, WhereListed};
 ghost use Rattle.dex_commands.specs.Stops.{line_of, status_of};
 
-use crate::answer::answer_to;
+use crate::answer::answer_within;
 use crate::input::taken;
 use crate::output::{written, written_each};
 use crate::stop::Stop;
 use dex_answers::{Status, StatusText};
 use dex_io::{Sink, Source};
+use dex_types::{Limits, STANDARD};
 use dex_words::{Command, PlainCommand};
 use std::alloc::Global;
 
@@ -40,23 +42,25 @@ pub fn plain<S: Source, K: Sink>(
         (input (S.left source.old) (S.left source.new) (S.faults source.old) (S.faults source.new))
         (output (K.taken sink.old) (K.taken sink.new) (K.faults sink.old) (K.faults sink.new)) result }
 {
-    run_plain(alloc, *command, source, sink)
+    plain_within(alloc, *command, &STANDARD, source, sink)
 }
 
-// Runs one command on one thread.
-fn run_plain<S: Source, K: Sink>(
+/// Like `plain`, of an input within these limits.
+pub fn plain_within<S: Source, K: Sink>(
     alloc: Global,
     command: Command,
+    limits: &Limits,
     source: &mut S,
     sink: &mut K,
 ) -> Status
     requires within { IsWithin command }
     requires plain { (plain : PlainCommand) × (of_plain plain ≡ command) }
-    ensures { Ends (Some command)
+    requires limits { AreLimits limits.now }
+    ensures { EndsWithin limits.now (Some command)
         (input (S.left source.old) (S.left source.new) (S.faults source.old) (S.faults source.new))
         (output (K.taken sink.old) (K.taken sink.new) (K.faults sink.old) (K.faults sink.new)) result }
 {
-    match answer(alloc, command.plain().unwrap(), source) {
+    match answer(alloc, command.plain().unwrap(), limits, source) {
         Ok(told) => written_each(sink, &told.pieces, told.status),
         Err(stop) => written(sink, stop.line(), stop.status()),
     }
@@ -67,15 +71,17 @@ fn run_plain<S: Source, K: Sink>(
 fn answer<S: Source>(
     alloc: Global,
     command: PlainCommand,
+    limits: &Limits,
     source: &mut S,
 ) -> Result<StatusText, Stop>
-    requires { IsWithin (of_plain command) }
-    ensures built { IfOk result (λ built. Stands built.status (Some (of_plain command))
+    requires command { IsWithin (of_plain command) }
+    requires limits { AreLimits limits.now }
+    ensures built { IfOk result (λ built. StandsWithin limits.now built.status (Some (of_plain command))
         (input (S.left source.old) (S.left source.new) (S.faults source.old) (S.faults source.new)) (text_of built)) }
-    ensures stopped { IfErr result (λ stop. Stands (status_of stop) (Some (of_plain command))
+    ensures stopped { IfErr result (λ stop. StandsWithin limits.now (status_of stop) (Some (of_plain command))
         (input (S.left source.old) (S.left source.new) (S.faults source.old) (S.faults source.new)) (line_of stop)) }
 {
-    let bytes = taken(alloc, command, source)?;
-    let built = answer_to(alloc, command, &bytes)?;
+    let bytes = taken(alloc, command, limits, source)?;
+    let built = answer_within(alloc, command, &bytes, limits)?;
     Ok(built)
 }

@@ -1,2 +1,1 @@
-mod EndOfProcess
 pub mod Endings

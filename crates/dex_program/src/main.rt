@@ -27,7 +27,7 @@ fn main(rt: HostRuntime) -> ExitCode {
     ExitCode::from(run_process(
         &rt,
         rt.alloc(),
-        all_words(&rt),
+        &all_words(&rt),
         &mut source,
         &mut sink,
         &NoPace,

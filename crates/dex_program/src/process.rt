@@ -1,11 +1,13 @@
 //! A process of the program: the words that it begins with, and the number that it ends with.
 
-ghost use Rattle.std.specs.Prelude.{◌≡◌, Err, drop};
+ghost use Rattle.dex_types.specs.declared.limits.TheConstants.{STANDARD};
+ghost use Rattle.dex_words.specs.Commands.{command_of};
 ghost use Rattle.dex_commands.specs.Ending.{input, output};
-ghost use Rattle.dex_program.specs.Process.{EndsProcess};
+ghost use Rattle.dex_commands.specs.Process.{EndsProcess, words_given};
 
 use crate::program::dex_main;
 use dex_answers::Status;
+use dex_commands::behind_name;
 use dex_io::{Pace, Sink, Source};
 use dex_words::WordsError;
 use std::alloc::Global;
@@ -19,46 +21,17 @@ use std::thread::Threads;
 pub fn run_process<R: Threads + Wait + Sync, S: Source, K: Sink, P: Pace + Sync>(
     rt: &R,
     alloc: Global,
-    words: Result<Vec<String>, WordsError>,
+    words: &Result<Vec<String>, WordsError>,
     source: &mut S,
     sink: &mut K,
     pace: &P,
 ) -> u8
-    ensures { EndsProcess words
+    ensures { EndsProcess STANDARD command_of (words_given words.now)
         (input (S.left source.old) (S.left source.new) (S.faults source.old) (S.faults source.new))
         (output (K.taken sink.old) (K.taken sink.new) (K.faults sink.old) (K.faults sink.new)) result }
 {
-    match words {
-        Ok(words) => dex_main(rt, alloc, behind_first(&words), source, sink, pace).code(),
-        Err(why) => run_without_words(rt, alloc, why, source, sink, pace),
-    }
-}
-
-/// Like `run_process`, where there are no words: they are no text, or there was no memory for them.
-fn run_without_words<R: Threads + Wait + Sync, S: Source, K: Sink, P: Pace + Sync>(
-    rt: &R,
-    alloc: Global,
-    why: WordsError,
-    source: &mut S,
-    sink: &mut K,
-    pace: &P,
-) -> u8
-    ensures { EndsProcess (Err why)
-        (input (S.left source.old) (S.left source.new) (S.faults source.old) (S.faults source.new))
-        (output (K.taken sink.old) (K.taken sink.new) (K.faults sink.old) (K.faults sink.new)) result }
-{
-    match why {
-        WordsError::Usage => dex_main(rt, alloc, &[], source, sink, pace).code(),
-        WordsError::NoMemory => Status::NoMemory.code(),
-    }
-}
-
-/// All words but the first.
-fn behind_first(words: &[String]) -> &[String]
-    ensures { result.now ≡ drop 1 words.now }
-{
-    match words {
-        [_, rest @ ..] => rest,
-        [] => words,
+    match behind_name(words) {
+        Some(words) => dex_main(rt, alloc, words, source, sink, pace).code(),
+        None => Status::NoMemory.code(),
     }
 }

@@ -15,6 +15,7 @@ use crate::threads::answer_on_threads;
 use dex_answers::{Status, StatusText};
 use dex_commands::{Stop, plain, read_input, written, written_each};
 use dex_io::{Pace, Sink, Source};
+use dex_types::STANDARD;
 use dex_words::{ThreadedCommand, WordsError, read_words};
 use std::alloc::Global;
 use std::marker::Sync;
@@ -114,7 +115,7 @@ fn threads_answer<R: Threads + Wait + Sync, S: Source, P: Pace + Sync>(
     ensures stopped { IfErr result (λ stop. Stands (status_of stop) (Some (of_threaded command))
         (input (S.left source.old) (S.left source.new) (S.faults source.old) (S.faults source.new)) (line_of stop)) }
 {
-    let bytes = read_input(alloc, source)?;
+    let bytes = read_input(alloc, &STANDARD, source)?;
     let built = answer_on_threads(rt, alloc, command, &bytes, pace)?;
     Ok(built)
 }

@@ -1,6 +1,7 @@
 //! The answer of a command on several threads.
 
 ghost use Rattle.std.specs.Prelude.{IfOk};
+ghost use Rattle.dex_types.specs.declared.limits.TheConstants.{STANDARD};
 ghost use Rattle.dex_words.specs.Spelling.{IsWithin};
 ghost use Rattle.dex_words.specs.Threads.{of_threaded};
 ghost use Rattle.dex_answers.specs.Told.{text_of};
@@ -27,7 +28,7 @@ pub fn answer_on_threads<R: Threads + Wait + Sync, P: Pace + Sync>(
     pace: &P,
 ) -> Result<StatusText, NoMemory>
     requires { IsWithin (of_threaded command) }
-    ensures { IfOk result (λ told. AnswersAll (of_threaded command) bytes.now told.status (text_of told)) }
+    ensures { IfOk result (λ told. AnswersAll STANDARD (of_threaded command) bytes.now told.status (text_of told)) }
 {
     match command {
         ThreadedCommand::Run => run_answer(rt, alloc, bytes, pace),
