@@ -1,9 +1,11 @@
 -- the first order of a side that its slot does not hold, order by order
 use Rattle.std.proofs.Common.{◌≡◌, ℕ, ◌+◌, ◌<◌, Bool, true, false, ◌&&◌, not, cond, List, [], ◌∷◌, ◌++◌, length, get_or, take, Option, Some, None, refl, sym, ap, ◌∙◌}
+use Rattle.std.specs.List.{filter}
 use Rattle.std.proofs.lemmas.List.{take_more}
 use Rattle.dex_types.specs.declared.addresses.Address.{Address}
 use Rattle.dex_types.specs.declared.orders.Order.{Order}
 use Rattle.dex_types.specs.declared.terms.Side.{Side}
+use Rattle.dex_types.specs.Owed.{is_order_of}
 use Rattle.dex_types.specs.Soundness.{order_holding}
 use Rattle.dex_types.specs.Trader.{Holding}
 use Rattle.dex_laws.specs.Places.{is_order_at}
@@ -59,3 +61,16 @@ noted_before owner slot held side order first = refl
 pub noted_now : (owner : Address) (slot : ℕ) (held : Option Holding) (side : Side) (order : Order)
     → (is_order_at owner slot order && not (is_held held (order_holding side order))) ≡ true → Some order.id ≡ or_else None (unheld owner slot held side (order ∷ []))
 noted_now owner slot held side order noted = rw noted refl
+
+-- ---- orders of other accounts
+
+-- the first of an account's own orders is that of all
+pub unheld-own : (owner : Address) (slot : ℕ) (held : Option Holding) (side : Side) (orders : List Order)
+    → unheld owner slot held side (filter (is_order_of owner) orders) ≡ unheld owner slot held side orders
+unheld-own owner slot held side [] = refl
+unheld-own owner slot held side (order ∷ others) = by-owner (is_order_of owner order) refl (unheld-own owner slot held side others)
+  where
+    by-owner : (own : Bool) → is_order_of owner order ≡ own → unheld owner slot held side (filter (is_order_of owner) others) ≡ unheld owner slot held side others
+        → unheld owner slot held side (cond own (order ∷ filter (is_order_of owner) others) (filter (is_order_of owner) others)) ≡ unheld owner slot held side (order ∷ others)
+    by-owner true is rest = ap (λ (o : Option ℕ). cond (is_order_at owner slot order && not (is_held held (order_holding side order))) (Some order.id) o) rest
+    by-owner false is rest = rest ∙ sym (rw is refl)

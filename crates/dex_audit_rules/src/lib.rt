@@ -7,6 +7,7 @@ mod gathered;
 mod locks;
 mod market;
 mod misheld;
+mod own;
 mod pending;
 mod resting;
 mod slots;

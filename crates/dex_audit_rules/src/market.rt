@@ -15,6 +15,7 @@ use crate::finding::Finding;
 use crate::gathered::Gathered;
 use crate::locks::{tell_exceeds, tell_too_large};
 use crate::misheld::tell_misheld;
+use crate::own::Own;
 use crate::pending::tell_astray;
 use crate::resting::tell_homeless;
 use crate::slots::{tell_repeated, tell_ungiven, tell_unpaired};
@@ -24,7 +25,7 @@ use dex_fields::get_u64;
 use dex_fields::request_queue::NEXT_SEQ_NUM;
 use dex_market::MarketRef;
 use dex_token::WalletRef;
-use dex_totals::{Token, Weight, all_finals, all_resting};
+use dex_totals::{Owners, Token, Weight, all_finals, all_resting};
 use dex_types::{Lots, MarketAccounts, NoMemory, Side};
 use std::alloc::Global;
 
@@ -67,6 +68,7 @@ fn words_of(market: &MarketAccounts) -> MarketRef<'_>
 }
 
 fn tell_orders(
+    alloc: Global,
     found: &mut Vec<Finding>,
     market: &MarketAccounts,
     book: &Book<'_>,
@@ -76,8 +78,9 @@ fn tell_orders(
         ++ rules.homeless_in (market_in (market_accounts_of market.now))) }
 {
     let words = words_of(market);
-    tell_homeless(found, book.accounts, words.bids(), book.bids)?;
-    tell_homeless(found, book.accounts, words.asks(), book.asks)
+    let owners = Owners::of(alloc, book.accounts)?;
+    tell_homeless(found, &owners, words.bids(), book.bids)?;
+    tell_homeless(found, &owners, words.asks(), book.asks)
 }
 
 fn tell_locks(
@@ -204,7 +207,8 @@ fn tell_events(
         ++ rules.astray_in (market_in (market_accounts_of market.now))) }
 {
     let words = words_of(market);
-    tell_astray(alloc, found, book.accounts, book.events, words.event_q())
+    let owners = Owners::of(alloc, book.accounts)?;
+    tell_astray(alloc, found, &owners, book.events, words.event_q())
 }
 
 fn tell_numbers(
@@ -219,6 +223,24 @@ fn tell_numbers(
 {
     let taken = taken_slots(alloc, book.accounts)?;
     tell_ungiven(found, get_u64(&market.requests, NEXT_SEQ_NUM), &taken)
+}
+
+fn tell_holdings(alloc: Global, found: &mut Vec<Finding>, book: &Book<'_>) -> Result<(), NoMemory>
+    requires { IsBook book.now }
+    ensures { (m : Market) → IsOf book.now m
+        → OnOk result (found.new.items ≡ found.old.items ++ rules.misheld_in m) }
+{
+    let own = Own::of(alloc, book)?;
+    tell_misheld(found, &own)
+}
+
+fn tell_sums(alloc: Global, found: &mut Vec<Finding>, book: &Book<'_>) -> Result<(), NoMemory>
+    requires { IsBook book.now }
+    ensures { (m : Market) → IsOf book.now m
+        → OnOk result (found.new.items ≡ found.old.items ++ funds.totals_in m) }
+{
+    let own = Own::of(alloc, book)?;
+    tell_totals(found, &own)
 }
 
 fn tell_doubles(alloc: Global, found: &mut Vec<Finding>, book: &Book<'_>) -> Result<(), NoMemory>
@@ -264,13 +286,13 @@ pub fn tell_rule(
 {
     let book = book_of(market, gathered);
     match rule {
-        Rule::Homeless => tell_orders(found, market, &book),
-        Rule::Misheld => tell_misheld(found, book.accounts, book.bids, book.asks),
+        Rule::Homeless => tell_orders(alloc, found, market, &book),
+        Rule::Misheld => tell_holdings(alloc, found, &book),
         Rule::Unpaired => tell_ends(alloc, found, &book),
         Rule::Astray => tell_events(alloc, found, market, &book),
         Rule::Ungiven => tell_numbers(alloc, found, market, &book),
         Rule::Repeated => tell_doubles(alloc, found, &book),
-        Rule::Totals => tell_totals(found, &book),
+        Rule::Totals => tell_sums(alloc, found, &book),
         Rule::Deposits => tell_deposits(found, market, &book),
         Rule::Vaults => tell_vaults(found, market, &book),
         Rule::Rebates => tell_rebates(found, market, &book),

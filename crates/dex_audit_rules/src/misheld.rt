@@ -1,18 +1,22 @@
 //! The rule of slots that orders rest for: each holds the order.
 
 ghost use Rattle.std.specs.Prelude.{◌≡◌, ◌<◌, ◌++◌, [], ◌∷◌, length, ◌&&◌, not, OnOk};
+ghost use Rattle.dex_types.specs.Market.{Market};
 ghost use Rattle.dex_types.specs.Soundness.{order_holding};
 ghost use Rattle.dex_laws.specs.Places.{is_order_at};
 ghost use Rattle.dex_orders.specs.OrdersAccount.{IsOpen, account_of};
+ghost use Rattle.dex_audit_rules.specs.Books.{IsBook};
 ghost use Rattle.dex_audit_rules.specs.Lists.{numbered};
+ghost use Rattle.dex_audit_rules.specs.Own.{IsOwnOf};
 ghost use Rattle.dex_totals.specs.Held.{is_held};
-ghost use Rattle.dex_totals.specs.Reading.{AreOrders, held_in, traders};
+ghost use Rattle.dex_totals.specs.Reading.{held_in};
 ghost use Rattle.dex_audit_rules.specs.Slots as rules;
 
 use crate::finding::Finding;
+use crate::own::Own;
 use dex_orders::OrdersRef;
 use dex_totals::{id_held, is_held, opened};
-use dex_types::{Address, NoMemory, Order, OrdersAccount, Side, add, is_same};
+use dex_types::{Address, NoMemory, Order, Side, add, is_same};
 
 /// Whether the order rests for the place, and what the place holds is another.
 fn is_unheld(
@@ -108,18 +112,17 @@ fn tell_slot(
 /// Tells each slot of an open account that does not hold an order that rests for it.
 fn tell_slots(
     found: &mut Vec<Finding>,
-    bids: &[Order],
-    asks: &[Order],
+    own: &Own<'_>,
     owner: Address,
     view: OrdersRef<'_>,
 ) -> Result<(), NoMemory>
     requires { IsOpen view.bytes.now }
-    ensures { OnOk result (found.new.items ≡ found.old.items
-        ++ numbered (rules.misheld bids.now asks.now owner) 0 (account_of view.entry.bytes.now).slots) }
+    ensures { (m : Market) → IsOwnOf own.now m → OnOk result (found.new.items ≡ found.old.items
+        ++ numbered (rules.misheld m.bids m.asks owner) 0 (account_of view.entry.bytes.now).slots) }
 {
     let mut first = [None; 128];
-    note_side(&mut first, view, owner, Side::Bid, bids);
-    note_side(&mut first, view, owner, Side::Ask, asks);
+    note_side(&mut first, view, owner, Side::Bid, own.bids.of(owner));
+    note_side(&mut first, view, owner, Side::Ask, own.asks.of(owner));
     for slot in 0..128u8 {
         tell_slot(found, owner, slot, view.slot(slot), first[slot as usize])?;
     }
@@ -127,20 +130,15 @@ fn tell_slots(
 }
 
 /// Tells each slot of open accounts that does not hold an order that rests for it, with the first such order, bids
-/// before asks. Each account walks the orders once.
-pub fn tell_misheld(
-    found: &mut Vec<Finding>,
-    accounts: &[OrdersAccount],
-    bids: &[Order],
-    asks: &[Order],
-) -> Result<(), NoMemory>
-    requires { AreOrders accounts.now }
-    ensures { OnOk result (found.new.items ≡ found.old.items
-        ++ rules.each_slot (rules.misheld bids.now asks.now) (traders accounts.now)) }
+/// before asks. Each account walks its own orders.
+pub fn tell_misheld(found: &mut Vec<Finding>, own: &Own<'_>) -> Result<(), NoMemory>
+    requires { IsBook own.now.book }
+    ensures { (m : Market) → IsOwnOf own.now m
+        → OnOk result (found.new.items ≡ found.old.items ++ rules.misheld_in m) }
 {
-    for account in accounts {
+    for account in own.book.accounts {
         if let Some(view) = opened(&account.bytes) {
-            tell_slots(found, bids, asks, account.address, view)?;
+            tell_slots(found, own, account.address, view)?;
         }
     }
     Ok(())

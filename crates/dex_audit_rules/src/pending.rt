@@ -3,13 +3,12 @@
 ghost use Rattle.std.specs.Prelude.{◌≡◌, ◌==◌, ◌&&◌, ◌<◌, ◌^◌, [], ◌++◌, List, length, map, OnOk};
 ghost use Rattle.dex_types.specs.QueuedEvent.{QueuedEvent, decoded_event};
 ghost use Rattle.dex_audit_rules.specs.Lists.{numbered};
-ghost use Rattle.dex_totals.specs.Reading.{AreOrders, traders};
 ghost use Rattle.dex_audit_rules.specs.Slots as rules;
 ghost use Rattle.dex_totals.specs.Tallies.{AreFinals};
 
 use crate::finding::{Finding, tell_unless};
-use dex_totals::{Counts, held_at, id_held, is_held, side_of};
-use dex_types::{Address, Event, NoMemory, OrdersAccount};
+use dex_totals::{Counts, Owners, id_held, is_held, side_of};
+use dex_types::{Address, Event, NoMemory};
 use std::alloc::Global;
 
 /// Whether an event is held, and its order was not ended before it.
@@ -23,18 +22,17 @@ fn is_placed(is_held: bool, ended: u32) -> bool
 /// counted, ends its order.
 fn tell_event(
     found: &mut Vec<Finding>,
-    accounts: &[OrdersAccount],
+    owners: &Owners<'_>,
     finals: &Counts,
     queue: Address,
     number: u32,
     event: &Event,
 ) -> Result<(), NoMemory>
-    requires { AreOrders accounts.now }
     ensures { (earlier : List QueuedEvent) → AreFinals finals.now earlier → OnOk result (found.new.items
         ≡ found.old.items
-        ++ rules.astray_behind (traders accounts.now) earlier queue number (decoded_event event.now)) }
+        ++ rules.astray_behind owners.now earlier queue number (decoded_event event.now)) }
 {
-    let held = held_at(accounts, event.owner, event.slot);
+    let held = owners.held_at(event.owner, event.slot);
     let side = side_of(event);
     let is_held = is_held(held, event.id, side, event.client);
     let ended = finals.times(event.id, side);
@@ -54,21 +52,20 @@ fn tell_event(
 pub fn tell_astray(
     alloc: Global,
     found: &mut Vec<Finding>,
-    accounts: &[OrdersAccount],
+    owners: &Owners<'_>,
     events: &[Event],
     queue: Address,
 ) -> Result<(), NoMemory>
-    requires accounts { AreOrders accounts.now }
-    requires few { length events.now < 2 ^ 32 }
+    requires { length events.now < 2 ^ 32 }
     ensures { OnOk result (found.new.items
         ≡ found.old.items
-        ++ numbered (rules.astray (traders accounts.now) (map decoded_event events.now) queue) 0
+        ++ numbered (rules.astray owners.now (map decoded_event events.now) queue) 0
         (map decoded_event events.now)) }
 {
     let mut finals = Counts::new(alloc);
     for number in 0..events.len() {
         let event = &events[number];
-        tell_event(found, accounts, &finals, queue, number as u32, event)?;
+        tell_event(found, owners, &finals, queue, number as u32, event)?;
         finals.count(event)?;
     }
     Ok(())

@@ -2,24 +2,22 @@
 
 ghost use Rattle.std.specs.Prelude.{◌≡◌, ◌<◌, ◌++◌, ◌^◌, length, OnOk};
 ghost use Rattle.dex_audit_rules.specs.Lists.{numbered};
-ghost use Rattle.dex_totals.specs.Reading.{AreOrders, traders};
 ghost use Rattle.dex_audit_rules.specs.Slots as rules;
 
 use crate::finding::{Finding, tell_unless};
-use dex_totals::is_open;
-use dex_types::{Address, NoMemory, Order, OrdersAccount};
+use dex_totals::Owners;
+use dex_types::{Address, NoMemory, Order};
 
 /// Tells each order of a side whose owner is no open account.
 pub fn tell_homeless(
     found: &mut Vec<Finding>,
-    accounts: &[OrdersAccount],
+    owners: &Owners<'_>,
     side: Address,
     orders: &[Order],
 ) -> Result<(), NoMemory>
-    requires accounts { AreOrders accounts.now }
-    requires few { length orders.now < 2 ^ 32 }
+    requires { length orders.now < 2 ^ 32 }
     ensures { OnOk result (found.new.items ≡ found.old.items
-        ++ numbered (rules.homeless (traders accounts.now) side) 0 orders.now) }
+        ++ numbered (rules.homeless owners.now side) 0 orders.now) }
 {
     for place in 0..orders.len() {
         let order = orders[place];
@@ -30,7 +28,7 @@ pub fn tell_homeless(
             found: 0,
             wanted: order.id,
         };
-        tell_unless(found, is_open(accounts, order.owner), finding)?;
+        tell_unless(found, owners.is_open(order.owner), finding)?;
     }
     Ok(())
 }

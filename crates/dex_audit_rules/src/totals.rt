@@ -9,15 +9,15 @@ ghost use Rattle.dex_types.specs.Tokens.{locking_side};
 ghost use Rattle.dex_types.specs.Totals.{total};
 ghost use Rattle.dex_orders.specs.OrdersAccount.{IsOpen, account_of};
 ghost use Rattle.dex_audit_rules.specs.Books.{IsBook, IsOf};
+ghost use Rattle.dex_audit_rules.specs.Own.{IsOwnOf};
 ghost use Rattle.dex_audit_rules.specs.Funds as rules;
 ghost use Rattle.dex_totals.specs.Sums.{capped, token_of, weight_of};
 
 use crate::book::Book;
 use crate::finding::{Finding, tell_unless};
+use crate::own::Own;
 use dex_orders::OrdersRef;
-use dex_totals::{
-    Amount, Token, Weight, opened, sum_amounts, sum_locked, sum_own, sum_own_locked, sum_pending,
-};
+use dex_totals::{Amount, Token, Weight, opened, sum_amounts, sum_held, sum_locked, sum_pending};
 use dex_types::{Address, NoMemory, Order, Side};
 
 /// Tells an amount that is not the sum that it must be.
@@ -53,15 +53,30 @@ fn locking<'a>(book: &Book<'a>, token: Token) -> (&'a [Order], Side)
     }
 }
 
+/// What an owner's orders lock of a token.
+fn locked_of(own: &Own<'_>, token: Token, owner: Address) -> u128
+    ensures { (m : Market) → IsOwnOf own.now m → result ≡ capped (own_locked (token_of token) owner m) }
+{
+    match token {
+        Token::Coin => sum_locked(own.asks.of(owner), Side::Ask, own.book.sizes),
+        Token::Pc => sum_locked(own.bids.of(owner), Side::Bid, own.book.sizes),
+    }
+}
+
+/// What of a token an owner's events keep in its total, where its slots hold them.
+fn kept_of(own: &Own<'_>, token: Token, owner: Address) -> u128
+    ensures { (m : Market) → IsOwnOf own.now m → result ≡ capped (rules.held_kept (token_of token) owner m) }
+{
+    sum_held(own.events.of(owner), Weight::Kept(token), &own.owners)
+}
+
 /// What an open account's total of a token must be.
-fn total_of(book: &Book<'_>, token: Token, owner: Address, free: u64) -> u128
-    requires { IsBook book.now }
-    ensures { (m : Market) → IsOf book.now m → result
+fn total_of(own: &Own<'_>, token: Token, owner: Address, free: u64) -> u128
+    ensures { (m : Market) → IsOwnOf own.now m → result
         ≡ capped (free + own_locked (token_of token) owner m + rules.held_kept (token_of token) owner m) }
 {
-    let (orders, side) = locking(book, token);
-    let locked = sum_own_locked(orders, owner, side, book.sizes);
-    let kept = sum_own(book.events, Weight::Kept(token), book.accounts, owner);
+    let locked = locked_of(own, token, owner);
+    let kept = kept_of(own, token, owner);
     u128::from(free).saturating_add(locked).saturating_add(kept)
 }
 
@@ -98,32 +113,31 @@ pub fn with_pending(book: &Book<'_>, amount: u64, weight: Weight) -> u128
 /// Tells the totals of an open account that are not their sums.
 fn tell_totals_of(
     found: &mut Vec<Finding>,
-    book: &Book<'_>,
+    own: &Own<'_>,
     owner: Address,
     view: OrdersRef<'_>,
 ) -> Result<(), NoMemory>
-    requires book { IsBook book.now }
-    requires account { IsOpen view.bytes.now }
-    ensures { (m : Market) → IsOf book.now m → OnOk result (found.new.items ≡ found.old.items
+    requires { IsOpen view.bytes.now }
+    ensures { (m : Market) → IsOwnOf own.now m → OnOk result (found.new.items ≡ found.old.items
         ++ (rules.total_off Coin m owner (account_of view.entry.bytes.now)
         ++ rules.total_off Pc m owner (account_of view.entry.bytes.now))) }
 {
     let funds = view.funds();
-    let coin = total_of(book, Token::Coin, owner, funds.coin_free);
-    let pc = total_of(book, Token::Pc, owner, funds.pc_free);
+    let coin = total_of(own, Token::Coin, owner, funds.coin_free);
+    let pc = total_of(own, Token::Pc, owner, funds.pc_free);
     tell_differs(found, 7, owner, 85, funds.coin_total, coin)?;
     tell_differs(found, 7, owner, 101, funds.pc_total, pc)
 }
 
 /// Tells the totals of open accounts that are not their sums.
-pub fn tell_totals(found: &mut Vec<Finding>, book: &Book<'_>) -> Result<(), NoMemory>
-    requires { IsBook book.now }
-    ensures { (m : Market) → IsOf book.now m
+pub fn tell_totals(found: &mut Vec<Finding>, own: &Own<'_>) -> Result<(), NoMemory>
+    requires { IsBook own.now.book }
+    ensures { (m : Market) → IsOwnOf own.now m
         → OnOk result (found.new.items ≡ found.old.items ++ rules.totals_in m) }
 {
-    for account in book.accounts {
+    for account in own.book.accounts {
         if let Some(view) = opened(&account.bytes) {
-            tell_totals_of(found, book, account.address, view)?;
+            tell_totals_of(found, own, account.address, view)?;
         }
     }
     Ok(())

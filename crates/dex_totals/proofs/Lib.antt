@@ -1,3 +1,5 @@
 pub mod ReadLaws
 pub mod FinalLaws
 pub mod SumLaws
+pub mod OwnerLaws
+pub mod OwnLaws

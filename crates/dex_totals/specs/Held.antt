@@ -16,6 +16,10 @@ abbrev pub id_held : Option Holding → ℕ
 id_held None = 0
 id_held (Some held) = held.id
 
--- the event is this owner's, and its slot holds the event's order
+-- the event's slot holds its order
+abbrev pub is_event_held : Traders → QueuedEvent → Bool
+is_event_held traders event = is_held (held_at event.owner event.slot traders) (event_holding event)
+
+-- the event is this owner's, and its slot holds its order
 abbrev pub is_own_held : Traders → Address → QueuedEvent → Bool
-is_own_held traders owner event = is_event_of owner event && is_held (held_at event.owner event.slot traders) (event_holding event)
+is_own_held traders owner event = is_event_of owner event && is_event_held traders event

@@ -1,4 +1,5 @@
 pub mod Reading
 pub mod Held
+pub mod Owned
 pub mod Tallies
 pub mod Sums

@@ -2,6 +2,7 @@
 #![tactic(auto)]
 
 mod amounts;
+mod by_owner;
 mod counts;
 mod held;
 mod locks;
@@ -11,10 +12,11 @@ mod traders;
 mod weights;
 
 pub use amounts::{Amount, sum_amounts};
+pub use by_owner::{ByOwner, events_by_owner, orders_by_owner};
 pub use counts::{Counts, all_finals, all_resting, side_of};
 pub use held::{id_held, is_held};
-pub use locks::{lock_of, sum_locked, sum_own_locked};
+pub use locks::{lock_of, sum_locked};
 pub use tally::{mark, times};
 pub use tokens::Token;
-pub use traders::{held_at, is_open, opened};
-pub use weights::{Weight, sum_own, sum_pending};
+pub use traders::{Owners, opened};
+pub use weights::{Weight, sum_held, sum_pending};

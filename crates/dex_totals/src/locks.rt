@@ -2,11 +2,10 @@
 
 ghost use Rattle.std.specs.Prelude.{◌≡◌};
 ghost use Rattle.dex_types.specs.Owed as book;
-ghost use Rattle.dex_types.specs.Owed.{is_order_of};
-ghost use Rattle.dex_types.specs.Totals.{total, weighed_where};
+ghost use Rattle.dex_types.specs.Totals.{total};
 ghost use Rattle.dex_totals.specs.Sums.{capped};
 
-use dex_types::{Address, Lots, Order, Side, is_same};
+use dex_types::{Lots, Order, Side};
 
 const PER_PRICE: u128 = 1 << 64;
 
@@ -31,29 +30,6 @@ pub fn sum_locked(orders: &[Order], side: Side, sizes: Lots) -> u128
     let mut sum: u128 = 0;
     for place in 0..orders.len() {
         let more = lock_of(side, sizes, &orders[place]);
-        sum = sum.saturating_add(more);
-    }
-    sum
-}
-
-/// What the order locks, where it is the owner's.
-fn lock_of_own(owner: Address, side: Side, sizes: Lots, order: &Order) -> u128
-    ensures { result ≡ capped (weighed_where (is_order_of owner) (book.order_lock side sizes) order.now) }
-{
-    if is_same(owner, order.owner) {
-        lock_of(side, sizes, order)
-    } else {
-        0
-    }
-}
-
-/// What the owner's orders of a side lock.
-pub fn sum_own_locked(orders: &[Order], owner: Address, side: Side, sizes: Lots) -> u128
-    ensures { result ≡ capped (total (weighed_where (is_order_of owner) (book.order_lock side sizes)) orders.now) }
-{
-    let mut sum: u128 = 0;
-    for place in 0..orders.len() {
-        let more = lock_of_own(owner, side, sizes, &orders[place]);
         sum = sum.saturating_add(more);
     }
     sum

@@ -3,19 +3,17 @@
 ghost use Rattle.std.specs.Prelude.{◌≡◌, ◌<◌, ◌^◌, map};
 ghost use Rattle.dex_types.specs.Owed.{kept, leaving, owed, referred};
 ghost use Rattle.dex_types.specs.QueuedEvent.{decoded_event};
-ghost use Rattle.dex_types.specs.Soundness.{event_holding, held_at};
 ghost use Rattle.dex_types.specs.Totals.{total, weighed_where};
-ghost use Rattle.dex_totals.specs.Held.{is_held, is_own_held};
-ghost use Rattle.dex_totals.specs.Reading.{AreOrders, traders};
+ghost use Rattle.dex_totals.specs.Held.{is_event_held};
 ghost use Rattle.dex_totals.specs.Sums.{capped, token_of, weight_of};
 
 use crate::counts::side_of;
 use crate::held::is_held;
 use crate::tokens::Token;
-use crate::traders::held_at;
+use crate::traders::Owners;
 use dex_crank::{Kind, kind_of};
 use dex_fees::referrer_part;
-use dex_types::{Address, Event, OrdersAccount, Side, is_same};
+use dex_types::{Event, Side};
 
 /// An amount of a pending event, in native units of a token; what is referred is quote.
 #[derive(Clone, Copy, Debug, PartialEq, Eq)]
@@ -113,14 +111,13 @@ pub fn sum_pending(events: &[Event], weight: Weight) -> u128
     sum
 }
 
-/// What an event weighs, where it is the owner's and its slot holds it.
-fn weigh_own(weight: Weight, accounts: &[OrdersAccount], owner: Address, event: &Event) -> u128
-    requires { AreOrders accounts.now }
+/// What an event weighs, where its slot holds it.
+fn weigh_held(weight: Weight, owners: &Owners<'_>, event: &Event) -> u128
     ensures value { result
-        ≡ weighed_where (is_own_held (traders accounts.now) owner) (weight_of weight) (decoded_event event.now) }
+        ≡ weighed_where (is_event_held owners.now) (weight_of weight) (decoded_event event.now) }
     ensures small { result < 2 ^ 65 }
 {
-    if is_same(owner, event.owner) && is_event_held(accounts, event) {
+    if is_event_held(owners, event) {
         weigh(weight, event)
     } else {
         0
@@ -128,27 +125,22 @@ fn weigh_own(weight: Weight, accounts: &[OrdersAccount], owner: Address, event: 
 }
 
 /// Whether the event's slot holds it.
-fn is_event_held(accounts: &[OrdersAccount], event: &Event) -> bool
-    requires { AreOrders accounts.now }
-    ensures { result ≡ is_held
-        (held_at (decoded_event event.now).owner (decoded_event event.now).slot (traders accounts.now))
-        (event_holding (decoded_event event.now)) }
+fn is_event_held(owners: &Owners<'_>, event: &Event) -> bool
+    ensures { result ≡ is_event_held owners.now (decoded_event event.now) }
 {
-    let held = held_at(accounts, event.owner, event.slot);
+    let held = owners.held_at(event.owner, event.slot);
     let side = side_of(event);
     is_held(held, event.id, side, event.client)
 }
 
-/// What the owner's pending events weigh whose slots hold them.
-pub fn sum_own(events: &[Event], weight: Weight, accounts: &[OrdersAccount], owner: Address) -> u128
-    requires { AreOrders accounts.now }
+/// What those of the events weigh whose slots hold them.
+pub fn sum_held(events: &[Event], weight: Weight, owners: &Owners<'_>) -> u128
     ensures { result
-        ≡ capped (total (weighed_where (is_own_held (traders accounts.now) owner) (weight_of weight))
-        (map decoded_event events.now)) }
+        ≡ capped (total (weighed_where (is_event_held owners.now) (weight_of weight)) (map decoded_event events.now)) }
 {
     let mut sum: u128 = 0;
     for place in 0..events.len() {
-        let more = weigh_own(weight, accounts, owner, &events[place]);
+        let more = weigh_held(weight, owners, &events[place]);
         sum = sum.saturating_add(more);
     }
     sum

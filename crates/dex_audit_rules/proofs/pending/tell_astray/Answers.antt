@@ -3,7 +3,6 @@ use Rattle.std.proofs.lemmas.List.{get_or-map, length-map}
 use Rattle.dex_types.specs.declared.orders.Event.{Event}
 use Rattle.dex_types.specs.QueuedEvent.{QueuedEvent, decoded_event}
 use Rattle.dex_types.specs.Soundness.{counts_final}
-use Rattle.dex_totals.specs.Reading.{traders}
 use Rattle.dex_audit_rules.specs.Slots.{astray, astray_behind}
 use Rattle.dex_totals.proofs.FinalLaws.{finals-few, finals-more}
 use Rattle.dex_audit_rules.proofs.ListLaws.{told-more}
@@ -22,10 +21,10 @@ loop-number-preserved c =
     let lt : number < length events = omega (arith, length-map c.args.events.now decoded_event) in
     record {
       told =
-          told-more (astray (traders c.args.accounts.now) events c.args.queue) events number (decoded_event d)
+          told-more (astray c.args.owners.now events c.args.queue) events number (decoded_event d)
           c.args.found.now.items c.loop-number.found.items c.tell_event.new.found.items lt c.loop-number.invariant.told
           (c.in_ok-tell_event.ensures (take number events) c.loop-number.invariant.finals
-          ∙ ap (λ (e : QueuedEvent). c.loop-number.found.items ++ astray_behind (traders c.args.accounts.now) (take number events) c.args.queue number e) (sym event));
+          ∙ ap (λ (e : QueuedEvent). c.loop-number.found.items ++ astray_behind c.args.owners.now (take number events) c.args.queue number e) (sym event));
       finals = λ held.
           omega (arith, c.in_ok-count.ensures held, c.loop-number.invariant.finals held, ap (counts_final held) (sym event), finals-more held events number (decoded_event d) lt);
     }

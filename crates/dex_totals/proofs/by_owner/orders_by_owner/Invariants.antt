@@ -1,0 +1,9 @@
+use Rattle.std.proofs.Common.{◌≡◌, take}
+use Rattle.std.specs.List.{filter}
+use Rattle.dex_types.specs.declared.addresses.Address.{Address}
+use Rattle.dex_types.specs.Owed.{is_order_of}
+use Rattle.dex_totals.specs.Owned.{own_of}
+use Rattle.dex_totals.proofs.by_owner.orders_by_owner.Given as goal
+
+abbrev pub invariant-loop-place : goal.invariant-loop-place
+invariant-loop-place l = (owner : Address) → own_of l.own owner ≡ filter (is_order_of owner) (take l.place l.orders)
