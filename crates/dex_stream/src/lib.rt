@@ -4,6 +4,7 @@
 
 mod listener;
 mod playing;
+mod sizes;
 
 pub use listener::Listener;
 pub use playing::{Played, play};
