@@ -1,15 +1,14 @@
 -- The names that many proofs of this crate and of those above it cite, passed on from one place. Declares nothing.
 pub use Rattle.dex_accounts.specs.Accepted.{IsAccepted}
-pub use Rattle.dex_accounts.specs.Decoded.{AreSound, market_in}
-pub use Rattle.dex_act.specs.Wallets.{Fits, SeesCells, is_among, made_of, roles_of, wallet_state_of}
-pub use Rattle.dex_bank.specs.Cells.{AreCells, CanAct, CellsState, IsReply, OthersStay, accounts_in, is_market, market_state_of, opened_of, world_of}
+pub use Rattle.dex_accounts.specs.Decoded.{AreSound}
+pub use Rattle.dex_act.specs.Wallets.{is_among, made_of, wallet_state_of}
+pub use Rattle.dex_bank.specs.Cells.{AreCells, CanAct, CellsState, IsReply, OthersStay, is_market, market_state_of, opened_of, world_of}
 pub use Rattle.dex_bank.specs.CellsInside.{cells_inside}
 pub use Rattle.dex_bank.specs.Closed.{account_in, market_journal_in, wallet_journal_in}
 pub use Rattle.dex_bank.specs.Opened.{market_opened, rows_naming, rows_on, wallet_opened}
-pub use Rattle.dex_act.specs.Acted.{HaveActed}
 pub use Rattle.dex_bank.specs.Stepping.{IsFirstAt}
-pub use Rattle.dex_cell.specs.CellState.{CanHold, IsMarketCell, MarketCellState, call_on, entries_of, step_on}
-pub use Rattle.dex_state.specs.Addresses.{address_of, all_of_market}
+pub use Rattle.dex_cell.specs.CellState.{IsMarketCell, MarketCellState}
+pub use Rattle.dex_state.specs.Addresses.{address_of}
 pub use Rattle.dex_state.specs.Accepted.{AreAccepted}
 pub use Rattle.dex_script_types.specs.Facts.{IsStart}
 pub use Rattle.dex_token.specs.TokenAccount.{IsWallet}

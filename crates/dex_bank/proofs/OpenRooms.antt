@@ -18,8 +18,8 @@ use Rattle.dex_world.proofs.OnceLaws.{roles-once, times-any}
 use Rattle.dex_script_types.specs.Places.{IsPlaced, wallet_place}
 use Rattle.dex_script_types.proofs.Apart.{AreDistinct, markets-distinct, wallets-distinct}
 use Rattle.dex_script_types.proofs.PlacedLaws.{position-map}
-use Rattle.dex_act.proofs.BehindLaws.{some-of}
 use Rattle.dex_bank.specs.Counts.{AreCounted, HaveSpare, one, times_told}
+use Rattle.dex_world.proofs.MappedLists.{item_at}
 
 -- ---- the place of an address
 
@@ -145,7 +145,7 @@ module _ (names : PlainRow → Address → Bool) (addresses : List Address) wher
   -- no count is higher than there are rows
   pub rows-spare : (rows : List PlainRow) (more : ℕ) (counts : List ℕ) → length rows + more < 2 ^ 64 → AreRowsOf names addresses rows counts → HaveSpare more counts
   rows-spare rows more counts few so place less =
-      let d : Address = some-of addresses place (omega (arith, less, so.long)) in
+      let d : Address = item_at addresses place (omega (arith, less, so.long)) in
       omega (arith, few, so.each place d (omega (arith, less, so.long)), count_by-le-length (λ (one : PlainRow). names one (get_or addresses place d)) rows)
 
   -- a row more
@@ -180,12 +180,11 @@ module _ (names : PlainRow → Address → Bool) (addresses : List Address) wher
 all-counted : {A : Type 0} (names : PlainRow → Address → Bool) (address_in : A → Address) (rows : List PlainRow) (items : List A) (counts : List ℕ)
     → AreRowsOf names (map address_in items) rows counts → counts ≡ map (λ (item : A). count_by (λ (row : PlainRow). names row (address_in item)) rows) items
 all-counted names address_in rows [] [] so = refl
-all-counted names address_in rows [] (count ∷ counts) so = absurd (omega (arith, so.long))
-all-counted names address_in rows (item ∷ items) [] so = absurd (omega (arith, so.long))
 all-counted names address_in rows (item ∷ items) (count ∷ counts) so =
     let named : ℕ = count_by (λ (row : PlainRow). names row (address_in item)) rows in
     let rest = all-counted names address_in rows items counts (record { long = omega (arith, so.long); each = λ place d less. so.each (suc place) d (omega (arith, less)) }) in
     ap (λ (n : ℕ). n ∷ counts) (so.each 0 (address_in item) (omega arith)) ∙ ap (λ (all : List ℕ). named ∷ all) rest
+all-counted names address_in rows _ _ so = absurd (omega (arith, so.long))
 
 pub rooms-told : {A : Type 0} (names : PlainRow → Address → Bool) (address_in : A → Address) (rows : List PlainRow) (items : List A) (i : ℕ) (counts : List ℕ) → length rows ≤ i
     → AreRowsOf names (map address_in items) (take i rows) counts → counts ≡ map (λ (item : A). count_by (λ (row : PlainRow). names row (address_in item)) rows) items

@@ -15,10 +15,10 @@ use Rattle.dex_script_types.proofs.FoundLaws.{found-at, wallets-same}
 use Rattle.dex_script_types.proofs.PlacedLaws.{position-map}
 use Rattle.dex_wallet.specs.CellState.{new_cell}
 use Rattle.dex_act.specs.Wallets.{IsRoleAt, cell_place, wallet_places}
-use Rattle.dex_world.proofs.MappedLists.{map-agree, map-map}
+use Rattle.dex_world.proofs.MappedLists.{item_at, map-agree, map-map, zip-weaker}
 use Rattle.dex_bank.specs.Opened.{opened_with}
 use Rattle.dex_bank.specs.Places.{ArePlacedIn, ArePlacesIn, StandsAt}
-use Rattle.dex_act.proofs.BehindLaws.{same-at, some-of}
+use Rattle.dex_act.proofs.BehindLaws.{same-at}
 use Rattle.dex_act.proofs.InHand.{stands-at}
 use Rattle.dex_bank.proofs.StepWorld.{opened_market}
 
@@ -55,10 +55,7 @@ module _ (rows : List PlainRow) where
     }
 
     pub placed-stand : (some : List PlainRow) (places : List RowPlaces) → ArePlaced start some places → ArePlacedIn (opened_with start rows program) some places
-    placed-stand [] [] are = tt
-    placed-stand [] (first ∷ others) are = absurd are
-    placed-stand (row ∷ some) [] are = absurd are
-    placed-stand (row ∷ some) (first ∷ others) are = (placed-stands row first are.0, placed-stand some others are.1)
+    placed-stand = zip-weaker (IsPlaced start) (ArePlacesIn (opened_with start rows program)) placed-stands
 
 -- a row stands where the places beside it tell
 pub stands-told : (cells : CellsState) (row : PlainRow) (places : RowPlaces) → ArePlacesIn cells row places
@@ -104,7 +101,7 @@ module _ (before after : CellsState) (was : All HasItsAddress before.markets) (i
 
   pub first-still : (address : Address) (place : ℕ) → IsFirstAt address before.markets place → IsFirstAt address after.markets place
   first-still address place first = record {
-    within = (still place (some-of before.markets place first.within) first.within).0;
+    within = (still place (item_at before.markets place first.within) first.within).0;
     here = λ default. ap (is_same address) (still place default first.within).1 ∙ first.here default;
     before = λ k below default. ap (is_same address) (still k default (omega (arith, below, first.within))).1 ∙ first.before k below default;
   }
@@ -137,7 +134,4 @@ module _ (before after : CellsState) (was : All HasItsAddress before.markets) (i
 
   -- and each of these rows
   pub stand-still : (rows : List PlainRow) (places : List RowPlaces) → ArePlacedIn before rows places → ArePlacedIn after rows places
-  stand-still [] [] are = tt
-  stand-still [] (first ∷ others) are = absurd are
-  stand-still (row ∷ rows) [] are = absurd are
-  stand-still (row ∷ rows) (first ∷ others) are = (stands-still row first are.0, stand-still rows others are.1)
+  stand-still = zip-weaker (ArePlacesIn before) (ArePlacesIn after) stands-still

@@ -8,7 +8,6 @@ use Rattle.dex_act.specs.Steps.{Terms}
 use Rattle.dex_act.specs.declared.steps.Legs.{Legs}
 use Rattle.dex_act.specs.declared.steps.RowDone.{RowDone}
 use Rattle.dex_act.specs.Steps.{AreStepsOn, CanStepBoth, HasDone}
-use Rattle.dex_act.proofs.BehindLaws.{some-of}
 use Rattle.dex_bank.specs.Cells.{CanActBoth}
 use Rattle.dex_bank.specs.CellsInside.{cells_by}
 use Rattle.dex_bank.specs.Places.{StandsAt}
@@ -18,6 +17,7 @@ use Rattle.dex_bank.proofs.Stands.{first-still, its-address}
 use Rattle.dex_bank.proofs.StepCells.{can-step, refused-here, stepped}
 use Rattle.dex_bank.proofs.StepMarkets.{apart-places, other-at}
 use Rattle.dex_bank.proofs.StepTwo.{both-stepped}
+use Rattle.dex_world.proofs.MappedLists.{item_at}
 
 -- the legs of a swap can act where their markets and wallets stand
 pub record AreReady (cells : CellsState) (legs : Legs) (one two : ℕ) : Type 0 where
@@ -58,7 +58,7 @@ module _ (mints : List Named) (terms : Terms) (markets : List MarketCellState) (
     module _ (dones : RowDone × RowDone) (after : List MarketCellState) (left : List CellState)
         (steps : AreStepsAt terms legs dones one two markets after wallets left) where
       abbrev some : MarketCellState
-      some = some-of markets one ready.first_at.market.within
+      some = item_at markets one ready.first_at.market.within
 
       abbrev are_steps : AreStepsOn terms legs dones (get_or markets one some) steps.first (get_or markets two some) steps.second wallets left
       are_steps = steps.steps some

@@ -5,7 +5,7 @@ use Rattle.dex_bank.proofs.Common.{IsFirstAt, MarketCellState, OthersStay, marke
 use Rattle.dex_accounts.specs.Decoded.{market_in}
 use Rattle.dex_cell.specs.CellState as cells
 use Rattle.dex_world.specs.World.{market_at}
-use Rattle.dex_act.proofs.BehindLaws.{some-of}
+use Rattle.dex_world.proofs.MappedLists.{item_at}
 
 -- the address of the market that accounts tell is theirs
 listing-address : (accounts : PlainMarketAccounts) → (market_in accounts).listing.address ≡ accounts.address
@@ -113,7 +113,7 @@ back-at (x ∷ xs) (suc mid) d e within = back-at xs mid d e (omega (arith, with
 pub apart-places : (one other : Address) (markets : List MarketCellState) (p q : ℕ) → IsFirstAt one markets p → IsFirstAt other markets q
     → is_same one other ≡ false → p ≡ q → ⊥
 apart-places one other markets p q first second apart same =
-    let d : MarketCellState = some-of markets p first.within in
+    let d : MarketCellState = item_at markets p first.within in
     let here : other ≡ (get_or markets p d).accounts.address =
     is_same-true other (get_or markets q d).accounts.address (second.here d) ∙ ap (λ (k : ℕ). (get_or markets k d).accounts.address) (sym same) in
     false≢true (sym apart ∙ ap (is_same one) here ∙ first.here d)

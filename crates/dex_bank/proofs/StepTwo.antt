@@ -1,5 +1,5 @@
 -- Two rows that share nothing, one after the other.
-use Rattle.std.proofs.Common.{◌≡◌, ◌||◌, ◌&&◌, not, Bool, true, false, cond, List, [], ◌∷◌, is_some, Option, Some, None, refl, sym, ap, ◌∙◌, subst}
+use Rattle.std.proofs.Common.{◌≡◌, ◌||◌, ◌&&◌, not, Bool, true, false, cond, List, [], ◌∷◌, is_some, Option, Some, None, refl, sym, ap, ◌∙◌, subst, arith}
 use Rattle.dex_world.proofs.Common.{Address, AllZip, Market, PlainRow, Refusal, Reply, Seen, ShareNothing, World, act, chosen, false≢true, fold, idle_row, is_refusal, is_same, request_of, row_step, seen_by, step-refused, why-far, why_in, why_on}
 use Rattle.dex_bank.proofs.Common.{CellsState, IsReply, MarketCellState, OthersStay, world_of}
 use Rattle.dex_world.specs.Items.{doing}
@@ -41,16 +41,15 @@ module _ (one other : PlainRow) (share : ShareNothing one other) (waits : Bool) 
 both-stay : (one other : Address) (before mid after : List MarketCellState) → OthersStay one before mid → OthersStay other mid after
     → OthersThanTwoStay one other before after
 both-stay one other [] [] [] first second = tt
-both-stay one other [] [] (a ∷ after) first second = absurd second
 both-stay one other [] (m ∷ mid) after first second = absurd first
 both-stay one other (b ∷ before) [] after first second = absurd first
-both-stay one other (b ∷ before) (m ∷ mid) [] first second = absurd second
 both-stay one other (b ∷ before) (m ∷ mid) (a ∷ after) first second = (
   (λ not_one not_other.
       let same : m ≡ b = first.0 not_one in
       second.0 (ap (λ (cell : MarketCellState). is_same other cell.accounts.address) same ∙ not_other) ∙ same),
   both-stay one other before mid after first.1 second.1,
 )
+both-stay one other _ _ _ first second = absurd second
 
 -- ---- each waits where the other is refused and it is not
 
@@ -64,10 +63,7 @@ chosen-two world first second one two one_is two_is =
     rows_by a b = cond (a || (b || false)) (cond a first (idle_row first) ∷ cond b second (idle_row second) ∷ []) (first ∷ second ∷ [])
 
     by : (a b : Bool) → rows_by a b ≡ doing (b && not a) first ∷ doing (a && not b) second ∷ []
-    by true true = refl
-    by true false = refl
-    by false true = refl
-    by false false = refl
+    by a b = grind arith
 
 -- a row that waits where it is not refused waits, or is answered by a refusal
 waits-or-refused : (row : PlainRow) (world : World) (waits refused : Bool) (reply : Reply) → IsReply world (doing waits row) reply

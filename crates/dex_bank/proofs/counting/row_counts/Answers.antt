@@ -1,16 +1,13 @@
-use Rattle.std.proofs.Common.{◌≡◌, ◌+◌, ◌<◌, ◌≤◌, List, [], ℕ, arith, eqb, get_or, length, map, take, sym, subst, ◌∙◌}
+use Rattle.std.proofs.Common.{◌≡◌, ◌+◌, ◌<◌, ◌≤◌, List, ℕ, arith, eqb, get_or, length, map, take, sym, subst, ◌∙◌}
 use Rattle.dex_world.proofs.Common.{PlainAccount, PlainAccounts, PlainMarketAccounts, Row, accounts_of, length-map, market_accounts_of, named_of, names, row_of, with_items_is}
 use Rattle.std.proofs.lemmas.List.{length-take-le}
 use Rattle.dex_world.specs.declared.places.RowPlaces.{RowPlaces}
 use Rattle.dex_script_types.specs.Places.{ArePlaced, IsPlaced}
-use Rattle.dex_script_types.proofs.PlacedLaws.{item-at, item_at, placed-long, row-at}
+use Rattle.dex_script_types.proofs.PlacedLaws.{nowhere, placed-long, row-at}
 use Rattle.dex_bank.specs.Counts.{HaveSpare, one, times_told}
 use Rattle.dex_bank.proofs.OpenRooms.{AreRowsOf, market-tells, markets_at, on, rooms-told, row-more, rows-spare, wallet-tells, wallets_at}
 use Rattle.dex_bank.proofs.counting.row_counts.Goals as goal
-
--- what is read where nothing stands
-abbrev nothing : RowPlaces
-nothing = record { number = 0; lane = 0; market = 0; wallets = record { places = []; coin = 0; pc = 0; discount = 0; referrer = 0 } }
+use Rattle.dex_world.proofs.MappedLists.{item-at, item_at}
 
 -- each row has places
 together : (start : PlainAccounts) (rows : List Row) (places : List RowPlaces) → ArePlaced start (map row_of rows) places → length places ≡ length rows
@@ -45,8 +42,8 @@ loop-i-preserved c =
     let inside : i < length rows = omega arith in
     let row : Row = item_at rows i inside in
     let is = item-at rows i inside in
-    let there : RowPlaces = get_or c.args.places.now i nothing in
-    let placed = subst (λ (one : Row). IsPlaced start (row_of one) there) (sym is) (row-at (IsPlaced start) rows c.args.places.now c.requires.places i row nothing inside) in
+    let there : RowPlaces = get_or c.args.places.now i nowhere in
+    let placed = subst (λ (one : Row). IsPlaced start (row_of one) there) (sym is) (row-at (IsPlaced start) rows c.args.places.now c.requires.places i row nowhere inside) in
     let markets = markets_at start.markets in
     let wallets = wallets_at start.wallets in
     record {
