@@ -1,5 +1,5 @@
 pub mod AnswerLaws
 pub mod InFront
 pub mod PairLaws
-pub mod ReplayLaws
+pub mod HeardLaws
 pub mod TextLaws

@@ -1,7 +1,6 @@
 -- What is known of a text and its status, of the two.
-use Rattle.std.proofs.Common.{◌≡◌, ℕ, List, Result, Ok, Err, IfOk, subst, sym}
+use Rattle.std.proofs.Common.{ℕ, List, Result, Ok, Err, IfOk, subst, sym}
 use Rattle.dex_answers.specs.declared.status.Status.{Status}
-use Rattle.dex_answers.specs.declared.status.Status.TheVariants as status
 use Rattle.dex_answers.specs.declared.told.StatusText.{StatusText}
 use Rattle.dex_answers.specs.Telling.{IsText}
 use Rattle.dex_answers.specs.Told.{text_of}

@@ -1,19 +1,14 @@
 -- What the answers of calls tell, without their buffers.
-use Rattle.std.specs.Prelude.{ℕ, ◌≡◌, false, List}
+use Rattle.std.specs.Prelude.{ℕ, ◌≡◌, List}
 use Rattle.dex_types.specs.Accounts.{accounts_of}
 use Rattle.dex_types.specs.declared.limits.Limits.{Limits}
 use Rattle.dex_state.specs.Accepted.{AreAccepted}
-use Rattle.dex_script_types.specs.PlainScript.{PlainScript}
-use Rattle.dex_script.specs.Scripts.{ReadsWithin}
-use Rattle.dex_state.specs.Outcomes.{outcome_of}
 use Rattle.dex_answers.specs.declared.clean.Checked.{Checked}
 use Rattle.dex_answers.specs.declared.clean.Checked.TheVariants as checked
-use Rattle.dex_answers.specs.declared.played.Played.{Played}
-use Rattle.dex_answers.specs.declared.played.Played.TheVariants as played
 use Rattle.dex_answers.specs.declared.status.Status.{Status}
 use Rattle.dex_answers.specs.declared.told.StatusText.{StatusText}
 use Rattle.dex_answers.specs.Told.{text_of}
-use Rattle.dex_answers.specs.Answers.{IsClean, IsNoScript, IsNotClean, IsPlayed, rows_told}
+use Rattle.dex_answers.specs.Answers.{IsClean, IsNotClean}
 
 -- the text of a status
 pub record IsText (told : StatusText) (stood : Status) (bytes : List ℕ) : Type 0 where
@@ -24,9 +19,3 @@ pub record IsText (told : StatusText) (stood : Status) (bytes : List ℕ) : Type
 abbrev pub TellsChecked : Limits → Checked → List ℕ → Type 0
 TellsChecked limits (checked.Clean accounts) bytes = IsClean limits bytes (accounts_of accounts) × AreAccepted limits (accounts_of accounts)
 TellsChecked limits (checked.Refused told) bytes = IsNotClean limits bytes told.status (text_of told)
-
--- the bytes are a script with this outcome, whose report tells of this many rows; or the text says why they are none
-abbrev pub TellsPlayed : Limits → Played → List ℕ → Type 0
-TellsPlayed limits (played.AllRows rows outcome) bytes =
-    (script : PlainScript) × ReadsWithin limits false bytes script × IsPlayed script (outcome_of outcome) × (rows ≡ rows_told script)
-TellsPlayed limits (played.Refused told) bytes = IsNoScript limits false bytes told.status (text_of told)

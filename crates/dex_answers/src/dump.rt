@@ -10,12 +10,36 @@ ghost use Rattle.dex_answers.specs.Telling.{IsText};
 ghost use Rattle.dex_answers.specs.Told.{text_of};
 ghost use Rattle.dex_answers.specs.declared.status.Status.TheVariants as status;
 
-use crate::played::{Played, play_script};
+use crate::refused::no_script;
 use crate::status::Status;
 use crate::told::StatusText;
 use dex_dump::{Pieces, room_of_dump, take_accounts};
-use dex_types::{Accounts, Limits, NoMemory};
+use dex_state::{MarketJournal, WalletJournal};
+use dex_stream::{Listener, play};
+use dex_types::{Accounts, Limits, NoMemory, Row};
 use std::alloc::Global;
+
+/// Lets all journals go.
+#[derive(Drop)]
+pub(crate) struct Deaf;
+
+impl Listener for Deaf {
+    ghost heard = { λ deaf script outcome. Unit {0} };
+
+    fn begin(_alloc: Global, _start: &Accounts) -> Result<Deaf, NoMemory> {
+        Ok(Deaf)
+    }
+
+    fn hear(
+        &mut self,
+        _alloc: Global,
+        _rows: &[Row],
+        _markets: Vec<MarketJournal>,
+        _wallets: Vec<WalletJournal>,
+    ) -> Result<(), NoMemory> {
+        Ok(())
+    }
+}
 
 /// The dump of the accounts when all rows of a script have acted, or why the bytes are no script within
 /// these limits.
@@ -23,9 +47,9 @@ pub fn dump_answer(alloc: Global, bytes: &[u8], limits: &Limits) -> Result<Statu
     requires { AreLimits limits.now }
     ensures { IfOk result (λ told. AnswersWithin limits.now Dump bytes.now told.status (text_of told)) }
 {
-    match play_script(alloc, bytes, limits)? {
-        Played::AllRows { rows: _, outcome } => dump_of(alloc, outcome.accounts),
-        Played::Refused(told) => Ok(told),
+    match play::<Deaf>(alloc, bytes, limits) {
+        Ok(played) => dump_of(alloc, played.accounts),
+        Err(error) => no_script(alloc, error),
     }
 }
 

@@ -9,13 +9,13 @@ mod laws;
 mod lines;
 mod make;
 mod migrate;
-mod played;
+mod refused;
 mod replay;
 mod status;
 mod told;
 
 pub use audit::audit_answer;
-pub use bulk::{bulk_answer, is_of_made};
+pub use bulk::bulk_answer;
 pub use dump::dump_answer;
 pub use laws::{
     both_legs_of_a_swap_take_or_neither, what_a_run_leaves_is_told,
@@ -23,7 +23,7 @@ pub use laws::{
 };
 pub use make::make_answer;
 pub use migrate::migrate_answer;
-pub use played::no_script;
-pub use replay::{replay_answer, replay_taken};
+pub use refused::no_script;
+pub use replay::replay_answer;
 pub use status::Status;
 pub use told::StatusText;

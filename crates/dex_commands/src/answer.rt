@@ -10,7 +10,6 @@ ghost use Rattle.dex_answers.specs.Told.{text_of};
 use crate::worth::worth_answer;
 use dex_answers::{
     StatusText, audit_answer, bulk_answer, dump_answer, make_answer, migrate_answer, replay_answer,
-    replay_taken,
 };
 use dex_types::{Limits, NoMemory, STANDARD};
 use dex_words::PlainCommand;
@@ -46,20 +45,5 @@ pub fn answer_within(
         PlainCommand::Migrate { nodes, events } => {
             migrate_answer(alloc, bytes, nodes, events, limits)
         }
-    }
-}
-
-/// Like `answer_to`, of bytes that are given up: a replay lets them go before its first row acts.
-pub fn answer_taking(
-    alloc: Global,
-    command: PlainCommand,
-    bytes: Vec<u8>,
-) -> Result<StatusText, NoMemory>
-    requires { IsWithin (of_plain command) }
-    ensures { IfOk result (λ told. Answers (of_plain command) bytes.items told.status (text_of told)) }
-{
-    match command {
-        PlainCommand::Replay => replay_taken(alloc, bytes, &STANDARD),
-        other => answer_to(alloc, other, &bytes),
     }
 }

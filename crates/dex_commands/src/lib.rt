@@ -9,7 +9,7 @@ mod running;
 mod stop;
 mod worth;
 
-pub use answer::{answer_taking, answer_to, answer_within};
+pub use answer::{answer_to, answer_within};
 pub use input::read_input;
 pub use laws::{one_report_is_of_one_outcome, what_suits_a_command_is_answered};
 pub use output::{ZEROS, bytes_of, written, written_each};

@@ -9,7 +9,7 @@ ghost use Rattle.dex_commands.specs.Ending.{Completes, Ends, Stands, input, outp
 ghost use Rattle.dex_commands.specs.Listed.{ListedOrder, WhereListed};
 ghost use Rattle.dex_commands.specs.Stops.{line_of, status_of};
 
-use crate::answer::answer_taking;
+use crate::answer::answer_to;
 use crate::input::taken;
 use crate::output::{written, written_each};
 use crate::stop::Stop;
@@ -76,6 +76,6 @@ fn answer<S: Source>(
         (input (S.left source.old) (S.left source.new) (S.faults source.old) (S.faults source.new)) (line_of stop)) }
 {
     let bytes = taken(alloc, command, source)?;
-    let built = answer_taking(alloc, command, bytes)?;
+    let built = answer_to(alloc, command, &bytes)?;
     Ok(built)
 }

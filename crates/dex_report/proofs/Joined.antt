@@ -1,7 +1,8 @@
 -- What jobs wrote, put together.
-use Rattle.std.proofs.Common.{◌≡◌, ◌∙◌, ◌++◌, ℕ, List, [], ◌∷◌, Ok, IfOk, Vec, Global, ap, append_assoc, append-nil, map, refl, subst, sym, All}
+use Rattle.std.proofs.Common.{◌≡◌, ◌∙◌, ◌++◌, ℕ, List, [], ◌∷◌, Ok, IfOk, Vec, Global, ap, append-nil, map, refl, subst, sym, All}
 use Rattle.std.specs.List.{AllZip, flat_map}
 use Rattle.std.proofs.lemmas.Grind.{flat_map-append}
+use Rattle.std.proofs.lemmas.List.{flat_map_more}
 use Rattle.std.proofs.lemmas.List.Elements.{All-append, All-nil}
 use Rattle.dex_dump.proofs.PieceLaws.{more}
 use Rattle.dex_dump.specs.Pieces.{piece_text}
@@ -9,13 +10,6 @@ use Rattle.dex_dump.specs.declared.pieces.Piece.{Piece}
 use Rattle.dex_report.specs.Parts.{FitPart, WritesParts, part_lines, parts_in, whole}
 use Rattle.dex_report.specs.declared.part.Part.{Part}
 use Rattle.dex_report.specs.declared.writing.Writing.{Writing}
-
--- one more on both sides
-pub zip-behind : {A B : Type 0} (R : A → B → Type 0) (xs : List A) (ys : List B) (x : A) (y : B) → AllZip R xs ys → R x y → AllZip R (xs ++ x ∷ []) (ys ++ y ∷ [])
-zip-behind R [] [] x y all last = (last, tt)
-zip-behind R [] (z ∷ ys) x y all last = absurd all
-zip-behind R (w ∷ xs) [] x y all last = absurd all
-zip-behind R (w ∷ xs) (z ∷ ys) x y (first, rest) last = (first, zip-behind R xs ys x y rest last)
 
 -- a text in pieces
 abbrev pub Text : Type 0
@@ -60,6 +54,4 @@ whole-more pieces texts text so_far =
 -- a part more after a text
 pub lines-more : (text before all : List ℕ) (parts : List Part) (part : Part) → all ≡ before ++ part_lines part → before ≡ text ++ flat_map part_lines parts
     → all ≡ text ++ flat_map part_lines (parts ++ part ∷ [])
-lines-more text before all parts part is was =
-    more _ _ _ (part_lines part) is was ∙ append_assoc text (flat_map part_lines parts) (part_lines part)
-    ∙ ap (λ (y : List ℕ). text ++ y) (sym (flat_map-append part_lines parts (part ∷ []) ∙ ap (λ (y : List ℕ). flat_map part_lines parts ++ y) (append-nil (part_lines part))))
+lines-more text before all parts part is was = more _ _ _ (part_lines part) is was ∙ flat_map_more part_lines text parts part

@@ -8,6 +8,7 @@ pub mod Entries
 pub mod Journals
 pub mod Written
 pub mod Fronts
+mod GrowLaws
 mod Whole
 mod Joined
 mod Listed

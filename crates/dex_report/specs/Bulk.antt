@@ -1,5 +1,5 @@
 -- The summary of a large run.
-use Rattle.std.specs.Prelude.{◌≡◌, ℕ, not, List, [], ◌∷◌, ◌++◌, length, map, codes, count_by}
+use Rattle.std.specs.Prelude.{◌≡◌, ◌+◌, ℕ, not, List, [], ◌∷◌, ◌++◌, length, map, codes, count_by}
 use Rattle.std.specs.Fmt.{decimal}
 use Rattle.std.specs.List.{All, flat_map, sum_by}
 use Rattle.dex_types.specs.declared.addresses.Address.{Address}
@@ -11,6 +11,7 @@ use Rattle.dex_accounts.specs.Accepted.{IsAccepted}
 use Rattle.dex_accounts.specs.Decoded.{market_in}
 use Rattle.dex_history.specs.Journal.{is_refusal}
 use Rattle.dex_report.specs.declared.bulk.BookCounts.{BookCounts}
+use Rattle.dex_report.specs.declared.bulk.Counts.{Counts}
 use Rattle.dex_report.specs.declared.bulk.MarketFunds.{MarketFunds}
 use Rattle.dex_report.specs.declared.bulk.MarketSummary.{MarketSummary}
 use Rattle.dex_report.specs.Lines.{line}
@@ -48,14 +49,28 @@ summary_line s = line (codes "market" ++ spaced (address_text s.address) ++ spac
 abbrev pub market_line : PlainMarketAccounts → List ℕ
 market_line accounts = summary_line (summary_of (market_in accounts))
 
--- the summary of an outcome: the number and the rows of the script, how many instructions were accepted and refused,
--- and each market
-abbrev pub bulk_text : ℕ → ℕ → PlainOutcome → List ℕ
-bulk_text number rows outcome =
+-- a count, and further entries counted too
+abbrev pub counts_with : Counts → List PlainMarketJournal → Counts
+counts_with counts journals = record {
+  accepted = counts.accepted + sum_by accepted_in journals;
+  refused = counts.refused + sum_by refused_in journals;
+}
+
+-- how many instructions of an outcome were accepted, and how many refused
+abbrev pub counts_of : PlainOutcome → Counts
+counts_of outcome = record { accepted = sum_by accepted_in outcome.markets; refused = sum_by refused_in outcome.markets }
+
+-- the summary: the number and the rows of the script, how many instructions were accepted and refused, and each market
+abbrev pub summary_text : ℕ → ℕ → Counts → List PlainMarketAccounts → List ℕ
+summary_text number rows counts markets =
     line (codes "bulk" ++ spaced (decimal number) ++ spaced (decimal rows))
-    ++ line (codes "accepted" ++ spaced (decimal (sum_by accepted_in outcome.markets)))
-    ++ line (codes "refused" ++ spaced (decimal (sum_by refused_in outcome.markets)))
-    ++ flat_map market_line outcome.accounts.markets
+    ++ line (codes "accepted" ++ spaced (decimal counts.accepted))
+    ++ line (codes "refused" ++ spaced (decimal counts.refused))
+    ++ flat_map market_line markets
+
+-- the summary of an outcome
+abbrev pub bulk_text : ℕ → ℕ → PlainOutcome → List ℕ
+bulk_text number rows outcome = summary_text number rows (counts_of outcome) outcome.accounts.markets
 
 -- the addresses of a made script's markets
 abbrev pub made_markets : List Address

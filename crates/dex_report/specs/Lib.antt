@@ -7,3 +7,4 @@ pub mod MadeSetup
 pub mod Made
 pub mod Bulk
 pub mod Parts
+pub mod Growing

@@ -1,10 +1,10 @@
 //! The summary of a large run.
 
-ghost use Rattle.std.specs.Prelude.{◌≡◌, ◌+◌, ◌≤◌, ◌++◌, IfOk, OnOk, Some, count_by, length, map, not};
-ghost use Rattle.std.specs.List.{All, flat_map, sum_by};
+ghost use Rattle.std.specs.Prelude.{◌≡◌, ◌+◌, ◌++◌, IfOk, OnOk, Some, count_by, length, map, not};
+ghost use Rattle.std.specs.List.{All, flat_map};
 ghost use Rattle.std.specs.String.{string_bytes};
 ghost use Rattle.dex_types.specs.declared.movements.Entry.{Entry};
-ghost use Rattle.dex_types.specs.Accounts.{market_accounts_of};
+ghost use Rattle.dex_types.specs.Accounts.{accounts_of, market_accounts_of};
 ghost use Rattle.dex_accounts.specs.Accepted.{IsAccepted};
 ghost use Rattle.dex_accounts.specs.Decoded.{market_in};
 ghost use Rattle.dex_history.specs.Journal.{is_refusal};
@@ -20,7 +20,7 @@ use dex_ring::RingRef;
 use dex_slab::SlabRef;
 use dex_state::{MarketJournal, Outcome};
 use dex_token::WalletRef;
-use dex_types::{Address, Entry, MarketAccounts, NoMemory, Reply, Side, SideRead};
+use dex_types::{Accounts, Address, Entry, MarketAccounts, NoMemory, Reply, Side, SideRead};
 use std::alloc::{AllocError, Global};
 use std::fmt;
 use std::fmt::Write;
@@ -37,43 +37,67 @@ pub fn bulk_text(
     requires { summaries.IsOfMade (outcome_of outcome.now) }
     ensures { IfOk result (λ text. text.items ≡ summaries.bulk_text number rows (outcome_of outcome.now)) }
 {
-    match summary(alloc, number, rows, outcome) {
-        Ok(text) => Ok(text.into_bytes()),
-        Err(_) => Err(NoMemory),
-    }
+    let mut counts = Counts {
+        accepted: 0,
+        refused: 0,
+    };
+    counts.take(&outcome.markets)?;
+    summary_text(alloc, number, rows, counts, &outcome.accounts)
 }
 
-fn summary(alloc: Global, number: u64, rows: u32, outcome: &Outcome) -> Result<String, AllocError>
-    requires { summaries.IsOfMade (outcome_of outcome.now) }
-    ensures { IfOk result (λ text. string_bytes text ≡ summaries.bulk_text number rows (outcome_of outcome.now)) }
+/// The summary of a script of this number with this many rows, of which so many instructions were accepted and refused,
+/// and of the last accounts.
+pub fn summary_text(
+    alloc: Global,
+    number: u64,
+    rows: u32,
+    counts: Counts,
+    accounts: &Accounts,
+) -> Result<Vec<u8>, NoMemory>
+    requires { All IsAccepted (accounts_of accounts.now).markets }
+    ensures { IfOk result (λ text. text.items
+        ≡ summaries.summary_text number rows counts (accounts_of accounts.now).markets) }
 {
+    let Counts { accepted, refused } = counts;
     let mut text = String::new(alloc);
-    let (accepted, refused) = totals(&outcome.markets);
     write!(
         text,
         "bulk {number} {rows}\naccepted {accepted}\nrefused {refused}\n"
     )?;
-    write_markets(&mut text, &outcome.accounts.markets)?;
-    Ok(text)
+    write_markets(&mut text, &accounts.markets)?;
+    Ok(text.into_bytes())
 }
 
-/// How many instructions were accepted, and how many refused, on two markets.
-fn totals(journals: &[MarketJournal]) -> (u64, u64)
-    requires { length journals.now ≡ 2 }
-    ensures accepted { result.0 ≡ sum_by summaries.accepted_in (map market_journal_of journals.now) }
-    ensures refused { result.1 ≡ sum_by summaries.refused_in (map market_journal_of journals.now) }
+/// How many instructions were accepted, and how many refused.
+#[derive(Clone, Copy, Debug)]
+pub struct Counts {
+    pub accepted: u64,
+    pub refused: u64,
+}
+
+impl Counts {
+    /// Counts the entries of these journals too.
+    pub fn take(&mut self, journals: &[MarketJournal]) -> Result<(), NoMemory>
+        ensures { OnOk result (self.new
+            ≡ summaries.counts_with self.old (map market_journal_of journals.now)) }
+    {
+        for journal in journals {
+            self.accepted = with(self.accepted, accepted(&journal.entries))?;
+            self.refused = with(self.refused, refused(&journal.entries))?;
+        }
+        Ok(())
+    }
+}
+
+/// Both together. No memory would hold as many entries as are too many.
+fn with(count: u64, more: u64) -> Result<u64, NoMemory>
+    ensures { IfOk result (λ sum. sum ≡ count + more) }
 {
-    let first = &journals[0].entries;
-    let second = &journals[1].entries;
-    (
-        accepted(first) + accepted(second),
-        refused(first) + refused(second),
-    )
+    count.checked_add(more).ok_or(NoMemory)
 }
 
 fn accepted(entries: &[Entry]) -> u64
-    ensures count { result ≡ count_by (λ (entry : Entry). not (is_refusal entry.reply)) entries.now }
-    ensures within { result ≤ length entries.now }
+    ensures { result ≡ count_by (λ (entry : Entry). not (is_refusal entry.reply)) entries.now }
 {
     entries
         .iter()
@@ -82,8 +106,7 @@ fn accepted(entries: &[Entry]) -> u64
 }
 
 fn refused(entries: &[Entry]) -> u64
-    ensures count { result ≡ count_by (λ (entry : Entry). is_refusal entry.reply) entries.now }
-    ensures within { result ≤ length entries.now }
+    ensures { result ≡ count_by (λ (entry : Entry). is_refusal entry.reply) entries.now }
 {
     entries
         .iter()

@@ -3,6 +3,7 @@
 
 mod bulk;
 mod fitting;
+mod growing;
 mod laws;
 mod lines;
 mod made;
@@ -14,10 +15,11 @@ mod report;
 mod told;
 mod writing;
 
-pub use bulk::bulk_text;
+pub use bulk::{Counts, bulk_text, summary_text};
 pub use dex_state::{MarketJournal, Outcome, WalletJournal};
+pub use growing::{JournalText, JournalTexts};
 pub use laws::{movements_stand_from_the_front, one_reading, what_fits_is_told};
 pub use lines::{LINE, write_entry, write_head};
 pub use made::make_script;
-pub use pieces::{into_report_pieces, report_pieces};
+pub use pieces::report_pieces;
 pub use report::report_text;

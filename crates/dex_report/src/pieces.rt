@@ -11,7 +11,7 @@ ghost use Rattle.dex_report.specs.declared.part.Part.TheVariants as part;
 
 use crate::lines::write_head;
 use crate::part::Part;
-use crate::writing::{text_of, texts_of};
+use crate::writing::texts_of;
 use dex_dump::{Piece, write_front};
 use dex_state::{MarketJournal, Outcome};
 use dex_types::{MarketAccounts, NoMemory, Row};
@@ -19,37 +19,12 @@ use std::alloc::{AllocError, Global};
 use std::marker::Sync;
 use std::thread::Threads;
 
-/// The report of an outcome of this many rows, in pieces that follow each other. The outcome is given up: each journal
-/// and each market's accounts are let go when they are written, so that they and their lines are not there together. Of
-/// zeros of large accounts nothing is in memory. All values that it tells fit: addresses 32 bytes, amounts of movements
-/// 64 bits, and numbers of replies 128.
-pub fn into_report_pieces(
-    alloc: Global,
-    outcome: Outcome,
-    rows: u32,
-) -> Result<Vec<Piece>, NoMemory>
-    ensures fits { IfOk result (λ pieces. FitOutcome (outcome_of outcome)) }
-    ensures text { IfOk result (λ pieces.
-        flat_map piece_text pieces.items ≡ report_text (outcome_of outcome) rows) }
-{
-    match pieces_of(alloc, outcome, rows) {
-        Ok(pieces) => Ok(pieces),
-        Err(_) => Err(NoMemory),
-    }
-}
-
-fn pieces_of(alloc: Global, outcome: Outcome, rows: u32) -> Result<Vec<Piece>, AllocError>
-    ensures fits { IfOk result (λ pieces. FitOutcome (outcome_of outcome)) }
-    ensures text { IfOk result (λ pieces.
-        flat_map piece_text pieces.items ≡ report_text (outcome_of outcome) rows) }
-{
-    let parts = parts_of(alloc, outcome, rows, Vec::new(alloc))?;
-    text_of(alloc, parts)
-}
-
-/// Like `pieces_of`, written on threads of their own: each market's journal, the journals of all wallets and each
-/// market's accounts, small ones together. What is spent is let go beside them: pieces of rows, of which nothing is
-/// told.
+/// The report of an outcome of this many rows, in pieces that follow each other, written on threads of their own: each
+/// market's journal, the journals of all wallets and each market's accounts, small ones together. The outcome is given
+/// up: each journal and each market's accounts are let go when they are written, so that they and their lines are not
+/// there together, and beside them what is spent: pieces of rows, of which nothing is told. Of zeros of large accounts
+/// nothing is in memory. All values that it tells fit: addresses 32 bytes, amounts of movements 64 bits, and numbers of
+/// replies 128.
 pub fn report_pieces<R: Threads + Sync>(
     rt: &R,
     alloc: Global,

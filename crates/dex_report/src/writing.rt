@@ -54,22 +54,39 @@ fn take_parts(alloc: Global, text: &mut Pieces, parts: Vec<Part>) -> Result<(), 
 {
     let mut line = [0; LINE];
     for part in parts {
-        make_room(alloc, text, part.room())?;
+        let room = part.room();
+        make_room(alloc, text, room, room)?;
         take_part(text, &mut line, part)?;
     }
     Ok(())
 }
 
-/// Begins a piece with so much room, where the last has less left: a text that grows is copied, and a new piece may
-/// stand where rows and journals lay.
-fn make_room(alloc: Global, text: &mut Pieces, room: usize) -> Result<(), AllocError>
+/// Begins a piece of this room, where the last has less left than what is needed: a text that grows is copied, and a
+/// new piece may stand where rows and journals lay.
+pub(crate) fn make_room(
+    alloc: Global,
+    text: &mut Pieces,
+    needed: usize,
+    room: usize,
+) -> Result<(), AllocError>
     ensures { OnOk result (text_in text.new ≡ text_in text.old) }
 {
-    if room <= text.last.capacity() - text.last.len() {
+    if needed <= text.last.capacity() - text.last.len() {
         return Ok(());
     }
+    begin_piece(alloc, text, room)
+}
+
+/// Begins a piece of this room.
+pub(crate) fn begin_piece(alloc: Global, text: &mut Pieces, room: usize) -> Result<(), AllocError>
+    ensures text { OnOk result (text_in text.new ≡ text_in text.old) }
+    ensures last { OnOk result (text.new.last.items ≡ []) }
+{
     let next = Vec::with_capacity(alloc, room)?;
     let last = mem::replace(&mut text.last, next);
+    if last.is_empty() {
+        return Ok(());
+    }
     text.done.push(Piece::Bytes(last))?;
     Ok(())
 }

@@ -2,7 +2,7 @@ use Rattle.dex_answers.specs.Answers.{IsNoScript}
 use Rattle.dex_answers.specs.declared.status.Status.TheVariants as status
 use Rattle.dex_answers.proofs.AnswerLaws.{found-some}
 use Rattle.dex_answers.proofs.TextLaws.{says}
-use Rattle.dex_answers.proofs.played.no_script.Goals as goal
+use Rattle.dex_answers.proofs.refused.no_script.Goals as goal
 use Rattle.dex_refusal_lines.specs.Lines as lines
 use Rattle.std.proofs.Common.{refl}
 

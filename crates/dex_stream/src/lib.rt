@@ -1,0 +1,9 @@
+//! Scripts played part by part: some rows are read, act, and are heard, and then the next. So no more than a part of a
+//! script's rows, and of what they leave in journals, is in memory.
+#![tactic(auto)]
+
+mod listener;
+mod playing;
+
+pub use listener::Listener;
+pub use playing::{Played, play};
