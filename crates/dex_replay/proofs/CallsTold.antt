@@ -116,10 +116,7 @@ all-told : (script : PlainScript) → IsScript script → (starts lasts : List P
 all-told script facts [] [] [] all = tt
 all-told script facts (first ∷ starts) (last ∷ lasts) (journal ∷ journals) all =
     (history-told script facts first last journal all.0, all-told script facts starts lasts journals all.1)
-all-told script facts [] [] (journal ∷ journals) all = absurd all
-all-told script facts [] (last ∷ lasts) journals all = absurd all
-all-told script facts (first ∷ starts) [] journals all = absurd all
-all-told script facts (first ∷ starts) (last ∷ lasts) [] all = absurd all
+all-told script facts _ _ _ all = absurd all
 
 pub outcome-told : (script : PlainScript) → IsScript script → (outcome : PlainOutcome) → IsLawful script outcome
     → AllThree (TellsHistory script) script.start.markets outcome.accounts.markets outcome.markets

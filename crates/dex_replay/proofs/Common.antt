@@ -2,11 +2,11 @@
 pub use Rattle.dex_accounts.specs.Accepted.{IsAccepted}
 pub use Rattle.dex_accounts.specs.Decoded.{AreSound, market_in}
 pub use Rattle.dex_accounts.specs.StandsFor.{StandsFor}
-pub use Rattle.dex_act.specs.Wallets.{Fits, SeesCells, is_among, made_of, roles_of, states_acted, wallet_state_of}
+pub use Rattle.dex_act.specs.Wallets.{is_among, roles_of, wallet_state_of}
 pub use Rattle.dex_bank.specs.Cells.{AreCells, CanAct, CellsState, is_market, market_state_of, opened_of, world_of}
 pub use Rattle.dex_bank.specs.Closed.{account_in, closed, market_journal_in, wallet_journal_in}
 pub use Rattle.dex_bank.specs.Opened.{market_opened, opened, rows_naming, rows_on, wallet_opened}
-pub use Rattle.dex_cell.specs.CellState.{IsMarketCell, MarketCellState, call_on, entries_of, step_on}
+pub use Rattle.dex_cell.specs.CellState.{IsMarketCell, MarketCellState, entries_of}
 pub use Rattle.dex_state.specs.Addresses.{address_of, addresses_of, all_of_market}
 pub use Rattle.dex_state.specs.Accepted.{AreAccepted}
 pub use Rattle.dex_market.specs.MarketAccount.{market_words}

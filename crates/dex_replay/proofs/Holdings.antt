@@ -42,8 +42,7 @@ when-none true amount none = none
 when-none false amount none = refl
 
 when-both : (test : Bool) (x y : ℕ) → cond test (x + y) 0 ≡ cond test x 0 + cond test y 0
-when-both true x y = refl
-when-both false x y = refl
+when-both test x y = grind arith
 
 -- ---- what moves under a role, at the wallets of a mint
 

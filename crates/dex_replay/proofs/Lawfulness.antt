@@ -72,12 +72,11 @@ module _ (script : PlainScript) (all : List RowReply) (lanes : (number : ℕ) �
     lawful-market first last journal state are.0 stand.0 (head-same same),
     all-markets firsts lasts journals states are.1 stand.1 (tail-same same),
   )
-  all-markets [] lasts journals (state ∷ states) are stand same = absurd are
-  all-markets (first ∷ firsts) lasts journals [] are stand same = absurd are
   all-markets firsts [] journals (state ∷ states) are stand same = absurd stand
   all-markets firsts (last ∷ lasts) journals [] are stand same = absurd stand
   all-markets firsts lasts [] (state ∷ states) are stand same = absurd (cc)
   all-markets firsts lasts (journal ∷ journals) [] are stand same = absurd (cc)
+  all-markets _ lasts journals _ are stand same = absurd are
 
   all-wallets : (firsts : List PlainAccount) (journals : List PlainWalletJournal) (states : List WalletState) → AllZip (IsMoved all) firsts states
       → map (λ (journal : PlainWalletJournal). journal.entries) journals ≡ map (λ (state : WalletState). state.entries) states
@@ -85,10 +84,9 @@ module _ (script : PlainScript) (all : List RowReply) (lanes : (number : ℕ) �
   all-wallets [] [] [] are same = tt
   all-wallets (first ∷ firsts) (journal ∷ journals) (state ∷ states) are same =
       (lawful-wallet first journal state are.0 (head-same same), all-wallets firsts journals states are.1 (tail-same same))
-  all-wallets [] journals (state ∷ states) are same = absurd are
-  all-wallets (first ∷ firsts) journals [] are same = absurd are
   all-wallets firsts [] (state ∷ states) are same = absurd (cc)
   all-wallets firsts (journal ∷ journals) [] are same = absurd (cc)
+  all-wallets _ journals _ are same = absurd are
 
 -- ---- all of it
 

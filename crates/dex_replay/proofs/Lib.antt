@@ -22,4 +22,4 @@ pub mod Starts
 mod OneReplay
 mod CallsTold
 mod Finding
-mod SightTold
+pub mod SightTold

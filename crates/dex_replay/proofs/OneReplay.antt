@@ -14,25 +14,23 @@ same-journals : (a b : List PlainMarketJournal)
     → map (λ (j : PlainMarketJournal). j.address) a ≡ map (λ (j : PlainMarketJournal). j.address) b
     → map (λ (j : PlainMarketJournal). j.entries) a ≡ map (λ (j : PlainMarketJournal). j.entries) b → a ≡ b
 same-journals [] [] addresses entries = refl
-same-journals [] (y ∷ ys) addresses entries = absurd (cc)
-same-journals (x ∷ xs) [] addresses entries = absurd (cc)
 same-journals (x ∷ xs) (y ∷ ys) addresses entries =
     let at : x.address ≡ y.address = cc addresses in
     let with : x.entries ≡ y.entries = cc entries in
     let rest = same-journals xs ys (cc addresses) (cc entries) in
     λ i. record { address = at i; entries = with i } ∷ rest i
+same-journals _ _ addresses entries = absurd (cc)
 
 same-wallet-journals : (a b : List PlainWalletJournal)
     → map (λ (j : PlainWalletJournal). j.address) a ≡ map (λ (j : PlainWalletJournal). j.address) b
     → map (λ (j : PlainWalletJournal). j.entries) a ≡ map (λ (j : PlainWalletJournal). j.entries) b → a ≡ b
 same-wallet-journals [] [] addresses entries = refl
-same-wallet-journals [] (y ∷ ys) addresses entries = absurd (cc)
-same-wallet-journals (x ∷ xs) [] addresses entries = absurd (cc)
 same-wallet-journals (x ∷ xs) (y ∷ ys) addresses entries =
     let at : x.address ≡ y.address = cc addresses in
     let with : x.entries ≡ y.entries = cc entries in
     let rest = same-wallet-journals xs ys (cc addresses) (cc entries) in
     λ i. record { address = at i; entries = with i } ∷ rest i
+same-wallet-journals _ _ addresses entries = absurd (cc)
 
 -- accounts that stand for the markets of one world stand for one market, place by place
 stand-for-one : (one other : List PlainMarketAccounts) (states : List MarketState)
@@ -41,14 +39,12 @@ stand-for-one : (one other : List PlainMarketAccounts) (states : List MarketStat
     → AllZip StandForOne one other
 stand-for-one [] [] states first second = tt
 stand-for-one [] (y ∷ ys) [] first second = absurd second
-stand-for-one [] (y ∷ ys) (state ∷ states) first second = absurd first
-stand-for-one (x ∷ xs) [] [] first second = absurd first
 stand-for-one (x ∷ xs) [] (state ∷ states) first second = absurd second
-stand-for-one (x ∷ xs) (y ∷ ys) [] first second = absurd first
 stand-for-one (x ∷ xs) (y ∷ ys) (state ∷ states) first second = (
   record { market = state.market; first = first.0; second = second.0 },
   stand-for-one xs ys states first.1 second.1,
 )
+stand-for-one _ _ _ first second = absurd first
 
 pub left-alike : (script : PlainScript) (world : World) (one other : PlainOutcome) → IsLeftIn script world one → IsLeftIn script world other
     → AreAlike one other

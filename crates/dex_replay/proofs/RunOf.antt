@@ -37,12 +37,11 @@ module _ (mint : Address) where
       → AllZip (λ (accounts : PlainMarketAccounts) (state : MarketState). StandsFor accounts state.market) all states → All IsAccepted all
       → in_vaults mint all ≡ total (λ (state : MarketState). in_market mint state.market) states
   vaults-hold [] [] stand accepted = refl
-  vaults-hold [] (state ∷ states) stand accepted = absurd stand
-  vaults-hold (accounts ∷ all) [] stand accepted = absurd stand
   vaults-hold (accounts ∷ all) (state ∷ states) stand accepted =
       let here : in_accounts mint accounts ≡ in_market mint state.market =
       accounts-hold mint accounts (All-head IsAccepted accounts all accepted) ∙ ap (in_market mint) (decoded.told accounts state.market stand.0) in
       omega (arith, here, vaults-hold all states stand.1 (All-tail IsAccepted accounts all accepted))
+  vaults-hold _ _ stand accepted = absurd stand
 
   first-vaults : (all : List PlainMarketAccounts) → All IsAccepted all → in_vaults mint all ≡ total (λ (state : MarketState). in_market mint state.market) (map market_state all)
   first-vaults [] accepted = refl
@@ -58,8 +57,6 @@ module _ (mint : Address) where
       → map (λ (account : PlainAccount). balance_of account.bytes) (with_amounts firsts states) ≡ map (λ (state : WalletState). state.seen.balance) states
       → in_wallets mint (with_amounts firsts states) ≡ total (in_wallet mint) states
   wallets-hold done [] [] are same = refl
-  wallets-hold done [] (state ∷ states) are same = absurd are
-  wallets-hold done (first ∷ firsts) [] are same = absurd are
   wallets-hold done (first ∷ firsts) (state ∷ states) are same =
       let bytes : List ℕ = with_amount first.bytes state.seen.balance in
       let balance : balance_of bytes ≡ state.seen.balance = head-same same in
@@ -68,6 +65,7 @@ module _ (mint : Address) where
       let here : amount_of mint bytes ≡ in_wallet mint state =
       ap (λ (a : Address). cond (is_same mint a) (balance_of bytes) 0) own ∙ ap (λ (n : ℕ). cond (is_same mint state.seen.mint) n 0) balance in
       omega (arith, here, wallets-hold done firsts states are.1 (tail-same same))
+  wallets-hold done _ _ are same = absurd are
 
 -- ---- the outcome
 

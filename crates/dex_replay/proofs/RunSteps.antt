@@ -38,11 +38,10 @@ market-there : (script : PlainScript) (done : List RowReply) (address : Address)
     → AllZip (IsHistory script done) firsts states
     → list_any (λ (state : MarketState). is_same address state.market.listing.address) states ≡ has_market address firsts
 market-there script done address [] [] are = refl
-market-there script done address [] (state ∷ states) are = absurd are
-market-there script done address (first ∷ firsts) [] are = absurd are
 market-there script done address (first ∷ firsts) (state ∷ states) are =
     ap (λ (a : Address). is_same address a || list_any (λ (one : MarketState). is_same address one.market.listing.address) states) (history-address script done first state are.0)
     ∙ ap (λ (b : Bool). is_same address first.address || b) (market-there script done address firsts states are.1)
+market-there script done address _ _ are = absurd are
 
 found : (address : Address) (states : List MarketState) → list_any (λ (state : MarketState). is_same address state.market.listing.address) states ≡ true
     → (m : Market) × (market_at address states ≡ Some m)
@@ -101,8 +100,6 @@ module _ (script : PlainScript) (done : List RowReply) (row : PlainRow) (bytes :
   all-idle : (firsts : List PlainMarketAccounts) (states : List MarketState) → AllZip (IsHistory script done) firsts states
       → times row.market (map (λ (accounts : PlainMarketAccounts). accounts.address) firsts) ≤ 0 → AllZip (IsHistory script (done ++ new ∷ [])) firsts states
   all-idle [] [] are none = tt
-  all-idle [] (state ∷ states) are none = absurd are
-  all-idle (first ∷ firsts) [] are none = absurd are
   all-idle (first ∷ firsts) (state ∷ states) are none =
       let one : Address → ℕ = λ (a : Address). cond (is_same row.market a) 1 0 in
       let sum = sum_by-cons one first.address (map (λ (accounts : PlainMarketAccounts). accounts.address) firsts) in
@@ -111,13 +108,12 @@ module _ (script : PlainScript) (done : List RowReply) (row : PlainRow) (bytes :
       no : (b : Bool) → cond b 1 0 ≤ 0 → b ≡ false
       no true none = absurd (omega (arith, none))
       no false none = refl
+  all-idle _ _ are none = absurd are
 
   pub markets-run : (firsts : List PlainMarketAccounts) (states : List MarketState) → AllZip (IsHistory script done) firsts states
       → times row.market (map (λ (accounts : PlainMarketAccounts). accounts.address) firsts) ≤ 1 → market_at row.market states ≡ Some m
       → AllZip (IsHistory script (done ++ new ∷ [])) firsts (markets_acted (doing row bytes) seen states)
   markets-run [] [] are once at = tt
-  markets-run [] (state ∷ states) are once at = absurd are
-  markets-run (first ∷ firsts) [] are once at = absurd are
   markets-run (first ∷ firsts) (state ∷ states) are once at =
       let one : Address → ℕ = λ (a : Address). cond (is_same row.market a) 1 0 in
       let sum = sum_by-cons one first.address (map (λ (accounts : PlainMarketAccounts). accounts.address) firsts) in
@@ -136,6 +132,7 @@ module _ (script : PlainScript) (done : List RowReply) (row : PlainRow) (bytes :
         markets-run firsts states are.1 (omega (arith, once, sum))
             (sym (cond-false (is_same row.market state.market.listing.address) (Some state.market) (market_at row.market states) apart) ∙ at),
       ))
+  markets-run _ _ are once at = absurd are
 
   -- ---- wallets
 
@@ -176,12 +173,11 @@ module _ (script : PlainScript) (done : List RowReply) (row : PlainRow) (bytes :
   pub wallets-run : (t : Transfers) (firsts : List PlainAccount) (states : List WalletState) → AllZip (IsMoved done) firsts states → All (FitsIn t) states
       → AllZip (IsMoved (done ++ new ∷ [])) firsts (map (wallet_acted row seen t) states)
   wallets-run t [] [] are can = tt
-  wallets-run t [] (state ∷ states) are can = absurd are
-  wallets-run t (first ∷ firsts) [] are can = absurd are
   wallets-run t (first ∷ firsts) (state ∷ states) are can = (
     wallet-run t first state (All-head (FitsIn t) state states can) are.0,
     wallets-run t firsts states are.1 (All-tail (FitsIn t) state states can),
   )
+  wallets-run t _ _ are can = absurd are
 
 -- ---- movements
 
@@ -292,8 +288,6 @@ module _ (script : PlainScript) (start : IsStart script.limits script.start) (do
   sound-at : (address : Address) (m : Market) (firsts : List PlainMarketAccounts) (states : List MarketState) → AllZip (IsHistory script done) firsts states
       → All AreSound firsts → market_at address states ≡ Some m → IsSound m
   sound-at address m [] [] are sound at = absurd (cc)
-  sound-at address m [] (state ∷ states) are sound at = absurd are
-  sound-at address m (first ∷ firsts) [] are sound at = absurd are
   sound-at address m (first ∷ firsts) (state ∷ states) are sound at =
       ⊎_elim
       (λ (same : is_same address state.market.listing.address ≡ true).
@@ -304,6 +298,7 @@ module _ (script : PlainScript) (start : IsStart script.limits script.start) (do
       sound-at address m firsts states are.1 (All-tail AreSound first firsts sound)
       (sym (cond-false (is_same address state.market.listing.address) (Some state.market) (market_at address states) apart) ∙ at))
       (cases_Bool (is_same address state.market.listing.address))
+  sound-at address m _ _ are sound at = absurd are
 
   module _ (row : PlainRow) (fits : IsRowOf script.start row) where
     -- the row's market, and what it sees

@@ -98,17 +98,14 @@ module _ (script : PlainScript) (done : List RowReply) where
   pub still-there : (address : Address) (firsts : List PlainAccount) (states : List WalletState) → AllZip (IsMoved done) firsts states
       → list_any (λ (state : WalletState). is_same address state.seen.address) states ≡ has_account address firsts
   still-there address [] [] are = refl
-  still-there address [] (state ∷ states) are = absurd are
-  still-there address (first ∷ firsts) [] are = absurd are
   still-there address (first ∷ firsts) (state ∷ states) are =
       ap (λ (a : Address). is_same address a || list_any (λ (one : WalletState). is_same address one.seen.address) states) are.0.address
       ∙ ap (λ (b : Bool). is_same address first.address || b) (still-there address firsts states are.1)
+  still-there address _ _ are = absurd are
 
   sight-of : (address : Address) (firsts : List PlainAccount) (states : List WalletState) → AllZip (IsMoved done) firsts states
       → IsWalletSeen firsts (wallet_at address states)
   sight-of address [] [] are = tt
-  sight-of address [] (state ∷ states) are = absurd are
-  sight-of address (first ∷ firsts) [] are = absurd are
   sight-of address (first ∷ firsts) (state ∷ states) are =
       cond_both (is_same address state.seen.address) (Some state.seen) (wallet_at address states) (IsWalletSeen (first ∷ firsts))
       (λ same. any-here _ first firsts (seen-by state.seen are.0.address are.0.mint are.0.owner))
@@ -124,6 +121,7 @@ module _ (script : PlainScript) (done : List RowReply) where
       later : (role : Option WalletSeen) → IsWalletSeen firsts role → IsWalletSeen (first ∷ firsts) role
       later None is = tt
       later (Some seen) is = any-there _ first firsts is
+  sight-of address _ _ are = absurd are
 
   module _ (world : World) (run : IsRun script done world) where
     here : (address : Address) → has_account address script.start.wallets ≡ true

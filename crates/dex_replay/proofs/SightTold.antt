@@ -54,21 +54,21 @@ module _ (seen : Seen) (t : Transfers) (address : Address) where
 -- ---- the balance that is seen, of the wallet of a role
 
 -- a wallet that a role sees, and with which all roles are one
-record IsRole (seen : Seen) (wallet : WalletSeen) : Type 0 where
-  one : AreOneWith wallet (roles_of seen)
-  there : IsIn wallet (roles_of seen)
+pub record IsRole (seen : Seen) (wallet : WalletSeen) : Type 0 where
+  pub one : AreOneWith wallet (roles_of seen)
+  pub there : IsIn wallet (roles_of seen)
 
 module _ (asked : Asked) (seen : Seen) (sees : Sees asked seen) (wallet : WalletSeen) where
-  coin-role : seen.coin ≡ Some wallet → IsRole seen wallet
+  pub coin-role : seen.coin ≡ Some wallet → IsRole seen wallet
   coin-role is = record { one = coin-one asked seen wallet sees is; there = inl is }
 
-  pc-role : seen.pc ≡ Some wallet → IsRole seen wallet
+  pub pc-role : seen.pc ≡ Some wallet → IsRole seen wallet
   pc-role is = record { one = pc-one asked seen wallet sees is; there = inr (inl is) }
 
-  referrer-role : seen.referrer ≡ Some wallet → IsRole seen wallet
+  pub referrer-role : seen.referrer ≡ Some wallet → IsRole seen wallet
   referrer-role is = record { one = referrer-one asked seen wallet sees is; there = inr (inr (inr (inl is))) }
 
-  discount-role : seen.discount ≡ Some wallet → IsRole seen wallet
+  pub discount-role : seen.discount ≡ Some wallet → IsRole seen wallet
   discount-role is = record {
     one = (
       agree-one_back wallet seen.coin (subst (λ role. Agree seen.coin role) is sees.coin_discount),
@@ -83,7 +83,7 @@ module _ (asked : Asked) (seen : Seen) (sees : Sees asked seen) (wallet : Wallet
     there = inr (inr (inl is));
   }
 
-balance-in : (wallet : WalletSeen) (roles : List (Option WalletSeen)) → AreOneWith wallet roles → IsIn wallet roles → balance_in wallet.address roles ≡ wallet.balance
+pub balance-in : (wallet : WalletSeen) (roles : List (Option WalletSeen)) → AreOneWith wallet roles → IsIn wallet roles → balance_in wallet.address roles ≡ wallet.balance
 balance-in wallet [] one here = absurd here
 balance-in wallet (None ∷ roles) one (inl is) = absurd (cc)
 balance-in wallet (None ∷ roles) one (inr later) = balance-in wallet roles one.1 later
@@ -103,7 +103,7 @@ balance-in wallet (Some first ∷ roles) one here =
         (subst (λ (w : WalletSeen). is_same wallet.address w.address ≡ true) (sym (same_Some first wallet is)) (is_same-refl wallet.address)))
     later apart (inr there) = there
 
-hit-in : (wallet : WalletSeen) (roles : List (Option WalletSeen)) → IsIn wallet roles → any_hit wallet.address roles ≡ true
+pub hit-in : (wallet : WalletSeen) (roles : List (Option WalletSeen)) → IsIn wallet roles → any_hit wallet.address roles ≡ true
 hit-in wallet [] here = absurd here
 hit-in wallet (role ∷ roles) (inl is) =
     or_left (hits wallet.address role) (any_hit wallet.address roles) (ap (hits wallet.address) is ∙ is_same-refl wallet.address)

@@ -94,8 +94,4 @@ never-held script outcome single lawful k d within =
     All-unmap (IsAllOrNone outcome.markets) alone rows (subst (All (IsAllOrNone outcome.markets)) (lane-single script single lane) (lawful.items lane)) in
     unfilter Own (λ (row : PlainRow). eqb row.lane lane) script.rows
     (All-weaker (λ (row : PlainRow). IsAllOrNone outcome.markets (alone row)) Own
-    (λ row is. is 0 row (omega arith) ∙ none (is_answered is_refusal outcome.markets row)) rows alone_so) k d within (eq-eqb lane lane refl)
-  where
-    none : (b : Bool) → ((b || false) && not b) ≡ false
-    none true = refl
-    none false = refl
+    (λ row is. is 0 row (omega arith) ∙ grind arith) rows alone_so) k d within (eq-eqb lane lane refl)

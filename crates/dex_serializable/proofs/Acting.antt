@@ -1,6 +1,6 @@
 -- An item leaves the world after its calls: each of its rows is refused in the world before it just where its call was,
 -- so all act, or each that is not refused is held back.
-use Rattle.std.proofs.Common.{◌≡◌, ◌&&◌, ◌||◌, not, Bool, true, false, cond, List, [], ◌∷◌, ◌++◌, get_or, map, Option, is_some, refl, sym, ap, ◌∙◌, subst, ⊎_elim}
+use Rattle.std.proofs.Common.{◌≡◌, ◌&&◌, ◌||◌, not, Bool, true, false, cond, List, [], ◌∷◌, ◌++◌, get_or, map, Option, is_some, refl, sym, ap, ◌∙◌, subst, ⊎_elim, arith}
 use Rattle.dex_world.proofs.Common.{All-append, All-cons, All-head, All-map, All-nil, All-tail, Asked, Call, EachApart, Market, PlainRow, Seen, ShareNothing, World, act, act_item, cases_Bool, chosen, cond-false, cond-true, cond_both, flat_map, fold, fold_items, idle_row, is_held, is_refused, list_any, why, why-far, why_in, why_on}
 use Rattle.dex_replay.proofs.Common.{PlainScript}
 use Rattle.dex_serializable.proofs.Common.{All-unmap, IsAsOthers, Stamped, map-agree, map-map}
@@ -94,12 +94,11 @@ module _ (script : PlainScript) (made : List (Stamped Call)) (once : AreOnce scr
     held-same : any ≡ true → (one : Item script) → IsToldRight one → IsAsOthers (map call_in items) one.call → held_in (world_front script made) one.row ≡ acted_in one
     held-same some one told alike =
         ap (λ (b : Bool). cond b one.row (idle_row one.row)) told
-        ∙ either (is_refused one.call.item)
+        ∙ not-cond (is_refused one.call.item)
         ∙ sym (ap (λ (b : Bool). cond b (idle_row one.row) one.row) (alike ∙ ap (λ (b : Bool). b && not (is_refused one.call.item)) some))
       where
-        either : (b : Bool) → cond b one.row (idle_row one.row) ≡ cond (not b) (idle_row one.row) one.row
-        either true = refl
-        either false = refl
+        not-cond : (b : Bool) → cond b one.row (idle_row one.row) ≡ cond (not b) (idle_row one.row) one.row
+        not-cond b = grind arith
 
     own-same : any ≡ false → (one : Item script) → IsAsOthers (map call_in items) one.call → one.row ≡ acted_in one
     own-same none one alike = sym (ap (λ (b : Bool). cond b (idle_row one.row) one.row) (alike ∙ ap (λ (b : Bool). b && not (is_refused one.call.item)) none))

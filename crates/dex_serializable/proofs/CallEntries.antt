@@ -1,5 +1,5 @@
 -- The entries that the call of a row makes: one in the journal of each wallet that the row names.
-use Rattle.std.proofs.Common.{◌≡◌, Bool, true, false, cond, List, [], ◌∷◌, map, refl, ap, ◌∙◌}
+use Rattle.std.proofs.Common.{◌≡◌, Bool, cond, List, [], ◌∷◌, map, ap, ◌∙◌, arith}
 use Rattle.dex_world.proofs.Common.{Address, Call, Entry, Market, Movement, PlainRow, Transfers, WalletEntry, filter, is_same, movement_of, names, places-movements, row_step, wallet_entry_by, wallet_entry_of}
 use Rattle.dex_serializable.proofs.Common.{Stamped, entries_in, entry_made, map-map}
 use Rattle.dex_history.specs.Journal.{front}
@@ -22,5 +22,4 @@ entries-made row call m acts wallet =
     ∙ either (names row wallet) (movement_of call.item.seen t wallet)
   where
     either : (b : Bool) (move : Movement) → map (wallet_entry_by row) (cond b (move ∷ []) []) ≡ cond b (wallet_entry_by row move ∷ []) []
-    either true move = refl
-    either false move = refl
+    either b move = grind arith

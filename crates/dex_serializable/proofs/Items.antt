@@ -39,8 +39,6 @@ module _ (script : PlainScript) where
   each-asked : (calls : List (Stamped Call)) (rows : List PlainRow) → map asked_in calls ≡ map asked_of rows → All Sees calls → All (IsRowOf script.start) rows
       → AllZip (IsAsked script) calls rows
   each-asked [] [] same sees fit = tt
-  each-asked [] (row ∷ rows) same sees fit = absurd (cc)
-  each-asked (call ∷ calls) [] same sees fit = absurd (cc)
   each-asked (call ∷ calls) (row ∷ rows) same sees fit = (
     record {
       asks = head-same same;
@@ -50,6 +48,7 @@ module _ (script : PlainScript) where
     each-asked calls rows (tail-same same) (All-tail Sees call calls sees)
         (All-tail (IsRowOf script.start) row rows fit),
   )
+  each-asked _ _ same sees fit = absurd (cc)
 
   abbrev zipped : (calls : List (Stamped Call)) (rows : List PlainRow) → AllZip (IsAsked script) calls rows → List (Item script)
   zipped [] rows each = []
@@ -63,9 +62,8 @@ module _ (script : PlainScript) where
 
   zipped-rows : (calls : List (Stamped Call)) (rows : List PlainRow) (each : AllZip (IsAsked script) calls rows) → map row_in (zipped calls rows each) ≡ rows
   zipped-rows [] [] each = refl
-  zipped-rows [] (row ∷ rows) each = absurd each
-  zipped-rows (call ∷ calls) [] each = absurd each
   zipped-rows (call ∷ calls) (row ∷ rows) each = ap (λ (some : List PlainRow). row ∷ some) (zipped-rows calls rows each.1)
+  zipped-rows _ _ each = absurd each
 
 -- ---- the lanes of a script
 

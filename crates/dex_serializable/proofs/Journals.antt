@@ -14,7 +14,7 @@ use Rattle.dex_serializable.proofs.Items.{Item, all_items, call_in, calls-all, s
 use Rattle.dex_serializable.proofs.Sorted.{Rises, picked-sorted, rises-from_pairs, sorted}
 use Rattle.dex_serializable.proofs.Steps.{AreLegal, IsMarketLegalAt}
 use Rattle.dex_serializable.proofs.Seeing.{IsWalletLegalAt}
-use Rattle.dex_serializable.proofs.Zipped.{zip-first}
+use Rattle.dex_world.proofs.MappedLists.{All-first}
 
 -- ---- lists
 
@@ -155,6 +155,6 @@ module _ (script : PlainScript) (all : Histories) (merged : AreMerged script all
 
   pub are-legal : AreLegal script made
   are-legal = record {
-    markets = zip-first (IsMarketMerged script all.lanes) (IsMarketLegalAt made) market-legal script.start.markets all.markets merged.markets;
-    wallets = zip-first (IsWalletMerged script all.lanes) (IsWalletLegalAt made) wallet-legal script.start.wallets all.wallets merged.wallets;
+    markets = All-first (IsMarketMerged script all.lanes) (IsMarketLegalAt made) market-legal script.start.markets all.markets merged.markets;
+    wallets = All-first (IsWalletMerged script all.lanes) (IsWalletLegalAt made) wallet-legal script.start.wallets all.wallets merged.wallets;
   }

@@ -1,12 +1,15 @@
 -- The cells that lanes leave are cells of the script.
 use Rattle.std.proofs.Common.{◌≡◌, ◌||◌, List, [], ◌∷◌, drop, get_or, length, map, refl, sym, ap, ◌∙◌, arith}
-use Rattle.dex_world.proofs.Common.{Address, All-map, AllZip, PlainAccount, PlainMarketAccounts, is_same}
+use Rattle.dex_world.proofs.Common.{Address, All-map, AllZip, PlainAccount, PlainMarketAccounts, is_same, map-id}
 use Rattle.dex_replay.proofs.Common.{AreAccepted, AreCells, CellState, CellsState, IsMarketCell, IsWalletCell, MarketCellState, PlainScript, is_among, rows_naming, rows_on, wallet_opened}
 use Rattle.dex_serializable.proofs.Common.{AreOfScript, BankMarketState, BankWalletState, Histories, IsMarketMerged, IsWalletMerged, Lane, MarketOrigin, WalletOrigin, map-map, start_account}
 use Rattle.dex_act.specs.Wallets.{AreApart}
 use Rattle.dex_bank.proofs.OpenCells.{wallets-apart}
-use Rattle.dex_world.proofs.MappedLists.{zip-map}
-use Rattle.dex_serializable.proofs.Zipped.{zip-each, zip-told}
+use Rattle.dex_world.proofs.MappedLists.{All-second, zip-map}
+
+-- where each of the second list tells its one of the first, the second list tells the first
+zip-told : {A B : Type 0} (R : A → B → Type 0) (f : B → A) → ((x : A) (y : B) → R x y → f y ≡ x) → (xs : List A) (ys : List B) → AllZip R xs ys → map f ys ≡ xs
+zip-told R f each xs ys all = zip-map R (λ x. x) f each xs ys all ∙ map-id xs
 
 -- the cells of markets
 abbrev pub market_cells : Histories → List MarketCellState
@@ -31,21 +34,19 @@ last_cells script all = record {
 among-across : (address : Address) (xs ys : List CellState) → map (λ (cell : CellState). cell.address) xs ≡ map (λ (cell : CellState). cell.address) ys
     → is_among address xs ≡ is_among address ys
 among-across address [] [] same = refl
-among-across address [] (y ∷ ys) same = absurd (omega (arith, ap length same))
-among-across address (x ∷ xs) [] same = absurd (omega (arith, ap length same))
 among-across address (x ∷ xs) (y ∷ ys) same =
     ap (λ other. is_same address other || is_among address xs) (ap (λ list. get_or list 0 address) same)
     ∙ ap (λ rest. is_same address y.address || rest) (among-across address xs ys (ap (λ list. drop 1 list) same))
+among-across address _ _ same = absurd (omega (arith, ap length same))
 
 apart-across : (xs ys : List CellState) → map (λ (cell : CellState). cell.address) xs ≡ map (λ (cell : CellState). cell.address) ys → AreApart xs → AreApart ys
 apart-across [] [] same apart = tt
-apart-across [] (y ∷ ys) same apart = absurd (omega (arith, ap length same))
-apart-across (x ∷ xs) [] same apart = absurd (omega (arith, ap length same))
 apart-across (x ∷ xs) (y ∷ ys) same apart =
     let rest : map (λ (cell : CellState). cell.address) xs ≡ map (λ (cell : CellState). cell.address) ys = ap (λ list. drop 1 list) same in (
       ap (λ address. is_among address ys) (sym (ap (λ list. get_or list 0 x.address) same)) ∙ sym (among-across x.address xs ys rest) ∙ apart.0,
       apart-across xs ys rest apart.1,
     )
+apart-across _ _ same apart = absurd (omega (arith, ap length same))
 
 pub wallets-kept : (script : PlainScript) (lanes : List Lane) (wallets : List BankWalletState) → AreAccepted script.limits script.start
     → AllZip (IsWalletMerged script lanes) script.start.wallets wallets → AreApart (map (λ (wallet : BankWalletState). wallet.cell) wallets)
@@ -83,13 +84,13 @@ module _ (script : PlainScript) (all : Histories) (markets : AllZip (IsMarketMer
         ∙ zip-told (IsMarketMerged script all.lanes) (λ (market : BankMarketState). market.cell.start) (λ first market is. ap (λ (origin : MarketOrigin). origin.start) is.origin)
         script.start.markets all.markets markets;
     market_room = All-map (λ (cell : MarketCellState). cell.room ≡ rows_on cell.start.address script.rows) (λ (market : BankMarketState). market.cell) all.markets
-        (zip-each (IsMarketMerged script all.lanes) (λ (market : BankMarketState). market.cell.room ≡ rows_on market.cell.start.address script.rows) market-room
+        (All-second (IsMarketMerged script all.lanes) (λ (market : BankMarketState). market.cell.room ≡ rows_on market.cell.start.address script.rows) market-room
         script.start.markets all.markets markets);
     wallets = map-map (λ (wallet : BankWalletState). wallet.cell) start_account all.wallets
         ∙ zip-told (IsWalletMerged script all.lanes) (λ (wallet : BankWalletState). start_account wallet.cell) (λ first wallet is. ap (λ (origin : WalletOrigin). origin.start) is.origin)
         script.start.wallets all.wallets wallets;
     wallet_room = All-map (λ (cell : CellState). cell.room ≡ rows_naming cell.address script.rows) (λ (wallet : BankWalletState). wallet.cell) all.wallets
-        (zip-each (IsWalletMerged script all.lanes) (λ (wallet : BankWalletState). wallet.cell.room ≡ rows_naming wallet.cell.address script.rows) wallet-room
+        (All-second (IsWalletMerged script all.lanes) (λ (wallet : BankWalletState). wallet.cell.room ≡ rows_naming wallet.cell.address script.rows) wallet-room
         script.start.wallets all.wallets wallets);
   }
 
@@ -98,8 +99,8 @@ module _ (script : PlainScript) (all : Histories) (markets : AllZip (IsMarketMer
   pub are-cells : AreAccepted script.limits script.start → AreCells (last_cells script all)
   are-cells accepted = record {
     markets = All-map IsMarketCell (λ (market : BankMarketState). market.cell) all.markets
-        (zip-each (IsMarketMerged script all.lanes) (λ (market : BankMarketState). IsMarketCell market.cell) (λ first market is. is.kept.cell) script.start.markets all.markets markets);
+        (All-second (IsMarketMerged script all.lanes) (λ (market : BankMarketState). IsMarketCell market.cell) (λ first market is. is.kept.cell) script.start.markets all.markets markets);
     wallets = All-map IsWalletCell (λ (wallet : BankWalletState). wallet.cell) all.wallets
-        (zip-each (IsWalletMerged script all.lanes) (λ (wallet : BankWalletState). IsWalletCell wallet.cell) (λ first wallet is. is.kept.cell) script.start.wallets all.wallets wallets);
+        (All-second (IsWalletMerged script all.lanes) (λ (wallet : BankWalletState). IsWalletCell wallet.cell) (λ first wallet is. is.kept.cell) script.start.wallets all.wallets wallets);
     apart = wallets-kept script all.lanes all.wallets accepted wallets;
   }

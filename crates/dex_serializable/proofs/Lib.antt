@@ -9,9 +9,8 @@ mod Gathered
 mod Items
 mod Journals
 pub mod LastCells
-mod Orders
+pub mod Orders
 mod Seeing
 mod Sorted
 mod Steps
 mod Turns
-mod Zipped

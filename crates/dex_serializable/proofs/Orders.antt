@@ -13,7 +13,7 @@ use Rattle.dex_serializable.proofs.Sorted.{picked-sorted, sorted, sorted-rising}
 use Rattle.dex_serializable.proofs.Turns.{IsPart, Turn, all-flat, all_turns, item_in, items_in, part, stamp_of}
 
 -- each row's lane is below the number of lanes
-lanes-below : (rows : List PlainRow) → All (λ (row : PlainRow). row.lane < lanes_of rows) rows
+pub lanes-below : (rows : List PlainRow) → All (λ (row : PlainRow). row.lane < lanes_of rows) rows
 lanes-below [] = All-nil (λ (row : PlainRow). row.lane < 1)
 lanes-below (row ∷ rows) =
     All-cons (λ (one : PlainRow). one.lane < lanes_of (row ∷ rows)) row rows (omega arith)

@@ -1,77 +1,16 @@
 -- The next row sees in the world what its call saw.
 use Rattle.std.proofs.Common.{◌≡◌, ℕ, zero, suc, ◌<◌, ◌≤◌, Bool, true, false, cond, ltb, List, [], ◌∷◌, ◌++◌, length, get_or, map, Option, Some, None, refl, sym, ap, ◌∙◌, subst, arith, ◌⊎◌, inl, inr, ⊎_elim}
-use Rattle.dex_world.proofs.Common.{Address, Agree, All-head, All-tail, Call, IsWalletLegal, IsWalletLegal-append, Market, Movement, PlainAccount, PlainRow, Seen, Sees, Transfers, WalletEntry, WalletSeen, WalletState, address_seen, asked_of, balance_after, balance_in, balance_seen, brought_to, cases_Bool, cond-false, cond-true, cond_both, is_same, is_same-refl, is_same-true, movement_by, movement_of, names, or_left, or_right, role_at, row_step, seen_by, sum_by-cons, taken_from, wallet_at, wallet_entry_by}
+use Rattle.dex_world.proofs.Common.{Address, All-head, All-tail, Call, IsWalletLegal, IsWalletLegal-append, Market, Movement, PlainAccount, PlainRow, Seen, Transfers, WalletEntry, WalletSeen, WalletState, address_seen, asked_of, balance_after, balance_seen, brought_to, cases_Bool, cond-false, cond-true, cond_both, is_same, is_same-refl, movement_by, movement_of, names, role_at, row_step, seen_by, sum_by-cons, taken_from, wallet_at, wallet_entry_by}
 use Rattle.dex_replay.proofs.Common.{IsSight, IsWalletSeen, PlainScript, address_of, balance_of, roles_of, wallet_words}
 use Rattle.dex_serializable.proofs.Common.{Stamped, entries_in}
 use Rattle.std.specs.List.{All, Any}
-use Rattle.dex_history.proofs.BalanceLaws.{IsOneWith, agree-one, agree-one_back}
-use Rattle.dex_history.proofs.MoveLaws.{AreOneWith, IsIn, coin-one, pc-one, referrer-one}
-use Rattle.dex_act.specs.Wallets.{any_hit, hits}
 use Rattle.dex_act.proofs.Sights.{named-hit}
 use Rattle.dex_state.specs.Addresses.{times}
 use Rattle.dex_stamps.specs.Stamped.{items_of}
 use Rattle.dex_serializable.proofs.Acts.{Acts}
 use Rattle.dex_serializable.proofs.CallEntries.{entries-made}
 use Rattle.dex_serializable.proofs.Fronts.{entries_at, entries_at-append, entries_at-first, wallet_front, world_front}
-
--- ---- the roles of what is seen
-
--- a wallet that one of these roles sees, and with which all of them are one
-pub record IsRole (seen : Seen) (wallet : WalletSeen) : Type 0 where
-  pub one : AreOneWith wallet (roles_of seen)
-  pub there : IsIn wallet (roles_of seen)
-
-module _ (row : PlainRow) (seen : Seen) (sees : Sees (asked_of row) seen) (wallet : WalletSeen) where
-  coin-role : seen.coin ≡ Some wallet → IsRole seen wallet
-  coin-role is = record { one = coin-one (asked_of row) seen wallet sees is; there = inl is }
-
-  pc-role : seen.pc ≡ Some wallet → IsRole seen wallet
-  pc-role is = record { one = pc-one (asked_of row) seen wallet sees is; there = inr (inl is) }
-
-  referrer-role : seen.referrer ≡ Some wallet → IsRole seen wallet
-  referrer-role is = record { one = referrer-one (asked_of row) seen wallet sees is; there = inr (inr (inr (inl is))) }
-
-  discount-role : seen.discount ≡ Some wallet → IsRole seen wallet
-  discount-role is = record {
-    one = (
-      agree-one_back wallet seen.coin (subst (λ role. Agree seen.coin role) is sees.coin_discount),
-      (
-        agree-one_back wallet seen.pc (subst (λ role. Agree seen.pc role) is sees.pc_discount),
-        (itself seen.discount is, (agree-one wallet seen.referrer (subst (λ role. Agree role seen.referrer) is sees.discount_referrer), tt)),
-      ),
-    );
-    there = inr (inr (inl is));
-  }
-    where
-      itself : (role : Option WalletSeen) → role ≡ Some wallet → IsOneWith wallet role
-      itself role is other there same = let both : Some wallet ≡ Some other = sym is ∙ there in cc
-
--- so its balance is the one that is seen, and the row names it
-balance-in : (wallet : WalletSeen) (roles : List (Option WalletSeen)) → AreOneWith wallet roles → IsIn wallet roles → balance_in wallet.address roles ≡ wallet.balance
-balance-in wallet [] one here = absurd here
-balance-in wallet (None ∷ roles) one (inl is) = absurd (cc)
-balance-in wallet (None ∷ roles) one (inr later) = balance-in wallet roles one.1 later
-balance-in wallet ((Some first) ∷ roles) one here =
-    ⊎_elim
-    (λ (same : is_same wallet.address first.address ≡ true).
-    let is : wallet ≡ first = one.0 first refl (is_same-true wallet.address first.address same) in
-    cond-true (is_same wallet.address first.address) first.balance (balance_in wallet.address roles) same ∙ sym (ap (λ (w : WalletSeen). w.balance) is))
-    (λ (apart : is_same wallet.address first.address ≡ false).
-    cond-false (is_same wallet.address first.address) first.balance (balance_in wallet.address roles) apart
-    ∙ balance-in wallet roles one.1 (later apart here))
-    (cases_Bool (is_same wallet.address first.address))
-  where
-    later : is_same wallet.address first.address ≡ false → (Some first ≡ Some wallet) ⊎ IsIn wallet roles → IsIn wallet roles
-    later apart (inl is) =
-        let one : first ≡ wallet = cc in
-        absurd (let same : is_same wallet.address first.address ≡ true = subst (λ (w : WalletSeen). is_same wallet.address w.address ≡ true) (sym one) (is_same-refl wallet.address) in cc)
-    later apart (inr there) = there
-
-pub hit-in : (wallet : WalletSeen) (roles : List (Option WalletSeen)) → IsIn wallet roles → any_hit wallet.address roles ≡ true
-hit-in wallet [] here = absurd here
-hit-in wallet (role ∷ roles) (inl is) =
-    or_left (hits wallet.address role) (any_hit wallet.address roles) (ap (hits wallet.address) is ∙ is_same-refl wallet.address)
-hit-in wallet (role ∷ roles) (inr later) = or_right (hits wallet.address role) (any_hit wallet.address roles) (hit-in wallet roles later)
+use Rattle.dex_replay.proofs.SightTold.{IsRole, balance-in, coin-role, discount-role, hit-in, pc-role, referrer-role}
 
 -- a movement was made at the balance that it states
 before-movement : (address : Address) (before taken brought : ℕ) → (movement_by address before taken brought).before ≡ before
@@ -185,12 +124,11 @@ module _ (row : PlainRow) (call : Stamped Call) (m : Market) (acts : Acts row ca
     role-found : (role : Option Address) (one : Option WalletSeen) → address_seen one ≡ role → IsWalletSeen accounts one
         → ((wallet : WalletSeen) → one ≡ Some wallet → IsRole seen wallet) → role_at role (map (wallet_front made) accounts) ≡ one
     role-found None None same is each = refl
-    role-found None (Some wallet) same is each = absurd (cc)
-    role-found (Some address) None same is each = absurd (cc)
     role-found (Some address) (Some wallet) same is each =
         let own : address ≡ wallet.address = cc in
         ap (λ (a : Address). wallet_at a (map (wallet_front made) accounts)) own
         ∙ wallet-found wallet (each wallet refl) accounts legal (once wallet.address) is
+    role-found _ _ same is each = absurd (cc)
 
   -- all that it saw
   pub next-sees : (script : PlainScript) → All (IsWalletLegalAt (made ++ call ∷ later)) script.start.wallets
@@ -199,10 +137,10 @@ module _ (row : PlainRow) (call : Stamped Call) (m : Market) (acts : Acts row ca
   next-sees script legal once sight =
       let wallets : List WalletState = map (wallet_front made) script.start.wallets in
       let found = role-found script.start.wallets legal once in
-      let coin : role_at row.coin wallets ≡ seen.coin = found row.coin seen.coin acts.sees.coin sight.coin (coin-role row seen acts.sees) in
-      let pc : role_at row.pc wallets ≡ seen.pc = found row.pc seen.pc acts.sees.pc sight.pc (pc-role row seen acts.sees) in
-      let discount : role_at row.discount wallets ≡ seen.discount = found row.discount seen.discount acts.sees.discount sight.discount (discount-role row seen acts.sees) in
-      let referrer : role_at row.referrer wallets ≡ seen.referrer = found row.referrer seen.referrer acts.sees.referrer sight.referrer (referrer-role row seen acts.sees) in
+      let coin : role_at row.coin wallets ≡ seen.coin = found row.coin seen.coin acts.sees.coin sight.coin (coin-role (asked_of row) seen acts.sees) in
+      let pc : role_at row.pc wallets ≡ seen.pc = found row.pc seen.pc acts.sees.pc sight.pc (pc-role (asked_of row) seen acts.sees) in
+      let discount : role_at row.discount wallets ≡ seen.discount = found row.discount seen.discount acts.sees.discount sight.discount (discount-role (asked_of row) seen acts.sees) in
+      let referrer : role_at row.referrer wallets ≡ seen.referrer = found row.referrer seen.referrer acts.sees.referrer sight.referrer (referrer-role (asked_of row) seen acts.sees) in
       ap (λ (one : Option WalletSeen). record (seen_by row (world_front script made)) { coin = one }) coin
       ∙ ap (λ (one : Option WalletSeen). record (seen_by row (world_front script made)) { coin = seen.coin; pc = one }) pc
       ∙ ap (λ (one : Option WalletSeen). record (seen_by row (world_front script made)) { coin = seen.coin; pc = seen.pc; discount = one }) discount

@@ -201,8 +201,6 @@ module _ (script : PlainScript) (facts : AreRows script) where
       → map (λ (lane : Lane). lane.number) lanes ≡ range_with_len first count
       → IsPart number (filter (IsOf number) (all_turns lanes done)) (list_any (eqb number) (range_with_len first count))
   part number first zero [] done numbers = record { rises = tt; items = refl }
-  part number first (suc count) [] done numbers = absurd (cc)
-  part number first zero (lane ∷ lanes) done numbers = absurd (cc)
   part number first (suc count) (lane ∷ lanes) done numbers =
       let here : IsLaneDone script lane = All-head (IsLaneDone script) lane lanes done in
       let rest : All (IsLaneDone script) lanes = All-tail (IsLaneDone script) lane lanes done in
@@ -234,3 +232,4 @@ module _ (script : PlainScript) (facts : AreRows script) where
         items = ap (map item_in) is ∙ one.items ∙ sym (ap (λ (b : Bool). cond (b || there) (items_of (rows_of_lane number script.rows)) []) no);
       })
       (cases_Bool (eqb number first))
+  part number first _ _ done numbers = absurd (cc)
