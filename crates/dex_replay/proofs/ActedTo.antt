@@ -1,12 +1,11 @@
 -- A script's items act one after the other, until none of its rows is left.
-use Rattle.std.proofs.Common.{◌≡◌, ℕ, zero, suc, ◌+◌, ◌-◌, ◌<◌, ◌≤◌, min, true, false, eqb, List, [], ◌∷◌, ◌++◌, Option, None, Some, drop, get_or, is_some, length, map, option_copied, option_map, refl, reverse, slice_get, sym, ap, ◌∙◌, subst, arith, take, ⊎_elim}
+use Rattle.std.proofs.Common.{◌≡◌, ℕ, zero, suc, ◌+◌, ◌<◌, ◌≤◌, min, true, false, eqb, List, [], ◌∷◌, ◌++◌, Option, None, Some, drop, get_or, is_some, length, map, option_copied, option_map, refl, slice_get, sym, ap, ◌∙◌, subst, arith, ⊎_elim}
 use Rattle.dex_world.proofs.Common.{All-cons, All-head, All-nil, All-tail, All-weaker, AllPairs, AllZip-long, PlainRow, Row, World, act, act_item, alone, cases_Bool, false≢true, flat_map, flat_map-append, fold_items, length-map, members, ne_eqb, row_of, why_in}
 use Rattle.dex_replay.proofs.Common.{AreCells, AreLegs, CanAct, CellsState, IsRowOf, IsScript, PlainScript, opened, opened_of, start_world, world_of}
 use Rattle.std.specs.List.{All}
 use Rattle.std.specs.Borrow.{Bor}
-use Rattle.std.proofs.lemmas.List.{append-nil, append_assoc, drop-map, get_or-reverse, get_or_default, get_or_past, length-drop, length-reverse, reverse-append, take-append-drop}
-use Rattle.std.proofs.lemmas.Option.{slice_get-get_or, slice_get-map}
-use Rattle.std.proofs.Math.Seq.{drop-append_seam}
+use Rattle.std.proofs.lemmas.List.{append-nil, append_assoc, drop-map, get_or_default, get_or_past}
+use Rattle.std.proofs.lemmas.Option.{slice_get-map}
 use Rattle.dex_world.specs.Items.{Item, items_of, pair_of}
 use Rattle.dex_world.proofs.GroupLaws.{grouped-apart, grouped-pair}
 use Rattle.dex_world.proofs.ItemLaws.{alone-acts}
@@ -316,23 +315,6 @@ behind-item script row behind others all places at at_behind count cells after i
       subst (λ (some : List PlainRow). AreLeft script some (drop count places) after) (ap (drop count) (sym same) ∙ drop-map row_of count all) acted.left,
     )
 
--- from the last to the first
-pub last-first : (rows : List Row) → slice_get rows (length rows - 1) ≡ slice_get (reverse rows) 0
-last-first [] = refl
-last-first (row ∷ others) =
-    let rows = row ∷ others in
-    slice_get-get_or rows (length rows - 1) row (omega arith)
-    ∙ ap (λ (one : Row). Some one) (ap (λ (n : ℕ). get_or rows n row) (omega arith) ∙ sym (get_or-reverse rows 0 row (omega arith)))
-    ∙ sym (slice_get-get_or (reverse rows) 0 row (omega (arith, length-reverse rows)))
-
-pub reverse-take : {X : Type 0} (rows : List X) (count : ℕ) → count ≤ length rows → reverse (take (length rows - count) rows) ≡ drop count (reverse rows)
-reverse-take rows count within =
-    let n = length rows - count in
-    let whole : reverse (drop n rows) ++ reverse (take n rows) ≡ reverse rows = sym (reverse-append (take n rows) (drop n rows)) ∙ ap reverse (take-append-drop n rows) in
-    sym (drop-append_seam (reverse (drop n rows)) (reverse (take n rows)))
-    ∙ ap (λ (k : ℕ). drop k (reverse (drop n rows) ++ reverse (take n rows))) (omega (arith, length-reverse (drop n rows), length-drop n rows, within))
-    ∙ ap (drop count) whole
-
 -- ---- the places of a row and of the one behind it
 
 pub stands-second : (places : List RowPlaces) (others place : ℕ) (d : RowPlaces) → length places ≡ suc others → place ≡ min others 1
@@ -340,14 +322,3 @@ pub stands-second : (places : List RowPlaces) (others place : ℕ) (d : RowPlace
 stands-second places zero place d long is = get_or_past places 1 (get_or places place d) (omega (arith, long))
 stands-second places (suc others) place d long is =
     ap (λ (n : ℕ). get_or places n (get_or places place d)) (omega (arith, is)) ∙ get_or_default places place (get_or places place d) d (omega (arith, long, is))
-
--- from the last to the first
-pub stands-last : (places : List RowPlaces) (others : ℕ) (at : RowPlaces) → length places ≡ suc others → at ≡ get_or places others at → get_or (reverse places) 0 at ≡ at
-stands-last places others at long is =
-    get_or-reverse places 0 at (omega (arith, long)) ∙ ap (λ (place : ℕ). get_or places place at) (omega (arith, long)) ∙ sym is
-
-pub stands-before : (places : List RowPlaces) (others : ℕ) (at : RowPlaces) → length places ≡ suc others → at ≡ get_or places (others - 1) at
-    → get_or (reverse places) 1 at ≡ at
-stands-before places zero at long is = get_or_past (reverse places) 1 at (omega (arith, long, length-reverse places))
-stands-before places (suc others) at long is =
-    get_or-reverse places 1 at (omega (arith, long)) ∙ ap (λ (place : ℕ). get_or places place at) (omega (arith, long)) ∙ sym is

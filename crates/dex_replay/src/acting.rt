@@ -1,6 +1,6 @@
 //! All items of a script act on its cells, one after the other.
 
-ghost use Rattle.std.specs.Prelude.{◌≡◌, ◌∷◌, ◌-◌, List, length, map, option_copied, option_map, take};
+ghost use Rattle.std.specs.Prelude.{◌≡◌, ◌∷◌, List, map, option_copied, option_map};
 ghost use Rattle.dex_world.specs.declared.places.RowPlaces.{RowPlaces as RowPlacesOf};
 ghost use Rattle.dex_types.specs.Rows.{PlainRow, row_of};
 ghost use Rattle.dex_world.specs.Items.{items_of};
@@ -73,45 +73,4 @@ pub fn act_all(cells: Cells, rows: &[Row], places: &[RowPlaces]) -> Cells
         places = places.split_at(count).1;
     }
     cells
-}
-
-/// Like `act_all`, with the rows and their places given up. Each is let go when its item has acted, and their memory is
-/// given back piece by piece, since journals grow meanwhile. For that they stand from the last to the first.
-pub(crate) fn use_up(cells: Cells, rows: Vec<Row>, places: Vec<RowPlaces>) -> Cells
-    requires script { (script : PlainScript) × IsScript script × (cells ≡ opened script)
-        × (map row_of rows.items ≡ script.rows) }
-    requires places { ArePlacedIn cells (map row_of rows.items) places.items }
-    ensures acted { (script : PlainScript) → IsScript script → cells ≡ opened script
-        → map row_of rows.items ≡ script.rows → world_of result ≡ world_after script (items_of script.rows) }
-    ensures kept { opened_of result ≡ opened_of cells }
-{
-    let mut cells = cells;
-    let mut rows = rows;
-    let mut places = places;
-    places.reverse();
-    rows.reverse();
-    'item: while let Some((row, others)) = rows.split_last() {
-        let last = others.len();
-        let at = &places[last];
-        // Where no row is after, these are the row's own places.
-        let at_behind = &places[last.saturating_sub(1)];
-        let count = act_item(&mut cells, row, others.last(), at, at_behind);
-        let_go(&mut rows, count);
-        let_go(&mut places, count);
-    }
-    cells
-}
-
-/// How many rows, or places, are let go before their memory is given back.
-const PIECE: usize = 64;
-
-/// Lets so many of the last items of a list go.
-fn let_go<T: Drop>(items: &mut Vec<T>, count: usize)
-    ensures { items.new.items ≡ take (length items.old.items - count) items.old.items }
-{
-    let left = items.len().saturating_sub(count);
-    items.truncate(left);
-    if PIECE < items.capacity() - left {
-        items.shrink_to_fit();
-    }
 }

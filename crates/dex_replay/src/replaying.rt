@@ -6,7 +6,7 @@ ghost use Rattle.dex_state.specs.Outcomes.{outcome_of};
 ghost use Rattle.dex_replay.specs.Replays.{IsReplayOf};
 ghost use Rattle.dex_replay.specs.Runs.{IsRunOf};
 
-use crate::acting::{act_all, use_up};
+use crate::acting::act_all;
 use dex_bank::Cells;
 use dex_script_types::Script;
 use dex_state::Outcome;
@@ -29,15 +29,11 @@ pub fn replay_with_rows(alloc: Global, script: Script) -> Result<(Outcome, Vec<R
     }
 }
 
-/// Like `replay_with_rows`, without the rows: each is let go when it has acted.
+/// Like `replay_with_rows`, without the rows.
 pub fn replay(alloc: Global, script: Script) -> Result<Outcome, NoMemory>
     ensures outcome { IfOk result (λ outcome. IsReplayOf script (outcome_of outcome)) }
     ensures run { IfOk result (λ outcome. IsRunOf script (outcome_of outcome)) }
 {
-    let (cells, rows, places) = Cells::of_script(alloc, script)?;
-    let rows = rows.into_rows(alloc)?;
-    match use_up(cells, rows, places).close(alloc) {
-        Ok(outcome) => Ok(outcome),
-        Err(_) => Err(NoMemory),
-    }
+    let (outcome, _) = replay_with_rows(alloc, script)?;
+    Ok(outcome)
 }
