@@ -172,9 +172,11 @@ module _ {L : Type 0} (heard : L → PlainScript → PlainOutcome → Type 0) (l
     hears = acted.hears;
   }
 
+  pub done-heard : (draft : PlainDraft) (number : ℕ) (left : List Fields) (played : Played L) → left ≡ [] → IsBegun limits false text draft number left
+      → HasActed heard draft.script played → IsHeard heard limits text played.listener (accounts_of played.accounts) played.items
+  done-heard draft number left played none begun acted =
+      whole-heard draft.script played ((subst (IsBegun limits false text draft number) none begun).tells (Ok draft) refl) acted
+
   pub all-heard : (playing : Playing L) (left : List Fields) → left ≡ [] → IsBetween heard limits text playing left
       → IsHeard heard limits text playing.played.listener (accounts_of playing.played.accounts) playing.played.items
-  all-heard playing left none between =
-      let draft = between.before in
-      let begun = subst (IsBegun limits false text draft playing.number) none between.begun in
-      whole-heard draft.script playing.played (begun.tells (Ok draft) refl) between.acted
+  all-heard playing left none between = done-heard between.before playing.number left playing.played none between.begun between.acted

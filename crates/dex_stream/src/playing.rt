@@ -89,7 +89,8 @@ fn play_script<L: Listener>(alloc: Global, script: Script) -> Result<Played<L>, 
     })
 }
 
-/// Like `play`, part by part; or nothing, where the text has a quote, no instruction row, a faulty one, or too many.
+/// Like `play`, part by part; or nothing, where behind the first instruction row there is a quote, a faulty row, or too
+/// many rows.
 fn play_in_parts<L: Listener>(
     alloc: Global,
     bytes: &[u8],
@@ -106,7 +107,9 @@ fn play_in_parts<L: Listener>(
         rows,
     } = begin_script(alloc, bytes, false, limits)?;
     let Some(all) = rows else {
-        return Ok(None);
+        let script = reader.into_script(alloc)?;
+        let played = play_script(alloc, script)?;
+        return Ok(Some(played));
     };
     let Some(mut part) = all.plain() else {
         return Ok(None);

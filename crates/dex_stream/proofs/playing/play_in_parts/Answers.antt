@@ -1,7 +1,9 @@
-use Rattle.std.proofs.Common.{false}
-use Rattle.dex_script.specs.Begun.{IsBegun}
+use Rattle.std.proofs.Common.{ap, false, subst}
+use Rattle.dex_script_types.specs.PlainScript.{PlainScript}
+use Rattle.dex_script.specs.Begun.{IsBegun, left_in}
 use Rattle.dex_script.specs.Pieces.{IsUnderway}
-use Rattle.dex_stream.proofs.BetweenLaws.{first-read, so-far}
+use Rattle.dex_stream.specs.Parts.{HasActed}
+use Rattle.dex_stream.proofs.BetweenLaws.{done-heard, first-read, so-far}
 use Rattle.dex_stream.proofs.playing.play_in_parts.Given.{Over}
 use Rattle.dex_stream.proofs.playing.play_in_parts.Goals.{In-Ok}
 use Rattle.dex_stream.proofs.playing.play_in_parts.Goals as goal
@@ -14,6 +16,19 @@ first g c =
     first-read g.L.Listener.heard c.args.limits.now c.args.bytes.now begun.reader c.in-Ok.read begun.number c.read_rows.new.number begun.rows c.in-Some.all
     c.in-Some-plain.part c.cut-left.new.self c.cut-left.result c.of_plain.result c.in_ok-reader.ensures.told c.in_ok-reader.ensures.underway
     c.in-Some.is c.in-Some-plain.ensures c.cut-left.ensures c.of_plain.ensures c.in-Ok.ensures.told c.in-Ok.ensures.number
+
+pub into_script-requires : goal.into_script-requires
+into_script-requires g c =
+    let begun = c.in_ok-reader.field-0 in
+    so-far c.args.limits.now c.args.bytes.now begun.reader begun.number (left_in begun.rows) c.in_ok-reader.ensures.told
+
+pub returns-in_default-clause-played : goal.returns-in_default-clause-played
+returns-in_default-clause-played g c =
+    let heard = g.L.Listener.heard in
+    let begun = c.in_ok-reader.field-0 in
+    let played = c.in_ok-played.played in
+    done-heard heard c.args.limits.now c.args.bytes.now begun.reader begun.number (left_in begun.rows) played (ap left_in c.in_default.is)
+    c.in_ok-reader.ensures.told (subst (λ (script : PlainScript). HasActed heard script played) c.in_ok-script.ensures c.in_ok-played.ensures)
 
 pub play_first-requires-clause-script : goal.play_first-requires-clause-script
 play_first-requires-clause-script g c =
@@ -31,5 +46,5 @@ play_rest-requires g c = (
 
 pub returns-clause-played : goal.returns-clause-played
 returns-clause-played g c =
-    c.in_ok-played.ensures c.args.bytes.now
+    c.in_ok-played-2.ensures c.args.bytes.now
     (c.in_ok-first.ensures c.args.limits.now c.args.bytes.now c.cut-left.result (first g (goal.at.returns-clause-played g c).In-Ok).0)
