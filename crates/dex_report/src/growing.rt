@@ -34,6 +34,9 @@ const SMALL: usize = 4_096;
 /// The most bytes of a line of a wallet's journal, and of a journal's first line.
 const SHORT: usize = 192;
 
+/// The most room that a report's dump begins with. Text of large accounts goes on where they stood.
+const DUMP: usize = 67_108_864;
+
 /// The lines of a journal's entries so far.
 #[derive(Drop)]
 pub struct JournalText {
@@ -94,7 +97,7 @@ impl JournalTexts {
         add_head(alloc, &mut text, b"report", None, rows as u64)?;
         add_journals(alloc, &mut text, b"market", self.markets)?;
         add_journals(alloc, &mut text, b"wallet", self.wallets)?;
-        let room = room_of_dump(&accounts);
+        let room = room_of_dump(&accounts).min(DUMP);
         make_room(alloc, &mut text, room, room)?;
         take_accounts(&mut text, accounts)?;
         add_end(&mut text)?;
