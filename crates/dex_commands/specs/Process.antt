@@ -19,7 +19,8 @@ words_given (Err NoMemory) = None
 
 -- how a process ends whose program runs on these words within these limits, and takes words for this command: with the
 -- number of the status with which it ran; or it did not run, and nothing was read or written
-abbrev pub EndsProcess : Limits → (List (List ℕ) → Option Command) → Option (List (List ℕ)) → Input → Output → ℕ → Type 0
+abbrev pub EndsProcess : Limits → (List (List ℕ) → Option Command) → Option (List (List ℕ)) → Input → Output → ℕ
+    → Type 0
 EndsProcess limits asked_by (Some words) i o number =
     (ended : Status) × (number ≡ exit_code ended) × EndsWithin limits (asked_by words) i o ended
 EndsProcess limits asked_by None i o number =

@@ -16,8 +16,8 @@ use dex_words::PlainCommand;
 use std::alloc::Global;
 
 /// What a command on one thread, whose numbers are within their limits, answers to the bytes that it read, within these
-/// limits: the text, and the status under which it is written. `make` and `bulk` read none, and their answers are of the
-/// program's limits. It answers otherwise only for lack of memory.
+/// limits: the text, and the status under which it is written. `make` and `bulk` read none, and their answers are of
+/// the program's limits. It answers otherwise only for lack of memory.
 pub fn answer_within(
     alloc: Global,
     command: PlainCommand,

@@ -20,7 +20,8 @@ leads_by (Some places) address at = is_place (hash.get is_same places address) a
 -- of accounts that stand from a place on those whose address leads to their place
 abbrev pub reached : (Address → ℕ → Bool) → ℕ → List PlainAccount → List PlainAccount
 reached leads at [] = []
-reached leads at (account ∷ others) = if leads account.address at then account ∷ reached leads (suc at) others else reached leads (suc at) others
+reached leads at (account ∷ others) =
+    if leads account.address at then account ∷ reached leads (suc at) others else reached leads (suc at) others
 
 -- the address of each of these leads to its place
 abbrev pub LeadsToAll : (Address → ℕ → Bool) → ℕ → List PlainAccount → Type 0

@@ -58,7 +58,8 @@ counts_with counts journals = record {
 
 -- how many instructions of an outcome were accepted, and how many refused
 abbrev pub counts_of : PlainOutcome → Counts
-counts_of outcome = record { accepted = sum_by accepted_in outcome.markets; refused = sum_by refused_in outcome.markets }
+counts_of outcome =
+    record { accepted = sum_by accepted_in outcome.markets; refused = sum_by refused_in outcome.markets }
 
 -- the summary: the number and the rows of the script, how many instructions were accepted and refused, and each market
 abbrev pub summary_text : ℕ → ℕ → Counts → List PlainMarketAccounts → List ℕ

@@ -12,7 +12,8 @@ use Rattle.dex_report.specs.declared.growing.JournalText.{JournalText}
 use Rattle.dex_report.specs.declared.growing.JournalTexts.{JournalTexts}
 
 -- a text tells these entries of the journal of this address: their lines, how many they are, and that their values fit
-pub record TellsJournal {A : Type 0} (Fits : A → Type 0) (line_of : A → List ℕ) (text : JournalText) (place : Address) (entries : List A) : Type 0
+pub record TellsJournal {A : Type 0} (Fits : A → Type 0) (line_of : A → List ℕ)
+    (text : JournalText) (place : Address) (entries : List A) : Type 0
   where
     pub address : text.address ≡ place
     pub count : text.count ≡ length entries
@@ -43,7 +44,11 @@ untold_wallet wallet = record { address = wallet.address; entries = [] }
 -- accounts, and journals without entries
 abbrev pub untold : PlainAccounts → PlainOutcome
 untold accounts =
-    record { accounts = accounts; markets = map untold_market accounts.markets; wallets = map untold_wallet accounts.wallets }
+    record {
+      accounts = accounts;
+      markets = map untold_market accounts.markets;
+      wallets = map untold_wallet accounts.wallets;
+    }
 
 -- a market's journal with the entries of another behind its own
 abbrev pub market_goes_on : PlainMarketJournal → PlainMarketJournal → PlainMarketJournal

@@ -12,11 +12,13 @@ use Rattle.dex_script.specs.Telling.{TellsDraft, TellsError, TellsText}
 
 -- this is the script so far, and these rows are left, the first of them of this number: what they leave after it, the
 -- text says
-pub record IsBegun (limits : Limits) (batch : Bool) (text : List ℕ) (draft : PlainDraft) (number : ℕ) (left : List Fields) : Type 0 where
+pub record IsBegun (limits : Limits) (batch : Bool) (text : List ℕ)
+    (draft : PlainDraft) (number : ℕ) (left : List Fields) : Type 0 where
   pub start : IsStart limits draft.script.start
   pub within : draft.script.limits ≡ limits
   pub good : IsGood number draft
-  pub tells : (answer : Result PlainDraft ScriptError) → TellsDraft answer (draft_after draft number left) → TellsText limits answer batch text
+  pub tells : (answer : Result PlainDraft ScriptError) → TellsDraft answer (draft_after draft number left)
+      → TellsText limits answer batch text
 
 -- the rows that are left, if there are any
 abbrev pub left_in : Option (List Fields) → List Fields

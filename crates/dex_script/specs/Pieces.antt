@@ -34,7 +34,8 @@ bare start = record {
 }
 
 -- the first of these rows leave this draft, and those that are left are numbered from this number on
-pub record IsPartway (first : PlainDraft) (from : ℕ) (rows : List Fields) (draft : PlainDraft) (number : ℕ) (left : List Fields) : Type 0 where
+pub record IsPartway (first : PlainDraft) (from : ℕ) (rows : List Fields)
+    (draft : PlainDraft) (number : ℕ) (left : List Fields) : Type 0 where
   pub front : List Fields
   pub parts : rows ≡ front ++ left
   pub read : draft_after first from front ≡ Ok draft

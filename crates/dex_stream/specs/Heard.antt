@@ -22,7 +22,8 @@ no_moves wallet = record { address = wallet.address; entries = [] }
 
 -- before the first row of a script: the accounts with which it starts, and journals without entries
 abbrev pub unplayed : PlainAccounts → PlainOutcome
-unplayed start = record { accounts = start; markets = map no_entries start.markets; wallets = map no_moves start.wallets }
+unplayed start =
+    record { accounts = start; markets = map no_entries start.markets; wallets = map no_moves start.wallets }
 
 -- the addresses of journals
 abbrev pub markets_told : PlainOutcome → List Address
@@ -32,14 +33,14 @@ abbrev pub wallets_told : PlainOutcome → List Address
 wallets_told outcome = map (λ (journal : PlainWalletJournal). journal.address) outcome.wallets
 
 -- a script so far is one before, which left this, and a part behind it, of which this outcome is left
-pub record IsNext (before : PlainScript) (left : PlainOutcome) (part : PlainScript) (outcome : PlainOutcome) (whole : PlainScript) : Type 0
-  where
-    pub parts : AreTwoParts whole before left part
-    pub is_script : IsScript part
-    pub replay : IsReplayOf part outcome
-    pub run : IsRunOf part outcome
-    pub markets : markets_told outcome ≡ markets_told left
-    pub wallets : wallets_told outcome ≡ wallets_told left
+pub record IsNext (before : PlainScript) (left : PlainOutcome) (part : PlainScript) (outcome : PlainOutcome)
+    (whole : PlainScript) : Type 0 where
+  pub parts : AreTwoParts whole before left part
+  pub is_script : IsScript part
+  pub replay : IsReplayOf part outcome
+  pub run : IsRunOf part outcome
+  pub markets : markets_told outcome ≡ markets_told left
+  pub wallets : wallets_told outcome ≡ wallets_told left
 
 -- the bytes are a script within these limits, of so many items. When all have acted these accounts are left, and the
 -- listener has heard what is left in all

@@ -16,7 +16,8 @@ use Rattle.dex_stream.specs.declared.playing.Played.{Played}
 use Rattle.dex_stream.specs.declared.playing.Playing.{Playing}
 
 -- all items of a script have acted, and are heard
-pub record HasActed {L : Type 0} (heard : L → PlainScript → PlainOutcome → Type 0) (script : PlainScript) (played : Played L) : Type 0 where
+pub record HasActed {L : Type 0} (heard : L → PlainScript → PlainOutcome → Type 0) (script : PlainScript)
+    (played : Played L) : Type 0 where
   pub outcome : PlainOutcome
   pub is_script : IsScript script
   pub replay : IsReplayOf script outcome

@@ -35,7 +35,8 @@ held_in told = option_map from_told told
 abbrev pub IsPlaceOf : List OrdersAccount → Option Trader → Option ℕ → Type 0
 IsPlaceOf accounts trader found =
     MatchOption found (trader ≡ None)
-    (λ place. (place < length accounts) × ((d : OrdersAccount) → trader ≡ Some (trader_of (slice_index_or accounts place d).bytes.items)))
+    (λ place. (place < length accounts)
+    × ((d : OrdersAccount) → trader ≡ Some (trader_of (slice_index_or accounts place d).bytes.items)))
 
 -- an address leads to the place among these accounts of the account that it has among these traders
 abbrev pub LeadToTraders : (Address → Option ℕ) → List OrdersAccount → Traders → Type 0
