@@ -53,8 +53,8 @@ uint8_t dex_worth(const uint8_t *script, size_t length, uint8_t *room, size_t ro
 
 /* The dump of the same accounts with sides of so many nodes (1 to 65536) and event queues for so many events (1 to
  * 65535). */
-uint8_t dex_migrate(uint32_t nodes, uint32_t events, const uint8_t *dump, size_t length, uint8_t *room, size_t room_size,
-                    size_t *size);
+uint8_t dex_migrate(uint32_t nodes, uint32_t events, const uint8_t *dump, size_t length, uint8_t *room,
+                    size_t room_size, size_t *size);
 
 /* The made script of a number, with so many drawn rows (1 to 20000). */
 uint8_t dex_make(uint64_t number, uint32_t rows, uint8_t *room, size_t room_size, size_t *size);
@@ -68,8 +68,8 @@ uint8_t dex_replay_wide(const uint8_t *script, size_t length, uint8_t *room, siz
 uint8_t dex_dump_wide(const uint8_t *script, size_t length, uint8_t *room, size_t room_size, size_t *size);
 uint8_t dex_audit_wide(const uint8_t *dump, size_t length, uint8_t *room, size_t room_size, size_t *size);
 uint8_t dex_worth_wide(const uint8_t *script, size_t length, uint8_t *room, size_t room_size, size_t *size);
-uint8_t dex_migrate_wide(uint32_t nodes, uint32_t events, const uint8_t *dump, size_t length, uint8_t *room, size_t room_size,
-                         size_t *size);
+uint8_t dex_migrate_wide(uint32_t nodes, uint32_t events, const uint8_t *dump, size_t length, uint8_t *room,
+                         size_t room_size, size_t *size);
 
 /* Where a script may be cut into shards, which share no market and no wallet: lines `market SHARD` for each market and
  * `wallet SHARD` for each wallet, in declared order, `row SHARD` for each instruction row in its order (two for a
@@ -83,7 +83,8 @@ uint8_t dex_chained(uint32_t rows, const uint8_t *script, size_t length, uint8_t
 
 /* Both within the widest limits. */
 uint8_t dex_shards_wide(const uint8_t *script, size_t length, uint8_t *room, size_t room_size, size_t *size);
-uint8_t dex_chained_wide(uint32_t rows, const uint8_t *script, size_t length, uint8_t *room, size_t room_size, size_t *size);
+uint8_t dex_chained_wide(uint32_t rows, const uint8_t *script, size_t length, uint8_t *room, size_t room_size,
+                         size_t *size);
 
 /* ---- one instruction on the account bytes of one market, in place, as a ledger's program does it
  *
@@ -208,8 +209,8 @@ uint8_t dex_market_check(const dex_market *market, dex_flaw *flaw);
 /* Checks the market and then the wallets that are named, counts what is pending, and does what dex_process does. It
  * returns DEX_OK, and *reply is the reply; or DEX_DUMP_REFUSED, and *flaw is the first flaw; or DEX_NO_MEMORY. Of the
  * last two no byte of the market, its sums and the wallets was changed, and *reply is all 0. */
-uint8_t dex_process_checked(dex_market *market, dex_wallets *wallets, const dex_instruction *instruction, dex_flaw *flaw,
-                            dex_reply *reply);
+uint8_t dex_process_checked(dex_market *market, dex_wallets *wallets, const dex_instruction *instruction,
+                            dex_flaw *flaw, dex_reply *reply);
 
 /* What a report says of a reply, such as `ok cancelled 2`: DEX_OK, or DEX_NO_MEMORY. */
 uint8_t dex_reply_text(const dex_reply *reply, uint8_t *room, size_t room_size, size_t *size);
@@ -227,7 +228,8 @@ static inline size_t dex_first_room(size_t length) {
 
 /* Calls the command with room from malloc, and once more where the text does not fit. *text is the text, *size its
  * length; the caller frees *text, which is null where there is none. `bytes` may be null where `length` is 0. */
-static inline uint8_t dex_text_of(dex_command *command, const uint8_t *bytes, size_t length, uint8_t **text, size_t *size) {
+static inline uint8_t dex_text_of(dex_command *command, const uint8_t *bytes, size_t length, uint8_t **text,
+                                  size_t *size) {
   static const uint8_t nothing[1] = {0};
   size_t room_size = dex_first_room(length), told = 0;
   uint8_t status;

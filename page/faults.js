@@ -103,6 +103,6 @@ export const FINDINGS = [
 export const SHORT_ANSWERS = [
   ['usage', 1, 'The words of the command are none that the program knows.'],
   ['read failed', 4, 'The input could not be read.'],
-  ['input too long', 6, 'More than 67,108,864 bytes were given.'],
+  ['input too long', 6, 'More bytes were given than are read: 67,108,864, or 2^40 within the widest limits.'],
   ['no memory', 7, 'Memory was wanting.'],
 ];

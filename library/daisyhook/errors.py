@@ -26,7 +26,7 @@ class OutOfLimits(DexError, ValueError):
 
 
 class InputTooLong(DexError, ValueError):
-    """The input has more bytes than the limits allow: 67,108,864 where none are given."""
+    """The input has more bytes than the limits allow: 67,108,864, or 2^40 with `WIDE`."""
 
     def __init__(self) -> None:
         super().__init__(6, 'input too long\n')

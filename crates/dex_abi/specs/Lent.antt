@@ -10,7 +10,6 @@ use Rattle.dex_accounts.specs.Decoded.{AreSound, market_in}
 use Rattle.dex_instruction.specs.Reading.{decoded}
 use Rattle.dex_lent.specs.Flat.{accounts_in}
 use Rattle.dex_plan.specs.declared.ask.Ask.{Ask}
-use Rattle.dex_plan.specs.Given.{asked_by}
 use Rattle.dex_process.specs.declared.processing.Terms.{Terms}
 use Rattle.dex_process.specs.Process.{Acting, HasProcessed, acting, purse_with, seen_by, step_of}
 use Rattle.dex_purse.specs.declared.lent_wallets.Roles.{Roles}

@@ -1,5 +1,5 @@
 -- What a report says of the reply that numbers stand for.
-use Rattle.std.specs.Prelude.{ℕ, List, [], ◌≡◌, Option, Some, None}
+use Rattle.std.specs.Prelude.{ℕ, List, [], Option, Some, None}
 use Rattle.dex_types.specs.Text as text
 use Rattle.dex_abi.specs.declared.numbers.ReplyNumbers.{ReplyNumbers}
 use Rattle.dex_abi.specs.Numbers.{reply_in}

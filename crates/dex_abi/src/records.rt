@@ -36,10 +36,10 @@ pub struct WalletsBytes<'a> {
     pub fourth: &'a mut [u8],
 }
 
-/// An instruction: its signer; the open-orders accounts that it names, the first `named_count` of `named`; its data; the
-/// clock; and which of the wallets it names under each role: 0 to 3, or another number where it names none. `program`
-/// is 0 for Serum, another number for OpenBook. `srm` and `msrm` are the mints of discounts, where `has_srm` and
-/// `has_msrm` are not 0.
+/// An instruction: its signer; the open-orders accounts that it names, the first `named_count` of `named`; its data;
+/// the clock; and which of the wallets it names under each role: 0 to 3, or another number where it names none.
+/// `program` is 0 for Serum, another number for OpenBook. `srm` and `msrm` are the mints of discounts, where `has_srm`
+/// and `has_msrm` are not 0.
 #[repr(C)]
 pub struct Instruction<'a> {
     pub signer: [u8; 32],

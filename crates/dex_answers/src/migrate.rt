@@ -33,7 +33,8 @@ pub fn migrate_answer(
     requires limits { AreLimits limits.now }
     requires nodes { (1 ≤ nodes) × (nodes ≤ 65536) }
     requires events { (1 ≤ events) × (events ≤ 65535) }
-    ensures { IfOk result (λ told. AnswersWithin limits.now (Migrate nodes events) bytes.now told.status (text_of told)) }
+    ensures { IfOk result
+        (λ told. AnswersWithin limits.now (Migrate nodes events) bytes.now told.status (text_of told)) }
 {
     let accounts = match check_dump(alloc, bytes, limits)? {
         Checked::Clean(accounts) => accounts,

@@ -20,7 +20,7 @@ pub enum Status {
     ReadFault,
     /// A write failed.
     WriteFault,
-    /// The input is longer than 67,108,864 bytes.
+    /// The input is longer than the limits allow (`bytes` of `Limits`).
     InputTooLong,
     /// Memory was wanting.
     NoMemory,

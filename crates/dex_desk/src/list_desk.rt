@@ -1,6 +1,7 @@
 //! A desk in memory, which tells its turns.
 
 ghost use Rattle.std.specs.Prelude.{◌≡◌, ◌<◌, ◌≤◌, ◌++◌, [], ◌∷◌, IfOk, OnErr, OnOk, drop, length, map, max};
+ghost use Rattle.dex_answers.specs.declared.status.Status.TheVariants as status;
 ghost use Rattle.dex_io.specs.Faults.{Rose};
 ghost use Rattle.dex_desk.specs.Calls.{HaveHeard, turn_of};
 ghost use Rattle.dex_desk.specs.Talks.{IsSession};
@@ -87,15 +88,20 @@ impl ListDesk {
     }
 }
 
-/// A session of these bytes, so many heard and said at a time at most: its status, and its calls. They are a talk from
-/// the first byte on, and what they heard is a front of the bytes; where a call heard nothing, all of them.
-pub fn serve_list(alloc: Global, input: Vec<u8>, step: usize) -> (Status, Vec<Call>)
-    ensures session { IsSession result.0 (map turn_of result.1.items) }
-    ensures heard { HaveHeard (max step 1) (map turn_of result.1.items) input.items }
+/// A session of these bytes, so many heard and said at a time at most: its status, and the desk. Its turns are a talk
+/// from the first byte on, and what they heard is a front of the bytes; where one heard nothing, all of them. At
+/// statuses 4 and 5 a call failed.
+pub fn serve_list(alloc: Global, input: Vec<u8>, step: usize) -> (Status, ListDesk)
+    ensures session { IsSession result.0 result.1.turns }
+    ensures heard { HaveHeard (max step 1) result.1.turns input.items }
+    ensures deaf { result.0 ≡ status.ReadFault → Rose 0 result.1.deaf }
+    ensures mute { result.0 ≡ status.WriteFault → Rose 0 result.1.mute }
 {
     let mut desk = ListDesk::new(alloc, input, step);
-    let status = serve(alloc, &mut desk);
-    (status, desk.into_calls())
+    let ended = serve(alloc, &mut desk);
+    // What the desk's type keeps of its calls, for the proof.
+    let _ = &desk.calls;
+    (ended, desk)
 }
 
 /// One fault more, up to the greatest count.
@@ -117,7 +123,8 @@ fn copy_of(alloc: Global, bytes: &[u8]) -> Result<Vec<u8>, AllocError>
 
 /// Keeps that bytes were heard.
 fn keep_heard(alloc: Global, calls: &mut Vec<Call>, bytes: &[u8]) -> Result<(), AllocError>
-    ensures kept { OnOk result (map turn_of calls.new.items ≡ map turn_of calls.old.items ++ (Heard bytes.now ∷ [])) }
+    ensures kept { OnOk result
+        (map turn_of calls.new.items ≡ map turn_of calls.old.items ++ (Heard bytes.now ∷ [])) }
     ensures same { OnErr result (calls.new.items ≡ calls.old.items) }
 {
     let copy = copy_of(alloc, bytes)?;
@@ -129,7 +136,8 @@ fn keep_heard(alloc: Global, calls: &mut Vec<Call>, bytes: &[u8]) -> Result<(), 
 
 /// Keeps that bytes were said.
 fn keep_said(alloc: Global, calls: &mut Vec<Call>, bytes: &[u8]) -> Result<(), AllocError>
-    ensures kept { OnOk result (map turn_of calls.new.items ≡ map turn_of calls.old.items ++ (Said bytes.now ∷ [])) }
+    ensures kept { OnOk result
+        (map turn_of calls.new.items ≡ map turn_of calls.old.items ++ (Said bytes.now ∷ [])) }
     ensures same { OnErr result (calls.new.items ≡ calls.old.items) }
 {
     let copy = copy_of(alloc, bytes)?;

@@ -12,7 +12,7 @@ const LINES = [
   ['migrate refused m0 bids 9 5', 'The accounts do not fit the sizes to migrate to: the bids of m0 need more room.', 'Ask for more nodes'],
   ['audit ok 1 18', 'The audit found nothing: 1 market, 18 wallets.', ''],
   ['read failed', 'The input could not be read.', ''],
-  ['input too long', 'More than 67,108,864 bytes were given.', ''],
+  ['input too long', 'More bytes were given than are read: 67,108,864, or 2^40 within the widest limits.', ''],
   ['no memory', 'Memory was wanting.', ''],
   ['usage: dex replay, run, audit, dump, worth, make NUMBER ROWS, bulk NUMBER ROWS, migrate NODES EVENTS or batch WORKERS', 'The words of the command are none', ''],
 ];

@@ -1,4 +1,4 @@
-use Rattle.std.proofs.Common.{◌≡◌, ◌∙◌, List, ap, subst}
+use Rattle.std.proofs.Common.{◌∙◌, List, ap, subst}
 use Rattle.std.specs.Prelude.{take}
 use Rattle.dex_abi.proofs.processing.process_named.Goals as goal
 use Rattle.dex_abi.specs.Lent as lent
