@@ -5,8 +5,7 @@ use Rattle.std.proofs.lemmas.Bool.{cases_eq, eq-eqb, false≢true, ne_eqb}
 use Rattle.std.proofs.lemmas.List.{append-nil, get_or-drop, get_or-map, get_or-take, get_or_default, length-drop, length-map, length-take-le}
 use Rattle.dex_world.specs.declared.places.RowPlaces.{RowPlaces}
 use Rattle.dex_types.specs.Rows.{PlainRow}
-use Rattle.dex_world.proofs.MappedLists.{All-unmap, head-same, tail-same, zip-map}
-use Rattle.dex_script_types.proofs.PlacedLaws.{item_at}
+use Rattle.dex_world.proofs.MappedLists.{All-unmap, head-same, item_at, tail-same, zip-map}
 use Rattle.dex_script_types.specs.Facts.{AreRows, HasNoThree}
 use Rattle.dex_script_types.specs.Places.{AreBeside, IsBeside}
 use Rattle.dex_script_types.specs.PlainScript.{PlainScript}

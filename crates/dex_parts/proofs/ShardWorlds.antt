@@ -1,5 +1,5 @@
 -- Items that act in a whole world act in the world of one shard as its own items do.
-use Rattle.std.proofs.Common.{◌≡◌, ◌==◌, ℕ, Bool, true, false, cond, List, [], ◌∷◌, Option, Some, None, is_some, map, refl, sym, ap, ◌∙◌, ⊎_elim}
+use Rattle.std.proofs.Common.{◌≡◌, ◌==◌, ℕ, Bool, true, false, cond, List, [], ◌∷◌, Option, Some, None, IfSome, is_some, map, refl, sym, ap, ◌∙◌, subst, ⊎_elim}
 use Rattle.std.specs.List.{All, filter}
 use Rattle.std.proofs.lemmas.Bool.{both_ways, cases_Bool, cond-false, cond-true, cond_both}
 use Rattle.std.proofs.lemmas.List.Elements.{All-head, All-map, All-tail, All-weaker}
@@ -20,8 +20,13 @@ use Rattle.dex_world.specs.Groups.{members}
 use Rattle.dex_world.specs.Items.{Item, act_item, chosen, fold_items, held_in, idle_row, is_any_refused, why_in, why_on}
 use Rattle.dex_world.specs.World.{MarketState, WalletState, World, market_at, role_at, seen_by, wallet_at}
 use Rattle.dex_world.proofs.MappedLists.{list_any-agree, map-agree}
-use Rattle.dex_world.proofs.NameLaws.{coin-named, discount-named, pc-named, referrer-named}
+use Rattle.dex_world.proofs.NameLaws.{row-among}
 use Rattle.dex_parts.specs.Shards.{IsItemOfOneShard, IsOfOneShard, Sharding, has_market, has_wallet, items_in, world_in}
+
+-- a row names the wallet of each of its roles
+pub role-named : (row : PlainRow) (role : Option Address) → IfSome role (λ (address : Address). names row address ≡ true) → (address : Address) → role ≡ Some address
+    → names row address ≡ true
+role-named row role among address is = subst (λ (one : Option Address). IfSome one (λ (wallet : Address). names row wallet ≡ true)) is among
 
 module _ (sharding : Sharding) (shard : ℕ) where
   abbrev own_market : Address → Bool
@@ -117,13 +122,13 @@ module _ (sharding : Sharding) (shard : ℕ) where
           let early : Seen = seen_by row (world_in sharding shard world) in
           let mine : (wallet : Address) → names row wallet ≡ true → own_wallet wallet ≡ true = λ wallet named. wallet-as-market wallet named ∙ own in
           ap (λ (one : Option WalletSeen). record early { coin = one })
-          (role-found row.coin (λ address is. mine address (coin-named row address is)) world.wallets)
+          (role-found row.coin (λ address is. mine address (role-named row row.coin (row-among row).0 address is)) world.wallets)
           ∙ ap (λ (one : Option WalletSeen). record early { coin = late.coin; pc = one })
-          (role-found row.pc (λ address is. mine address (pc-named row address is)) world.wallets)
+          (role-found row.pc (λ address is. mine address (role-named row row.pc (row-among row).1 address is)) world.wallets)
           ∙ ap (λ (one : Option WalletSeen). record early { coin = late.coin; pc = late.pc; discount = one })
-          (role-found row.discount (λ address is. mine address (discount-named row address is)) world.wallets)
+          (role-found row.discount (λ address is. mine address (role-named row row.discount (row-among row).2 address is)) world.wallets)
           ∙ ap (λ (one : Option WalletSeen). record late { referrer = one })
-          (role-found row.referrer (λ address is. mine address (referrer-named row address is)) world.wallets)
+          (role-found row.referrer (λ address is. mine address (role-named row row.referrer (row-among row).3 address is)) world.wallets)
 
       markets-act : (seen : Seen) (states : List MarketState) → markets_acted row seen (filter is_market_in states) ≡ filter is_market_in (markets_acted row seen states)
       markets-act seen [] = refl

@@ -3,11 +3,11 @@ use Rattle.std.proofs.Common.{◌≡◌, ℕ, zero, suc, ◌+◌, ◌<◌, ◌�
 use Rattle.dex_world.proofs.Common.{All-cons, All-filter, All-map, All-nil, All-weaker, get_or-map, length-map, PlainRow, Row, eq-eqb, filter-append, row_of, rows_of_lane, take_at}
 use Rattle.dex_replay.proofs.Common.{AreLegs, AreRows, PlainScript, lanes_of}
 use Rattle.std.specs.List.{All}
-use Rattle.dex_world.proofs.MappedLists.{same-get}
+use Rattle.dex_world.proofs.MappedLists.{item-at, item_at, same-get}
 use Rattle.dex_run.proofs.Common.{AreNext, AreRowsOf, BankState, Begins, IsNext, SeatState}
 use Rattle.dex_world.specs.declared.places.RowPlaces.{RowPlaces}
 use Rattle.dex_script_types.specs.Places.{AreBeside, IsBeside, IsPlaced}
-use Rattle.dex_script_types.proofs.PlacedLaws.{item-at, item_at, placed-long, row-at}
+use Rattle.dex_script_types.proofs.PlacedLaws.{placed-long, row-at}
 use Rattle.std.proofs.lemmas.Bool.{cases_lt}
 use Rattle.std.proofs.lemmas.Slice.Zip.{AllZip-long}
 use Rattle.std.proofs.lemmas.List.{drop_more, get_or-drop, take-append-drop, get_or-take, length-take-le, map-append}

@@ -23,7 +23,7 @@ use Rattle.dex_accounts.specs.Decoded.{market_in}
 use Rattle.dex_history.specs.Journal.{Call, asked_of, front}
 use Rattle.dex_eager.specs.Worth.{Worth, held_for}
 use Rattle.dex_world.proofs.MappedLists.{head-same, tail-same}
-use Rattle.dex_world.proofs.NameLaws.{coin-named, discount-named, pc-named, referrer-named}
+use Rattle.dex_world.proofs.NameLaws.{row-among}
 use Rattle.dex_world.specs.Fold.{names}
 use Rattle.dex_state.specs.Outcomes.{PlainMarketJournal, PlainOutcome}
 use Rattle.dex_script_types.specs.Firsts.{first_of}
@@ -38,6 +38,7 @@ use Rattle.dex_replay.specs.WorthTold.{PlainWorthRow, calls_of, row_told, rows_t
 use Rattle.dex_parts.specs.Shards.{FallsInto, IsLeftInShard, IsOfOneShard, IsShardOf, Sharding, has_market, has_wallet, market_journals_in, markets_in}
 use Rattle.dex_parts.proofs.LeftLaws.{same-addresses}
 use Rattle.dex_parts.proofs.ShardLaws.{shard-left}
+use Rattle.dex_parts.proofs.ShardWorlds.{role-named}
 
 -- the first that passes is among those that are kept, and tells there what it tells here
 first-kept : {X Y : Type 0} (test kept : X → Bool) (f g : X → Y) (xs : List X) → ((x : X) → test x ≡ true → kept x ≡ true) → All (λ (x : X). kept x ≡ true → f x ≡ g x) xs
@@ -78,12 +79,12 @@ module _ (sharding : Sharding) (shard : ℕ) (script part : PlainScript) (falls 
       let early : Seen = seen_told part row entry in
       let late : Seen = seen_told script row entry in
       let mine : (wallet : Address) → names row wallet ≡ true → has_wallet sharding shard wallet ≡ true = λ wallet named. ap (λ (n : ℕ). n == shard) (one wallet named) ∙ own in
-      ap (λ (role : Option WalletSeen). record early { coin = role }) (role-same moves row.coin (λ address here. mine address (coin-named row address here)))
-      ∙ ap (λ (role : Option WalletSeen). record early { coin = late.coin; pc = role }) (role-same moves row.pc (λ address here. mine address (pc-named row address here)))
+      ap (λ (role : Option WalletSeen). record early { coin = role }) (role-same moves row.coin (λ address here. mine address (role-named row row.coin (row-among row).0 address here)))
+      ∙ ap (λ (role : Option WalletSeen). record early { coin = late.coin; pc = role }) (role-same moves row.pc (λ address here. mine address (role-named row row.pc (row-among row).1 address here)))
       ∙ ap (λ (role : Option WalletSeen). record early { coin = late.coin; pc = late.pc; discount = role })
-      (role-same moves row.discount (λ address here. mine address (discount-named row address here)))
+      (role-same moves row.discount (λ address here. mine address (role-named row row.discount (row-among row).2 address here)))
       ∙ ap (λ (role : Option WalletSeen). record early { coin = late.coin; pc = late.pc; discount = late.discount; referrer = role })
-      (role-same moves row.referrer (λ address here. mine address (referrer-named row address here)))
+      (role-same moves row.referrer (λ address here. mine address (role-named row row.referrer (row-among row).3 address here)))
       ∙ ap (λ (srm : Option Address). record late { srm = srm; msrm = part.start.msrm; program = part.program }) is.srm
       ∙ ap (λ (msrm : Option Address). record late { msrm = msrm; program = part.program }) is.msrm
       ∙ ap (λ (program : Program). record late { program = program }) is.program

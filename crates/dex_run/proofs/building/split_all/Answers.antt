@@ -2,7 +2,7 @@ use Rattle.std.proofs.Common.{◌≡◌, ◌<◌, ◌∙◌, ℕ, List, Some, le
 use Rattle.dex_world.proofs.Common.{AllZip, AllZip-long, take_all}
 use Rattle.dex_run.proofs.Common.{GateView, PassView, next_pass, split_once}
 use Rattle.dex_run.proofs.Openings.{half, half-all, half-at, half-set, length-half, mapped-more}
-use Rattle.dex_turns.proofs.Taking.{zip-at}
+use Rattle.dex_world.proofs.MappedLists.{zip-at}
 use Rattle.dex_run.proofs.building.split_all.Goals as goal
 
 -- there are as many passes as gates
