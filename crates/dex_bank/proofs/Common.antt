@@ -13,3 +13,9 @@ pub use Rattle.dex_state.specs.Accepted.{AreAccepted}
 pub use Rattle.dex_script_types.specs.Facts.{IsStart}
 pub use Rattle.dex_token.specs.TokenAccount.{IsWallet}
 pub use Rattle.dex_wallet.specs.CellState.{CellState, IsWalletCell}
+pub use Rattle.dex_bank.specs.Places.{ArePlacedIn, StandsAt}
+pub use Rattle.dex_types.specs.declared.limits.Limits.{Limits}
+pub use Rattle.dex_world.proofs.MappedLists.{item_at}
+pub use Rattle.dex_world.specs.World.{market_at}
+pub use Rattle.dex_world.specs.declared.places.RowPlaces.{RowPlaces}
+pub use Rattle.std.specs.List.{All, position}

@@ -1,9 +1,7 @@
 -- The cells with which a script starts are cells.
 use Rattle.std.proofs.Common.{◌≡◌, ℕ, suc, Bool, false, ◌||◌, List, [], ◌∷◌, get_or, map, refl, sym, ap, subst, ◌∙◌, arith}
 use Rattle.dex_world.proofs.Common.{Address, All-head, All-map, All-tail, PlainAccount, PlainAccounts, PlainMarketAccounts, PlainRow, is_same}
-use Rattle.dex_types.specs.declared.limits.Limits.{Limits}
-use Rattle.dex_bank.proofs.Common.{AreAccepted, AreCells, AreSound, CellsState, IsAccepted, IsMarketCell, IsStart, IsWalletCell, address_of, is_among, market_opened, wallet_opened}
-use Rattle.std.specs.List.{All}
+use Rattle.dex_bank.proofs.Common.{All, AreAccepted, AreCells, AreSound, CellsState, IsAccepted, IsMarketCell, IsStart, IsWalletCell, Limits, address_of, is_among, market_opened, wallet_opened}
 use Rattle.dex_cell.specs.CellState as market
 use Rattle.dex_act.specs.Wallets.{AreApart}
 use Rattle.dex_script_types.proofs.Apart.{AreDistinct, wallets-distinct}

@@ -1,25 +1,19 @@
 -- How many rows name the market or the wallet at each place of a list.
 use Rattle.std.proofs.Common.{◌≡◌, ◌≢◌, ℕ, suc, ◌+◌, ◌<◌, ◌≤◌, ◌^◌, Bool, true, false, List, [], ◌∷◌, ◌++◌, Some, count_by, eqb, get_or, length, map, take, refl, sym, ap, subst, ◌∙◌, arith, ⊎_elim}
-use Rattle.dex_world.proofs.Common.{Address, PlainAccount, PlainAccounts, PlainMarketAccounts, PlainRow, Row, is_same, is_same-sym, is_same-true, length-map, names, row_of, sum_by-append, sum_by-cons, take_all, take_more}
-use Rattle.std.specs.List.{All, position}
+use Rattle.dex_bank.proofs.Common.{All, IsStart, Limits, RowPlaces, item_at, position}
+use Rattle.dex_world.proofs.Common.{Address, All-head, All-tail, PlainAccount, PlainAccounts, PlainMarketAccounts, PlainRow, Row, is_same, is_same-sym, is_same-true, length-map, names, row_of, row_wallets, sum_by-append, sum_by-cons, take_all, take_more}
 use Rattle.std.proofs.lemmas.Bool.{cases_lt}
 use Rattle.std.proofs.lemmas.Bool.Decides.{eqb_tells}
 use Rattle.std.proofs.lemmas.List.{get_or-map, length-take-le}
-use Rattle.std.proofs.lemmas.List.Elements.{All-head, All-tail}
 use Rattle.std.proofs.lemmas.List.Quantifiers.{position-Some}
 use Rattle.std.proofs.lemmas.List.Sums.{count_by-le-length, sum_by_more}
-use Rattle.dex_types.specs.Wallets.{row_wallets}
 use Rattle.dex_history.proofs.AddressOrder.{times}
-use Rattle.dex_world.specs.declared.places.RowPlaces.{RowPlaces}
-use Rattle.dex_types.specs.declared.limits.Limits.{Limits}
-use Rattle.dex_script_types.specs.Facts.{IsStart}
 use Rattle.dex_world.specs.Places.{ArePlacesOf}
 use Rattle.dex_world.proofs.OnceLaws.{roles-once, times-any}
 use Rattle.dex_script_types.specs.Places.{IsPlaced, wallet_place}
 use Rattle.dex_script_types.proofs.Apart.{AreDistinct, markets-distinct, wallets-distinct}
 use Rattle.dex_script_types.proofs.PlacedLaws.{position-map}
 use Rattle.dex_bank.specs.Counts.{AreCounted, HaveSpare, one, times_told}
-use Rattle.dex_world.proofs.MappedLists.{item_at}
 
 -- ---- the place of an address
 

@@ -1,14 +1,10 @@
 -- Where the market and the wallets of rows stand among cells.
 use Rattle.std.proofs.Common.{◌≡◌, ℕ, ◌<◌, List, [], ◌∷◌, Option, None, Some, get_or, length, map, sym, ap, ◌∙◌, subst, arith}
 use Rattle.std.proofs.lemmas.Option.{none-some}
-use Rattle.dex_world.proofs.Common.{Address, PlainAccount, PlainAccounts, PlainMarketAccounts, PlainRow, is_same, length-map}
-use Rattle.dex_bank.proofs.Common.{AreCells, CellState, CellsState, IsFirstAt, MarketCellState, market_opened, opened_of, wallet_opened}
-use Rattle.std.specs.List.{All, position}
-use Rattle.std.proofs.lemmas.List.{get_or-map}
+use Rattle.dex_world.proofs.Common.{Address, PlainAccount, PlainAccounts, PlainMarketAccounts, PlainRow, get_or-map, is_same, length-map, row_wallets}
+use Rattle.dex_bank.proofs.Common.{All, AreCells, CellState, CellsState, IsFirstAt, MarketCellState, RowPlaces, market_opened, opened_of, position, wallet_opened}
 use Rattle.std.proofs.lemmas.List.Quantifiers.{position-Some}
-use Rattle.dex_world.specs.declared.places.RowPlaces.{RowPlaces}
 use Rattle.dex_types.specs.declared.terms.Program.{Program}
-use Rattle.dex_types.specs.Wallets.{row_wallets}
 use Rattle.dex_world.specs.Places.{AreWalletsAt, IsIndexOf, place_at}
 use Rattle.dex_script_types.specs.Places.{ArePlaced, IsPlaced, market_place, wallet_place}
 use Rattle.dex_script_types.proofs.FoundLaws.{found-at, wallets-same}

@@ -2,7 +2,7 @@
 use Rattle.std.proofs.Common.{◌≡◌, ℕ, ◌&&◌, not, List, get_or, set, is_some, Option, sym, ap, ◌∙◌, subst}
 use Rattle.dex_types.specs.declared.account_bytes.Named.{Named}
 use Rattle.dex_world.proofs.Common.{PlainRow, Refusal, Seen, request_of, row_of, seen_by, why, why_in}
-use Rattle.dex_bank.proofs.Common.{AreCells, CellState, CellsState, IsFirstAt, MarketCellState, world_of}
+use Rattle.dex_bank.proofs.Common.{AreCells, CellState, CellsState, IsFirstAt, MarketCellState, StandsAt, item_at, world_of}
 use Rattle.dex_cell.specs.CellState.{market_at}
 use Rattle.dex_act.specs.Steps.{Terms}
 use Rattle.dex_act.specs.declared.steps.Legs.{Legs}
@@ -10,14 +10,12 @@ use Rattle.dex_act.specs.declared.steps.RowDone.{RowDone}
 use Rattle.dex_act.specs.Steps.{AreStepsOn, CanStepBoth, HasDone}
 use Rattle.dex_bank.specs.Cells.{CanActBoth}
 use Rattle.dex_bank.specs.CellsInside.{cells_by}
-use Rattle.dex_bank.specs.Places.{StandsAt}
 use Rattle.dex_bank.specs.Stepped.{HasActedOrWaited, HaveBothStepped}
 use Rattle.dex_bank.specs.Stepping.{AreStepsAt}
 use Rattle.dex_bank.proofs.Stands.{first-still, its-address}
 use Rattle.dex_bank.proofs.StepCells.{can-step, refused-here, stepped}
 use Rattle.dex_bank.proofs.StepMarkets.{apart-places, other-at}
 use Rattle.dex_bank.proofs.StepTwo.{both-stepped}
-use Rattle.dex_world.proofs.MappedLists.{item_at}
 
 -- the legs of a swap can act where their markets and wallets stand
 pub record AreReady (cells : CellsState) (legs : Legs) (one two : ℕ) : Type 0 where

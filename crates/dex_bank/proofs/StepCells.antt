@@ -1,15 +1,13 @@
 -- All cells before and after a row.
 use Rattle.std.proofs.Common.{◌≡◌, ℕ, Bool, true, List, map, get_or, set, Option, Some, sym, ap, ◌∙◌}
 use Rattle.dex_world.proofs.Common.{Market, MarketState, PlainMarketAccounts, PlainRow, Reply, Seen, WalletState, World, act, acted, is_same, is_same-true, markets_acted, request_of, row_step, seen_by, wallet_acted, why, why_in, why_on}
-use Rattle.dex_bank.proofs.Common.{AreCells, CanAct, CellState, CellsState, IsFirstAt, IsMarketCell, IsReply, MarketCellState, made_of, opened_of, wallet_state_of, world_of}
+use Rattle.dex_bank.proofs.Common.{AreCells, CanAct, CellState, CellsState, IsFirstAt, IsMarketCell, IsReply, MarketCellState, StandsAt, made_of, market_at, opened_of, wallet_state_of, world_of}
 use Rattle.std.proofs.lemmas.List.Elements.{All-get_or, All-set}
 use Rattle.std.proofs.Math.Seq.{map-set_same}
 use Rattle.dex_cell.specs.CellState as market
-use Rattle.dex_world.specs.World.{market_at}
 use Rattle.dex_world.specs.Items.{doing}
 use Rattle.dex_act.specs.declared.places.WalletPlaces.{WalletPlaces}
 use Rattle.dex_act.specs.Steps.{CanStep, HasDone}
-use Rattle.dex_bank.specs.Places.{StandsAt}
 use Rattle.dex_bank.specs.Stepped.{HasActedOrWaited}
 use Rattle.dex_bank.proofs.StepMarkets.{become-first, market-found, others-stay}
 use Rattle.dex_bank.proofs.StepWorld.{opened_market}

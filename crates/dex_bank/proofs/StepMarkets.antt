@@ -1,11 +1,10 @@
 -- Cells of markets, the first of whose at an address acts.
-use Rattle.std.proofs.Common.{◌≡◌, ℕ, zero, suc, ◌<◌, true, false, List, [], ◌∷◌, ◌++◌, map, set, get_or, length, take, drop, Some, refl, sym, ap, ◌∙◌, arith}
+use Rattle.std.proofs.Common.{◌≡◌, ℕ, zero, suc, ◌<◌, true, false, List, [], ◌∷◌, ◌++◌, map, set, get_or, get_or-drop, get_or-set_other, get_or-set_same, get_or-take, length, length-set, take, drop, Some, refl, sym, ap, ◌∙◌, arith}
 use Rattle.dex_world.proofs.Common.{Address, MarketState, PlainMarketAccounts, PlainRow, Seen, cond-false, cond-true, false≢true, is_same, is_same-true, market_acted, markets_acted}
-use Rattle.dex_bank.proofs.Common.{IsFirstAt, MarketCellState, OthersStay, market_state_of}
+use Rattle.dex_bank.proofs.Common.{IsFirstAt, MarketCellState, OthersStay, item_at, market_at, market_state_of}
+use Rattle.std.proofs.lemmas.List.{get_or_default, places, same_lists}
 use Rattle.dex_accounts.specs.Decoded.{market_in}
 use Rattle.dex_cell.specs.CellState as cells
-use Rattle.dex_world.specs.World.{market_at}
-use Rattle.dex_world.proofs.MappedLists.{item_at}
 
 -- the address of the market that accounts tell is theirs
 listing-address : (accounts : PlainMarketAccounts) → (market_in accounts).listing.address ≡ accounts.address
@@ -66,48 +65,26 @@ others-stay address (old ∷ others) (suc place) cell first =
 
 -- ---- two places of a list in two parts
 
-behind-front : {A : Type 0} (xs : List A) (k : ℕ) (x : A) → k < length xs → take k xs ++ set (drop k xs) 0 x ≡ set xs k x
-behind-front [] k x within = absurd (omega (arith, within))
-behind-front (y ∷ xs) zero x within = refl
-behind-front (y ∷ xs) (suc k) x within = ap (λ (l : List _). y ∷ l) (behind-front xs k x (omega (arith, within)))
-
 -- one in the front, and the first behind it
 pub set-parts : {A : Type 0} (xs : List A) (one two : ℕ) (x y : A) → one < two → two < length xs
     → set (take two xs) one x ++ set (drop two xs) 0 y ≡ set (set xs one x) two y
-set-parts [] one two x y lower within = absurd (omega (arith, within))
-set-parts (z ∷ xs) one zero x y lower within = absurd (omega (arith, lower))
-set-parts (z ∷ xs) zero (suc two) x y lower within = ap (λ (l : List _). x ∷ l) (behind-front xs two y (omega (arith, within)))
-set-parts (z ∷ xs) (suc one) (suc two) x y lower within =
-    ap (λ (l : List _). z ∷ l) (set-parts xs one two x y (omega (arith, lower)) (omega (arith, within)))
+set-parts xs one two x y lower within = same_lists _ _ (grind (arith, places, length-set)) (λ k d h. grind (arith, places, length-set, get_or-set_same))
 
 -- one behind, and the other in front of it
 pub set-parts-back : {A : Type 0} (xs : List A) (one two : ℕ) (x y : A) → two < one → one < length xs
     → set (take one xs) two y ++ set (drop one xs) 0 x ≡ set (set xs one x) two y
-set-parts-back [] one two x y lower within = absurd (omega (arith, within))
-set-parts-back (z ∷ xs) zero two x y lower within = absurd (omega (arith, lower))
-set-parts-back (z ∷ xs) (suc one) zero x y lower within = ap (λ (l : List _). y ∷ l) (behind-front xs one x (omega (arith, within)))
-set-parts-back (z ∷ xs) (suc one) (suc two) x y lower within =
-    ap (λ (l : List _). z ∷ l) (set-parts-back xs one two x y (omega (arith, lower)) (omega (arith, within)))
+set-parts-back xs one two x y lower within = same_lists _ _ (grind (arith, places, length-set)) (λ k d h. grind (arith, places, length-set, get_or-set_same))
 
 -- another place stays
 pub other-at : {A : Type 0} (xs : List A) (one two : ℕ) (x default : A) → (one ≡ two → ⊥) → get_or (set xs one x) two default ≡ get_or xs two default
-other-at [] one two x default apart = refl
-other-at (z ∷ xs) zero zero x default apart = absurd (apart refl)
-other-at (z ∷ xs) zero (suc two) x default apart = refl
-other-at (z ∷ xs) (suc one) zero x default apart = refl
-other-at (z ∷ xs) (suc one) (suc two) x default apart = other-at xs one two x default (λ same. apart (ap suc same))
+other-at xs one two x default apart = get_or-set_other xs one two x default (λ same. apart (sym same))
 
 -- what stands in the front, and first behind it
 pub front-at : {A : Type 0} (xs : List A) (mid k : ℕ) (d e : A) → k < mid → k < length xs → get_or (take mid xs) k d ≡ get_or xs k e
-front-at [] mid k d e lower within = absurd (omega (arith, within))
-front-at (x ∷ xs) zero k d e lower within = absurd (omega (arith, lower))
-front-at (x ∷ xs) (suc mid) zero d e lower within = refl
-front-at (x ∷ xs) (suc mid) (suc k) d e lower within = front-at xs mid k d e (omega (arith, lower)) (omega (arith, within))
+front-at xs mid k d e lower within = get_or-take mid xs k d lower ∙ get_or_default xs k d e within
 
 pub back-at : {A : Type 0} (xs : List A) (mid : ℕ) (d e : A) → mid < length xs → get_or (drop mid xs) 0 d ≡ get_or xs mid e
-back-at [] mid d e within = absurd (omega (arith, within))
-back-at (x ∷ xs) zero d e within = refl
-back-at (x ∷ xs) (suc mid) d e within = back-at xs mid d e (omega (arith, within))
+back-at xs mid d e within = get_or-drop mid xs 0 d ∙ ap (λ (n : ℕ). get_or xs n d) (omega arith) ∙ get_or_default xs mid d e within
 
 -- two markets stand at two places
 pub apart-places : (one other : Address) (markets : List MarketCellState) (p q : ℕ) → IsFirstAt one markets p → IsFirstAt other markets q

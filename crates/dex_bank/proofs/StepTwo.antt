@@ -1,9 +1,8 @@
 -- Two rows that share nothing, one after the other.
 use Rattle.std.proofs.Common.{◌≡◌, ◌||◌, ◌&&◌, not, Bool, true, false, cond, List, [], ◌∷◌, is_some, Option, Some, None, refl, sym, ap, ◌∙◌, subst, arith}
 use Rattle.dex_world.proofs.Common.{Address, AllZip, Market, PlainRow, Refusal, Reply, Seen, ShareNothing, World, act, chosen, false≢true, fold, idle_row, is_refusal, is_same, request_of, row_step, seen_by, step-refused, why-far, why_in, why_on}
-use Rattle.dex_bank.proofs.Common.{CellsState, IsReply, MarketCellState, OthersStay, world_of}
+use Rattle.dex_bank.proofs.Common.{CellsState, IsReply, MarketCellState, OthersStay, market_at, world_of}
 use Rattle.dex_world.specs.Items.{doing}
-use Rattle.dex_world.specs.World.{market_at}
 use Rattle.dex_world.proofs.FarLaws.{market-far, seen-far}
 use Rattle.dex_bank.specs.Cells.{OthersThanTwoStay}
 use Rattle.dex_bank.specs.Stepped.{HasActedOrWaited, HaveBothStepped}

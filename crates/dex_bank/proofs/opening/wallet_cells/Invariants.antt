@@ -1,7 +1,6 @@
 use Rattle.std.proofs.Common.{◌≡◌, List, length, map}
 use Rattle.dex_world.proofs.Common.{PlainRow, named_of}
-use Rattle.dex_bank.proofs.Common.{IsWalletCell, wallet_opened}
-use Rattle.std.specs.List.{All}
+use Rattle.dex_bank.proofs.Common.{All, IsWalletCell, wallet_opened}
 use Rattle.dex_bank.specs.Opened.{wallet_rooms}
 use Rattle.dex_bank.proofs.opening.wallet_cells.Given as goal
 

@@ -1,9 +1,8 @@
 use Rattle.std.proofs.Common.{false, List, get_or, set, sym, subst, arith}
 use Rattle.dex_world.proofs.Common.{row_of, with_items_is}
-use Rattle.dex_bank.proofs.Common.{AreCells, CellState, CellsState, MarketCellState, cells_inside}
+use Rattle.dex_bank.proofs.Common.{AreCells, CellState, CellsState, MarketCellState, StandsAt, cells_inside}
 use Rattle.std.specs.Vec.{with_items}
 use Rattle.dex_act.specs.Steps.{CanStep, IsStepOn}
-use Rattle.dex_bank.specs.Places.{StandsAt}
 use Rattle.dex_bank.specs.Stepped.{HasStepped}
 use Rattle.dex_bank.proofs.StepCells.{can-step, stepped}
 use Rattle.dex_bank.proofs.stepping.stepped.Goals as goal

@@ -1,7 +1,6 @@
 use Rattle.std.proofs.Common.{map, sym, subst}
 use Rattle.dex_world.proofs.Common.{accounts_of, row_of}
-use Rattle.dex_bank.proofs.Common.{CellsState}
-use Rattle.dex_bank.specs.Places.{ArePlacedIn}
+use Rattle.dex_bank.proofs.Common.{ArePlacedIn, CellsState}
 use Rattle.dex_bank.proofs.Stands.{placed-stand}
 use Rattle.dex_bank.proofs.cells.Cells.of_script.Goals as goal
 

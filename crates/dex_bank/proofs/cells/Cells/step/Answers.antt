@@ -1,8 +1,6 @@
 use Rattle.std.proofs.Common.{sym, subst}
-use Rattle.dex_types.specs.declared.rows.Row.{Row}
-use Rattle.dex_types.specs.Rows.{row_of}
-use Rattle.dex_bank.specs.Cells.{CanAct}
-use Rattle.dex_bank.specs.Places.{StandsAt}
+use Rattle.dex_world.proofs.Common.{Row, row_of}
+use Rattle.dex_bank.proofs.Common.{CanAct, StandsAt}
 use Rattle.dex_bank.specs.Stepped.{HasStepped}
 use Rattle.dex_bank.proofs.cells.Cells.step.Goals as goal
 

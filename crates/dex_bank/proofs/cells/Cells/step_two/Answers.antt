@@ -1,6 +1,5 @@
 use Rattle.std.proofs.Common.{sym, subst}
-use Rattle.dex_types.specs.declared.rows.Row.{Row}
-use Rattle.dex_types.specs.Rows.{row_of}
+use Rattle.dex_world.proofs.Common.{Row, row_of}
 use Rattle.dex_bank.specs.Cells.{CanActBoth}
 use Rattle.dex_bank.specs.Places.{StandsAt}
 use Rattle.dex_bank.specs.Stepped.{HaveBothStepped}

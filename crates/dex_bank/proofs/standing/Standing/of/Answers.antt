@@ -1,9 +1,7 @@
 use Rattle.std.proofs.Common.{sym, subst, ◌∙◌, Option}
+use Rattle.dex_world.proofs.Common.{Row, row_of}
+use Rattle.dex_bank.proofs.Common.{CanAct, RowPlaces}
 use Rattle.std.specs.Prelude.{IfSome}
-use Rattle.dex_types.specs.declared.rows.Row.{Row}
-use Rattle.dex_world.specs.declared.places.RowPlaces.{RowPlaces}
-use Rattle.dex_types.specs.Rows.{row_of}
-use Rattle.dex_bank.specs.Cells.{CanAct}
 use Rattle.dex_bank.specs.Places.{ArePlacesIn, StandsAt}
 use Rattle.dex_bank.proofs.Stands.{stands-told}
 use Rattle.dex_bank.proofs.standing.Standing.of.Goals as goal
