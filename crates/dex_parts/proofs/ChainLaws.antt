@@ -1,31 +1,12 @@
 -- A script in parts is one replay.
-use Rattle.std.proofs.Common.{◌≡◌, ◌==◌, ℕ, false, List, [], ◌∷◌, ◌++◌, append_assoc, length, map, Option, refl, sym, ap, ◌∙◌, subst}
-use Rattle.std.specs.List.{All, AllZip}
-use Rattle.std.proofs.lemmas.List.{append-nil, length-map}
-use Rattle.std.proofs.lemmas.List.Elements.{All-append, All-weaker}
-use Rattle.dex_types.specs.declared.addresses.Address.{Address}
-use Rattle.dex_types.specs.declared.movements.Entry.{Entry}
-use Rattle.dex_types.specs.declared.movements.WalletEntry.{WalletEntry}
-use Rattle.dex_types.specs.declared.terms.Program.{Program}
-use Rattle.dex_types.specs.Accounts.{PlainAccount, PlainAccounts, PlainMarketAccounts}
-use Rattle.dex_types.specs.Rows.{PlainRow}
-use Rattle.dex_token.specs.TokenAccount.{with_amount}
+use Rattle.std.proofs.Common.{◌≡◌, ◌==◌, false, List, [], ◌∷◌, ◌++◌, append_assoc, length, map, refl, sym, ap, ap₂, ◌∙◌, subst}
+use Rattle.dex_world.proofs.Common.{Address, All-append, All-weaker, AllZip, Entry, MarketState, PlainAccount, PlainAccounts, PlainMarketAccounts, PlainRow, WalletEntry, WalletState, World, fold_items, length-map}
+use Rattle.dex_parts.proofs.Common.{All, All-behind, All-front, AreAccepted, AreOfOneMarket, IsLeftIn, IsReplayOf, Item, Limits, PlainMarketJournal, PlainOutcome, PlainScript, PlainWalletJournal, address_of, append-nil, items_of, market_state, start_world, wallet_state, with_amounts, world_after}
 use Rattle.dex_token.proofs.AmountWrites.{with_amount-again}
-use Rattle.dex_cell.specs.CellState.{AreOfOneMarket}
-use Rattle.dex_world.specs.Items.{Item, fold_items, items_of}
-use Rattle.dex_world.specs.World.{MarketState, WalletState, World}
 use Rattle.dex_world.proofs.GroupLaws.{grouped-behind}
-use Rattle.dex_world.proofs.MappedLists.{All-front}
-use Rattle.dex_types.specs.declared.limits.Limits.{Limits}
-use Rattle.dex_state.specs.Accepted.{AreAccepted}
-use Rattle.dex_state.specs.Addresses.{address_of}
-use Rattle.dex_state.specs.Outcomes.{PlainMarketJournal, PlainOutcome, PlainWalletJournal}
-use Rattle.dex_script_types.specs.PlainScript.{PlainScript}
-use Rattle.dex_replay.specs.Replays.{IsLeftIn, IsReplayOf, start_world, wallet_state, with_amounts, world_after}
 use Rattle.dex_parts.specs.Chains.{AreCut, AreLinked, AreTwoParts, IsChainOf, IsCut, market_journal_behind, outcome_behind, outcomes_behind, rows_of_parts, wallet_journal_behind}
-use Rattle.dex_parts.specs.Together.{bare_market, bare_wallet, bare_world, each_behind, market_behind, wallet_behind, world_behind}
+use Rattle.dex_parts.specs.Together.{bare_world, each_behind, market_behind, wallet_behind, world_behind}
 use Rattle.dex_parts.proofs.KeptLaws.{msrm-kept, program-kept, srm-kept}
-use Rattle.dex_parts.proofs.ListLaws.{All-behind}
 use Rattle.dex_parts.proofs.LeftLaws.{StandIn, left-as, markets-told, same-addresses, wallets-told}
 use Rattle.dex_parts.proofs.TogetherLaws.{behind-others, items-append}
 
@@ -34,27 +15,21 @@ use Rattle.dex_parts.proofs.TogetherLaws.{behind-others, items-append}
 -- what is told of two that stand one behind the other, as a pair tells it
 behind-told : {A B : Type 0} (tell : A → B) (one : A → A → A) (other : B → B → B) → ((x y : A) → tell (one x y) ≡ other (tell x) (tell y))
     → (xs ys : List A) → map tell (each_behind one xs ys) ≡ each_behind other (map tell xs) (map tell ys)
-behind-told tell one other same [] ys = refl
-behind-told tell one other same (x ∷ xs) [] = refl
-behind-told tell one other same (x ∷ xs) (y ∷ ys) =
-    ap (λ z. z ∷ map tell (each_behind one xs ys)) (same x y) ∙ ap (λ zs. other (tell x) (tell y) ∷ zs) (behind-told tell one other same xs ys)
+behind-told tell one other same (x ∷ xs) (y ∷ ys) = λ i. same x y i ∷ behind-told tell one other same xs ys i
+behind-told tell one other same _ _ = refl
 
 -- what only the first tells, and what only the second
 behind-first : {A B : Type 0} (tell : A → B) (one : A → A → A) → ((x y : A) → tell (one x y) ≡ tell x) → (xs ys : List A) → length xs ≡ length ys
     → map tell (each_behind one xs ys) ≡ map tell xs
 behind-first tell one same [] [] long = refl
-behind-first tell one same [] (y ∷ ys) long = absurd (cc)
-behind-first tell one same (x ∷ xs) [] long = absurd (cc)
-behind-first tell one same (x ∷ xs) (y ∷ ys) long =
-    ap (λ z. z ∷ map tell (each_behind one xs ys)) (same x y) ∙ ap (λ zs. tell x ∷ zs) (behind-first tell one same xs ys (cc long))
+behind-first tell one same (x ∷ xs) (y ∷ ys) long = λ i. same x y i ∷ behind-first tell one same xs ys (cc long) i
+behind-first tell one same _ _ long = absurd (cc)
 
 behind-second : {A B : Type 0} (tell : A → B) (one : A → A → A) → ((x y : A) → tell (one x y) ≡ tell y) → (xs ys : List A) → length xs ≡ length ys
     → map tell (each_behind one xs ys) ≡ map tell ys
 behind-second tell one same [] [] long = refl
-behind-second tell one same [] (y ∷ ys) long = absurd (cc)
-behind-second tell one same (x ∷ xs) [] long = absurd (cc)
-behind-second tell one same (x ∷ xs) (y ∷ ys) long =
-    ap (λ z. z ∷ map tell (each_behind one xs ys)) (same x y) ∙ ap (λ zs. tell y ∷ zs) (behind-second tell one same xs ys (cc long))
+behind-second tell one same (x ∷ xs) (y ∷ ys) long = λ i. same x y i ∷ behind-second tell one same xs ys (cc long) i
+behind-second tell one same _ _ long = absurd (cc)
 
 pub same-long : {A B C : Type 0} (f : A → C) (g : B → C) (xs : List A) (ys : List B) → map f xs ≡ map g ys → length xs ≡ length ys
 same-long {C = C} f g xs ys same = sym (length-map xs f) ∙ ap (λ (zs : List C). length zs) same ∙ length-map ys g
@@ -62,27 +37,21 @@ same-long {C = C} f g xs ys same = sym (length-map xs f) ∙ ap (λ (zs : List C
 stand-behind : (all : List PlainMarketAccounts) (before states : List MarketState) → length before ≡ length states → AllZip StandIn all states
     → AllZip StandIn all (each_behind market_behind before states)
 stand-behind all [] [] long stand = stand
-stand-behind all [] (state ∷ states) long stand = absurd (cc)
-stand-behind all (one ∷ before) [] long stand = absurd (cc)
-stand-behind [] (one ∷ before) (state ∷ states) long stand = absurd stand
 stand-behind (accounts ∷ all) (one ∷ before) (state ∷ states) long stand = (stand.0, stand-behind all before states (cc long) stand.1)
+stand-behind [] (one ∷ before) (state ∷ states) long stand = absurd stand
+stand-behind _ _ _ long stand = absurd (cc)
 
 amounts-again : (accounts : List PlainAccount) (before states : List WalletState) → length before ≡ length states
     → with_amounts (with_amounts accounts before) states ≡ with_amounts accounts (each_behind wallet_behind before states)
 amounts-again [] before states long = refl
 amounts-again (account ∷ accounts) [] [] long = refl
-amounts-again (account ∷ accounts) [] (state ∷ states) long = absurd (cc)
-amounts-again (account ∷ accounts) (one ∷ before) [] long = absurd (cc)
 amounts-again (account ∷ accounts) (one ∷ before) (state ∷ states) long =
-    ap (λ (bytes : List ℕ). record account { bytes = bytes } ∷ with_amounts (with_amounts accounts before) states)
-    (with_amount-again account.bytes one.seen.balance state.seen.balance)
-    ∙ ap (λ (rest : List PlainAccount). record account { bytes = with_amount account.bytes state.seen.balance } ∷ rest) (amounts-again accounts before states (cc long))
+    λ i. record account { bytes = with_amount-again account.bytes one.seen.balance state.seen.balance i } ∷ amounts-again accounts before states (cc long) i
+amounts-again _ _ _ long = absurd (cc)
 
 of-one-market : (first next last : List PlainMarketAccounts) → AllZip AreOfOneMarket first next → AllZip AreOfOneMarket next last → AllZip AreOfOneMarket first last
 of-one-market [] [] [] one other = tt
 of-one-market [] [] (z ∷ zs) one other = absurd other
-of-one-market [] (y ∷ ys) last one other = absurd one
-of-one-market (x ∷ xs) [] last one other = absurd one
 of-one-market (x ∷ xs) (y ∷ ys) [] one other = absurd other
 of-one-market (x ∷ xs) (y ∷ ys) (z ∷ zs) one other = (
   record {
@@ -92,6 +61,7 @@ of-one-market (x ∷ xs) (y ∷ ys) (z ∷ zs) one other = (
   },
   of-one-market xs ys zs one.1 other.1,
 )
+of-one-market _ _ _ one other = absurd one
 
 -- ---- two parts
 
@@ -111,23 +81,16 @@ module _ (script first second : PlainScript) (one two : PlainOutcome) (are : Are
 
   -- the second part starts where the first ends
   starts : start_world second ≡ bare_world early
-  starts =
-      ap (λ (start : PlainAccounts). start_world (record second { start = start })) are.goes_on
-      ∙ ap (λ (markets : List MarketState). record { markets = markets; wallets = map wallet_state one.accounts.wallets; srm = one.accounts.srm; msrm = one.accounts.msrm; program = second.program })
-      (markets-told first done one left)
-      ∙ ap (λ (wallets : List WalletState). record { markets = map bare_market early.markets; wallets = wallets; srm = one.accounts.srm; msrm = one.accounts.msrm; program = second.program })
-      (wallets-told first done one left)
-      ∙ ap (λ (srm : Option Address). record { markets = map bare_market early.markets; wallets = map bare_wallet early.wallets; srm = srm; msrm = one.accounts.msrm; program = second.program })
-      (left.start.srm ∙ sym (srm-kept done (start_world first)))
-      ∙ ap (λ (msrm : Option Address). record { markets = map bare_market early.markets; wallets = map bare_wallet early.wallets; srm = early.srm; msrm = msrm; program = second.program })
-      (left.start.msrm ∙ sym (msrm-kept done (start_world first)))
-      ∙ ap (λ (program : Program). record { markets = map bare_market early.markets; wallets = map bare_wallet early.wallets; srm = early.srm; msrm = early.msrm; program = program })
-      (are.same_program ∙ sym are.program ∙ sym (program-kept done (start_world first)))
+  starts = λ i. record {
+    markets = (ap (λ (start : PlainAccounts). map market_state start.markets) are.goes_on ∙ markets-told first done one left) i;
+    wallets = (ap (λ (start : PlainAccounts). map wallet_state start.wallets) are.goes_on ∙ wallets-told first done one left) i;
+    srm = (ap (λ (start : PlainAccounts). start.srm) are.goes_on ∙ left.start.srm ∙ sym (srm-kept done (start_world first))) i;
+    msrm = (ap (λ (start : PlainAccounts). start.msrm) are.goes_on ∙ left.start.msrm ∙ sym (msrm-kept done (start_world first))) i;
+    program = (are.same_program ∙ sym are.program ∙ sym (program-kept done (start_world first))) i;
+  }
 
   start-same : start_world script ≡ start_world first
-  start-same =
-      ap (λ (start : PlainAccounts). start_world (record script { start = start })) (sym are.start)
-      ∙ ap (λ (program : Program). start_world (record first { program = program })) (sym are.program)
+  start-same = λ i. start_world (record script { start = sym are.start i; program = sym are.program i })
 
   -- the world at its end is that behind the one at the end of the first
   ends : world_after script (items_of script.rows) ≡ world_behind early late
@@ -190,14 +153,12 @@ module _ (script first second : PlainScript) (one two : PlainOutcome) (are : Are
     markets =
         let joined : List Entry → List Entry → List Entry = λ (before entries : List Entry). before ++ entries in
         behind-told (λ (journal : PlainMarketJournal). journal.entries) market_journal_behind joined (λ x y. refl) one.markets two.markets
-        ∙ ap (λ (all : List (List Entry)). each_behind joined all (map (λ (journal : PlainMarketJournal). journal.entries) two.markets)) left.markets
-        ∙ ap (λ (all : List (List Entry)). each_behind joined (map (λ (state : MarketState). state.entries) early.markets) all) then.markets
+        ∙ ap₂ (each_behind joined) left.markets then.markets
         ∙ sym (behind-told (λ (state : MarketState). state.entries) market_behind joined (λ x y. refl) early.markets late.markets);
     wallets =
         let joined : List WalletEntry → List WalletEntry → List WalletEntry = λ (before entries : List WalletEntry). before ++ entries in
         behind-told (λ (journal : PlainWalletJournal). journal.entries) wallet_journal_behind joined (λ x y. refl) one.wallets two.wallets
-        ∙ ap (λ (all : List (List WalletEntry)). each_behind joined all (map (λ (journal : PlainWalletJournal). journal.entries) two.wallets)) left.wallets
-        ∙ ap (λ (all : List (List WalletEntry)). each_behind joined (map (λ (state : WalletState). state.entries) early.wallets) all) then.wallets
+        ∙ ap₂ (each_behind joined) left.wallets then.wallets
         ∙ sym (behind-told (λ (state : WalletState). state.entries) wallet_behind joined (λ x y. refl) early.wallets late.wallets);
     stand = stand-behind two.accounts.markets early.markets late.markets markets-long then.stand;
     amounts = then.amounts
@@ -208,14 +169,10 @@ module _ (script first second : PlainScript) (one two : PlainOutcome) (are : Are
         ∙ sym (behind-second (λ (state : WalletState). state.seen.balance) wallet_behind (λ x y. refl) early.wallets late.wallets wallets-long);
   }
 
-  two-parts : IsReplayOf script (outcome_behind one two)
-  two-parts =
+  pub two-are-one : IsReplayOf script (outcome_behind one two)
+  two-are-one =
       subst (λ (world : World). IsLeftIn script world (outcome_behind one two)) (sym ends)
       (left-as first script (world_behind early late) (outcome_behind one two) are.start are.limits both-left)
-
-pub two-are-one : (script first second : PlainScript) (one two : PlainOutcome) → AreTwoParts script first one second → IsReplayOf first one → IsReplayOf second two
-    → IsReplayOf script (outcome_behind one two)
-two-are-one script first second one two are left then = two-parts script first second one two are left then
 
 -- ---- any number of parts
 
@@ -223,10 +180,7 @@ two-are-one script first second one two are left then = two-parts script first s
 replay-as : (a b : PlainScript) (outcome : PlainOutcome) → a.start ≡ b.start → a.rows ≡ b.rows → a.program ≡ b.program → a.limits ≡ b.limits
     → IsReplayOf a outcome → IsReplayOf b outcome
 replay-as a b outcome start rows program limits replay =
-    let worlds : world_after a (items_of a.rows) ≡ world_after b (items_of b.rows) =
-    ap (λ (all : List PlainRow). fold_items (items_of all) (start_world a)) rows
-    ∙ ap (λ (accounts : PlainAccounts). fold_items (items_of b.rows) (start_world (record a { start = accounts }))) start
-    ∙ ap (λ (one : Program). fold_items (items_of b.rows) (start_world (record b { program = one }))) program in
+    let worlds : world_after a (items_of a.rows) ≡ world_after b (items_of b.rows) = λ i. fold_items (items_of (rows i)) (start_world (record a { start = start i; program = program i })) in
     left-as a b (world_after b (items_of b.rows)) outcome start limits (subst (λ (world : World). IsLeftIn a world outcome) worlds replay)
 
 abbrev IsApart : PlainRow → PlainRow → Type 0
@@ -249,8 +203,6 @@ chain-behind : (script first : PlainScript) (one : PlainOutcome) (parts : List P
     → IsReplayOf first one → AreLinked script.limits script.program one.accounts parts others → IsReplayOf script (outcomes_behind one others)
 chain-behind script first one [] [] rows cut cuts start program limits replay links =
     replay-as first script one start (sym (append-nil first.rows) ∙ sym rows) program limits replay
-chain-behind script first one [] (other ∷ others) rows cut cuts start program limits replay links = absurd links
-chain-behind script first one (part ∷ parts) [] rows cut cuts start program limits replay links = absurd links
 chain-behind script first one (part ∷ parts) (two ∷ others) rows cut cuts start program limits replay links =
     let rest : List PlainRow = rows_of_parts parts in
     let both : PlainScript = record { start = script.start; rows = first.rows ++ part.rows; lanes = script.lanes; program = script.program; limits = script.limits } in
@@ -266,6 +218,7 @@ chain-behind script first one (part ∷ parts) (two ∷ others) rows cut cuts st
     } in
     chain-behind script both (outcome_behind one two) parts others (rows ∙ sym (append_assoc first.rows part.rows rest))
     (cut-behind first.rows part.rows rest cut cuts.0) cuts.1 refl refl refl (two-are-one both first part one two are replay links.3) links.4
+chain-behind script first one _ _ rows cut cuts start program limits replay links = absurd links
 
 pub chain-is-one : (script part : PlainScript) (parts : List PlainScript) (one : PlainOutcome) (others : List PlainOutcome) → IsChainOf script (part ∷ parts) (one ∷ others)
     → IsReplayOf script (outcomes_behind one others)

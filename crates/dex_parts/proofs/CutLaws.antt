@@ -1,34 +1,9 @@
 -- Rows that are cut where no number is parted are a chain.
-use Rattle.std.proofs.Common.{◌≡◌, ◌<◌, ◌≤◌, ◌+◌, ◌-◌, ◌==◌, inl, inr, ℕ, zero, suc, false, List, [], ◌∷◌, ◌++◌, append_assoc, drop, get_or, length, map, take, refl, sym, ap, ◌∙◌, subst, arith, ⊎_elim}
-use Rattle.std.specs.List.{All, AllPairs}
-use Rattle.std.proofs.lemmas.Bool.{cases_eq, eq-eqb, false≢true, ne_eqb}
-use Rattle.std.proofs.lemmas.List.{append-nil, get_or-drop, get_or-map, get_or-take, get_or_default, length-drop, length-map, length-take-le}
-use Rattle.dex_world.specs.declared.places.RowPlaces.{RowPlaces}
-use Rattle.dex_types.specs.Rows.{PlainRow}
-use Rattle.dex_world.proofs.MappedLists.{All-unmap, head-same, item_at, tail-same, zip-map}
-use Rattle.dex_script_types.specs.Facts.{AreRows, HasNoThree}
-use Rattle.dex_script_types.specs.Places.{AreBeside, IsBeside}
-use Rattle.dex_script_types.specs.PlainScript.{PlainScript}
-use Rattle.dex_state.specs.Outcomes.{PlainOutcome}
+use Rattle.std.proofs.Common.{◌≡◌, ◌<◌, ◌≤◌, ◌+◌, ◌-◌, ◌==◌, inl, inr, ℕ, false, List, [], ◌∷◌, ◌++◌, append_assoc, drop, take-append-drop, get_or, length, map, take, refl, sym, ap, ◌∙◌, subst, arith, ⊎_elim}
+use Rattle.dex_world.proofs.Common.{AllPairs, PlainRow, eq-eqb, false≢true, get_or-map, length-map, ne_eqb}
+use Rattle.dex_parts.proofs.Common.{All, All-unmap, AreBeside, AreRows, HasNoThree, IsBeside, PlainOutcome, PlainScript, RowPlaces, append-nil, cases_eq, drop-map, get_or-drop, get_or-take, get_or_default, head-same, item_at, length-drop, length-take-le, nil_from_length, tail-same, take-map, zip-map}
 use Rattle.dex_parts.specs.Chains.{AreCut, AreLinked, IsChainOf, IsCut, rows_of_parts}
 use Rattle.dex_parts.specs.Cuts.{AreCutBy, AreInOrder, AreLegsIn, ArePartedAt, IsPart, numbers_of, parts_by}
-
--- ---- lists in two
-
-take-and-drop : {A : Type 0} (n : ℕ) (xs : List A) → take n xs ++ drop n xs ≡ xs
-take-and-drop zero xs = refl
-take-and-drop (suc n) [] = refl
-take-and-drop (suc n) (x ∷ xs) = ap (λ rest. x ∷ rest) (take-and-drop n xs)
-
-map-take : {A B : Type 0} (f : A → B) (n : ℕ) (xs : List A) → map f (take n xs) ≡ take n (map f xs)
-map-take f zero xs = refl
-map-take f (suc n) [] = refl
-map-take f (suc n) (x ∷ xs) = ap (λ rest. f x ∷ rest) (map-take f n xs)
-
-map-drop : {A B : Type 0} (f : A → B) (n : ℕ) (xs : List A) → map f (drop n xs) ≡ drop n (map f xs)
-map-drop f zero xs = refl
-map-drop f (suc n) [] = refl
-map-drop f (suc n) (x ∷ xs) = map-drop f n xs
 
 -- ---- numbers in order
 
@@ -181,7 +156,7 @@ pub one-part-more : (most count : ℕ) (counts new : List ℕ) (left rest places
     → IsPart most count (map (λ (at : RowPlaces). at.number) left) → new ≡ counts ++ count ∷ [] → rest ≡ drop count left → AreCutUpTo most new rest places
 one-part-more most count counts new left rest places upto part is behind =
     let number : RowPlaces → ℕ = λ (at : RowPlaces). at.number in
-    let numbers : map number rest ≡ drop count (map number left) = ap (map number) behind ∙ map-drop number count left in
+    let numbers : map number rest ≡ drop count (map number left) = ap (map number) behind ∙ sym (drop-map number count left) in
     record {
       order = subst AreInOrder (sym numbers) (order-behind count (map number left) upto.order);
       cut = λ more cut.
@@ -194,19 +169,12 @@ pub all-parts : (most : ℕ) (counts : List ℕ) (left places : List RowPlaces) 
     → AreCutBy most counts (map (λ (at : RowPlaces). at.number) places)
 all-parts most counts left places upto none =
     subst (λ (all : List ℕ). AreCutBy most all (map (λ (at : RowPlaces). at.number) places)) (append-nil counts)
-    (upto.cut [] (ap (map (λ (at : RowPlaces). at.number)) (empty left none)))
-  where
-    empty : (some : List RowPlaces) → length some ≡ 0 → some ≡ []
-    empty [] is = refl
-    empty (at ∷ others) is = absurd (omega (arith, is))
+    (upto.cut [] (ap (map (λ (at : RowPlaces). at.number)) (nil_from_length left none)))
 
 -- ---- one way to cut
 
 same-by : (a b : ℕ) → (a < b → ⊥) → (b < a → ⊥) → a ≡ b
-same-by zero zero below above = refl
-same-by zero (suc b) below above = absurd (below (omega arith))
-same-by (suc a) zero below above = absurd (above (omega arith))
-same-by (suc a) (suc b) below above = ap suc (same-by a b (λ less. below (omega (arith, less))) (λ less. above (omega (arith, less))))
+same-by a b below above = omega (arith, below, above)
 
 -- legs that are one part are no two parts
 no-leg-alone : (most a : ℕ) (numbers : List ℕ) → IsPart most a numbers → a ≤ most → 2 ≤ length numbers → AreLegsIn most numbers → ⊥
@@ -254,32 +222,27 @@ cut-of count rows parted =
     let number : PlainRow → ℕ = λ (row : PlainRow). row.number in
     let Apart : ℕ → Type 0 = λ (one : ℕ). All (λ (other : ℕ). (one == other) ≡ false) (drop count (numbers_of rows)) in
     let front : All (λ (row : PlainRow). Apart (number row)) (take count rows) =
-    All-unmap Apart number (take count rows) (subst (All Apart) (sym (map-take number count rows)) parted) in
+    All-unmap Apart number (take count rows) (subst (All Apart) (take-map number count rows) parted) in
     λ k d within.
     All-unmap (λ (other : ℕ). (number (get_or (take count rows) k d) == other) ≡ false) number (drop count rows)
-    (subst (All (λ (other : ℕ). (number (get_or (take count rows) k d) == other) ≡ false)) (sym (map-drop number count rows)) (front k d within))
-
-nil-of : (rows : List PlainRow) → numbers_of rows ≡ [] → rows ≡ []
-nil-of [] none = refl
-nil-of (row ∷ rows) none = absurd (cc)
+    (subst (All (λ (other : ℕ). (number (get_or (take count rows) k d) == other) ≡ false)) (drop-map number count rows) (front k d within))
 
 -- parts with these rows are cut, and have them all
 parts-cut : (most : ℕ) (counts : List ℕ) (rows : List PlainRow) (parts : List PlainScript) → AreCutBy most counts (numbers_of rows)
     → map (λ (part : PlainScript). part.rows) parts ≡ parts_by counts rows → (rows ≡ rows_of_parts parts) × AreCut parts
-parts-cut most [] rows [] cut same = (nil-of rows cut, tt)
-parts-cut most [] rows (part ∷ parts) cut same = absurd (cc)
-parts-cut most (count ∷ counts) rows [] cut same = absurd (cc)
+parts-cut most [] rows [] cut same = (nil_from_length rows (sym (length-map rows (λ (row : PlainRow). row.number)) ∙ ap length cut), tt)
 parts-cut most (count ∷ counts) rows (part ∷ parts) cut same =
     let number : PlainRow → ℕ = λ (row : PlainRow). row.number in
     let front : part.rows ≡ take count rows = head-same same in
-    let rest = parts-cut most counts (drop count rows) parts (subst (AreCutBy most counts) (sym (map-drop number count rows)) cut.1) (tail-same same) in (
-      sym (take-and-drop count rows) ∙ ap (λ (some : List PlainRow). some ++ drop count rows) (sym front) ∙ ap (λ (some : List PlainRow). part.rows ++ some) rest.0,
+    let rest = parts-cut most counts (drop count rows) parts (subst (AreCutBy most counts) (drop-map number count rows) cut.1) (tail-same same) in (
+      sym (take-append-drop count rows) ∙ ap (λ (some : List PlainRow). some ++ drop count rows) (sym front) ∙ ap (λ (some : List PlainRow). part.rows ++ some) rest.0,
       (
         subst (λ (some : List PlainRow). IsCut some (rows_of_parts parts)) (sym front)
             (subst (IsCut (take count rows)) rest.0 (cut-of count rows cut.0.parted)),
         rest.1,
       ),
     )
+parts-cut most _ rows _ cut same = absurd (cc)
 
 pub is-chain : (most : ℕ) (counts : List ℕ) (script : PlainScript) (parts : List PlainScript) (outcomes : List PlainOutcome) → AreCutBy most counts (numbers_of script.rows)
     → map (λ (part : PlainScript). part.rows) parts ≡ parts_by counts script.rows → AreLinked script.limits script.program script.start parts outcomes → IsChainOf script parts outcomes

@@ -1,24 +1,17 @@
 -- What joins leave of labels.
 use Rattle.std.proofs.Common.{◌≡◌, ◌<◌, ◌≤◌, ◌+◌, ℕ, eqb, ltb, List, [], ◌∷◌, ◌++◌, get_or, length, map, refl, sym, ap, ◌∙◌, subst, arith, ⊎_elim, ◌⊎◌, inl, inr}
-use Rattle.std.specs.List.{All}
-use Rattle.std.proofs.lemmas.Bool.{cond-false, cond-true, cond_both, eq-eqb, eqb-true, le-ltb, lt-ltb, ltb-false, ltb-true}
-use Rattle.std.proofs.lemmas.List.{get_or-map, length-map}
-use Rattle.std.proofs.lemmas.List.Elements.{All-cons, All-head, All-nil, All-tail}
-use Rattle.dex_world.proofs.MappedLists.{All-front}
+use Rattle.dex_parts.proofs.Common.{All, All-behind, All-front, le-ltb, ltb-true}
+use Rattle.dex_world.proofs.Common.{All-cons, All-head, All-nil, All-tail, cond-false, cond-true, cond_both, eq-eqb, eqb-true, get_or-map, length-map, lt-ltb, ltb-false}
 use Rattle.dex_parts.specs.Joins.{IsWithin, Link, all_joined, joined, place_links, relabelled}
-use Rattle.dex_parts.proofs.ListLaws.{All-behind}
 
 -- ---- how many there are
-
-relabelled-long : (from to : ℕ) (labels : List ℕ) → length (map (relabelled from to) labels) ≡ length labels
-relabelled-long from to labels = length-map labels (relabelled from to)
 
 joined-long : (labels : List ℕ) (link : Link) → length (joined labels link) ≡ length labels
 joined-long labels link =
     let one : ℕ = get_or labels link.0 0 in
     let other : ℕ = get_or labels link.1 0 in
     cond_both (ltb one other) (map (relabelled other one) labels) (map (relabelled one other) labels) (λ (all : List ℕ). length all ≡ length labels)
-    (λ lower. relabelled-long other one labels) (λ higher. relabelled-long one other labels)
+    (λ lower. length-map labels (relabelled other one)) (λ higher. length-map labels (relabelled one other))
 
 pub joined-all-long : (labels : List ℕ) (links : List Link) → length (all_joined labels links) ≡ length labels
 joined-all-long labels [] = refl

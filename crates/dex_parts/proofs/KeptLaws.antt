@@ -1,18 +1,7 @@
 -- What items keep of a world: the wallets but for their balances, the mints of SRM and MSRM, and the program.
-use Rattle.std.proofs.Common.{◌≡◌, Bool, true, false, if◌then◌else◌, List, [], ◌∷◌, map, Option, Some, None, refl, ap, ◌∙◌}
-use Rattle.dex_types.specs.declared.addresses.Address.{Address}
-use Rattle.dex_types.specs.declared.rows.Seen.{Seen}
-use Rattle.dex_types.specs.declared.rows.WalletSeen.{WalletSeen}
-use Rattle.dex_types.specs.declared.terms.Program.{Program}
-use Rattle.dex_types.specs.Market.{Market}
-use Rattle.dex_types.specs.Rows.{PlainRow}
-use Rattle.dex_types.specs.Transfers.{Transfers}
-use Rattle.dex_types.specs.Wallets.{movement_of}
-use Rattle.dex_history.specs.Journal.{row_step}
-use Rattle.dex_world.specs.Fold.{act, acted, fold, names, wallet_acted, wallet_moved}
-use Rattle.dex_world.specs.Groups.{members}
-use Rattle.dex_world.specs.Items.{Item, act_item, chosen, fold_items}
-use Rattle.dex_world.specs.World.{WalletState, World, market_at, seen_by}
+use Rattle.std.proofs.Common.{◌≡◌, List, [], ◌∷◌, map, Option, Some, None, refl, ap, ◌∙◌}
+use Rattle.dex_world.proofs.Common.{Address, Market, PlainRow, Seen, Transfers, WalletSeen, WalletState, World, act, act_item, acted, chosen, cond_both, fold, fold_items, members, movement_of, names, row_step, seen_by, wallet_acted, wallet_moved}
+use Rattle.dex_parts.proofs.Common.{Item, Program, market_at}
 
 -- what each row keeps items keep
 module _ {A : Type 0} (tell : World → A) (kept : (row : PlainRow) (found : Option Market) (world : World) → tell (acted row found world) ≡ tell world) where
@@ -26,35 +15,21 @@ module _ {A : Type 0} (tell : World → A) (kept : (row : PlainRow) (found : Opt
 
 -- ---- the mints of SRM and MSRM, and the program
 
-abbrev srm_in : World → Option Address
-srm_in world = world.srm
+abbrev rest_in : World → Option Address × Option Address × Program
+rest_in world = (world.srm, world.msrm, world.program)
 
-abbrev msrm_in : World → Option Address
-msrm_in world = world.msrm
-
-abbrev program_in : World → Program
-program_in world = world.program
-
-srm-acted : (row : PlainRow) (found : Option Market) (world : World) → srm_in (acted row found world) ≡ srm_in world
-srm-acted row None world = refl
-srm-acted row (Some m) world = refl
-
-msrm-acted : (row : PlainRow) (found : Option Market) (world : World) → msrm_in (acted row found world) ≡ msrm_in world
-msrm-acted row None world = refl
-msrm-acted row (Some m) world = refl
-
-program-acted : (row : PlainRow) (found : Option Market) (world : World) → program_in (acted row found world) ≡ program_in world
-program-acted row None world = refl
-program-acted row (Some m) world = refl
+rest-acted : (row : PlainRow) (found : Option Market) (world : World) → rest_in (acted row found world) ≡ rest_in world
+rest-acted row None world = refl
+rest-acted row (Some m) world = refl
 
 pub srm-kept : (items : List Item) (world : World) → (fold_items items world).srm ≡ world.srm
-srm-kept items world = items-keep srm_in srm-acted items world
+srm-kept items world = ap (λ (rest : Option Address × Option Address × Program). rest.0) (items-keep rest_in rest-acted items world)
 
 pub msrm-kept : (items : List Item) (world : World) → (fold_items items world).msrm ≡ world.msrm
-msrm-kept items world = items-keep msrm_in msrm-acted items world
+msrm-kept items world = ap (λ (rest : Option Address × Option Address × Program). rest.1) (items-keep rest_in rest-acted items world)
 
 pub program-kept : (items : List Item) (world : World) → (fold_items items world).program ≡ world.program
-program-kept items world = items-keep program_in program-acted items world
+program-kept items world = ap (λ (rest : Option Address × Option Address × Program). rest.2) (items-keep rest_in rest-acted items world)
 
 -- ---- wallets
 
@@ -66,17 +41,13 @@ abbrev pub named_in : World → List WalletSeen
 named_in world = map named world.wallets
 
 named-one : (row : PlainRow) (seen : Seen) (t : Transfers) (state : WalletState) → named (wallet_acted row seen t state) ≡ named state
-named-one row seen t state = either (names row state.seen.address)
-  where
-    either : (b : Bool) → named (if b then wallet_moved row (movement_of seen t state.seen.address) state else state) ≡ named state
-    either true = refl
-    either false = refl
+named-one row seen t state =
+    cond_both (names row state.seen.address) (wallet_moved row (movement_of seen t state.seen.address) state) state
+    (λ (one : WalletState). named one ≡ named state) (λ moved. refl) (λ apart. refl)
 
 named-all : (row : PlainRow) (seen : Seen) (t : Transfers) (states : List WalletState) → map named (map (wallet_acted row seen t) states) ≡ map named states
 named-all row seen t [] = refl
-named-all row seen t (state ∷ states) =
-    ap (λ (first : WalletSeen). first ∷ map named (map (wallet_acted row seen t) states)) (named-one row seen t state)
-    ∙ ap (λ (others : List WalletSeen). named state ∷ others) (named-all row seen t states)
+named-all row seen t (state ∷ states) = λ i. named-one row seen t state i ∷ named-all row seen t states i
 
 named-acted : (row : PlainRow) (found : Option Market) (world : World) → named_in (acted row found world) ≡ named_in world
 named-acted row None world = refl

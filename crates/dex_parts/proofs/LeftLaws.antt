@@ -1,26 +1,9 @@
 -- What is left of a world: journals are its, and accounts tell its markets and wallets, without their journals.
 use Rattle.std.proofs.Common.{◌≡◌, ℕ, List, [], ◌∷◌, map, refl, sym, ap, ◌∙◌, subst}
-use Rattle.std.specs.List.{AllZip}
-use Rattle.dex_types.specs.declared.addresses.Address.{Address}
-use Rattle.dex_types.specs.declared.rows.WalletSeen.{WalletSeen}
-use Rattle.dex_types.specs.Accounts.{PlainAccount, PlainAccounts, PlainMarketAccounts}
-use Rattle.dex_types.specs.Market.{Market}
-use Rattle.dex_token.specs.TokenAccount.{WalletWords, wallet_words, with_amount}
-use Rattle.dex_token.proofs.AmountWrites.{wallet_words-with_amount}
+use Rattle.dex_world.proofs.Common.{Address, AllZip, MarketState, PlainAccount, PlainAccounts, PlainMarketAccounts, WalletSeen, WalletState, World}
+use Rattle.dex_parts.proofs.Common.{AreAccepted, AreOfOneMarket, IsLeftBy, IsLeftIn, Item, Limits, PlainMarketJournal, PlainOutcome, PlainScript, PlainWalletJournal, StandsFor, WalletWords, address_of, balance_of, head-same, map-map, market_state, start_world, tail-same, wallet_state, wallet_words, wallet_words-with_amount, with_amount, with_amounts, world_after, zip-map}
 use Rattle.dex_accounts.proofs.Decoded as decoded
-use Rattle.dex_accounts.specs.StandsFor.{StandsFor}
-use Rattle.dex_cell.specs.CellState.{AreOfOneMarket}
-use Rattle.dex_wallet.specs.CellState.{balance_of}
-use Rattle.dex_world.specs.Items.{Item}
-use Rattle.dex_world.specs.World.{MarketState, WalletState, World}
-use Rattle.dex_world.proofs.MappedLists.{head-same, map-map, tail-same, zip-map}
-use Rattle.dex_types.specs.declared.limits.Limits.{Limits}
-use Rattle.dex_state.specs.Accepted.{AreAccepted}
-use Rattle.dex_state.specs.Addresses.{address_of}
-use Rattle.dex_state.specs.Outcomes.{PlainMarketJournal, PlainOutcome, PlainWalletJournal}
-use Rattle.dex_script_types.specs.PlainScript.{PlainScript}
 use Rattle.dex_replay.specs.Alike.{StandForOne}
-use Rattle.dex_replay.specs.Replays.{IsLeftBy, IsLeftIn, market_state, start_world, wallet_state, with_amounts, world_after}
 use Rattle.dex_parts.specs.Together.{bare_market, bare_wallet}
 use Rattle.dex_parts.proofs.KeptLaws.{named, named-kept}
 
@@ -54,11 +37,9 @@ left-as a b world outcome same limits left = record {
 
 bare-markets : (all : List PlainMarketAccounts) (states : List MarketState) → AllZip StandIn all states → map market_state all ≡ map bare_market states
 bare-markets [] [] stand = refl
-bare-markets [] (state ∷ states) stand = absurd stand
-bare-markets (accounts ∷ all) [] stand = absurd stand
 bare-markets (accounts ∷ all) (state ∷ states) stand =
-    ap (λ (m : Market). record { market = m; entries = [] } ∷ map market_state all) (decoded.told accounts state.market stand.0)
-    ∙ ap (λ (others : List MarketState). bare_market state ∷ others) (bare-markets all states stand.1)
+    λ i. record { market = decoded.told accounts state.market stand.0 i; entries = [] } ∷ bare-markets all states stand.1 i
+bare-markets _ _ stand = absurd stand
 
 -- what is seen of a wallet of an address that says this
 abbrev seen_with : Address → WalletWords → WalletSeen
@@ -71,8 +52,6 @@ bare-wallets : (accounts : List PlainAccount) (states : List WalletState) → ma
     → map (λ (account : PlainAccount). balance_of account.bytes) (with_amounts accounts states) ≡ map (λ (state : WalletState). state.seen.balance) states
     → map wallet_state (with_amounts accounts states) ≡ map bare_wallet states
 bare-wallets [] [] same balances = refl
-bare-wallets [] (state ∷ states) same balances = absurd (cc)
-bare-wallets (account ∷ accounts) [] same balances = absurd (cc)
 bare-wallets (account ∷ accounts) (state ∷ states) same balances =
     let balance : ℕ = state.seen.balance in
     let bytes : List ℕ = with_amount account.bytes balance in
@@ -83,6 +62,7 @@ bare-wallets (account ∷ accounts) (state ∷ states) same balances =
     ap (λ (told : WalletWords). bare_with (seen_with account.address told) ∷ others) words
     ∙ ap (λ (seen : WalletSeen). bare_with (record seen { balance = balance }) ∷ others) (sym own)
     ∙ ap (λ (rest : List WalletState). bare_wallet state ∷ rest) (bare-wallets accounts states (tail-same same) (tail-same balances))
+bare-wallets _ _ same balances = absurd (cc)
 
 -- ---- whose journals they are
 
@@ -93,29 +73,13 @@ journal_in state = record { address = state.market.listing.address; entries = st
 abbrev pub wallet_journal_in : WalletState → PlainWalletJournal
 wallet_journal_in state = record { address = state.seen.address; entries = state.entries }
 
-journals-in : (journals : List PlainMarketJournal) (states : List MarketState)
-    → map (λ (journal : PlainMarketJournal). journal.address) journals ≡ map (λ (state : MarketState). state.market.listing.address) states
-    → map (λ (journal : PlainMarketJournal). journal.entries) journals ≡ map (λ (state : MarketState). state.entries) states → journals ≡ map journal_in states
-journals-in [] [] addresses entries = refl
-journals-in [] (state ∷ states) addresses entries = absurd (cc)
-journals-in (journal ∷ journals) [] addresses entries = absurd (cc)
-journals-in (journal ∷ journals) (state ∷ states) addresses entries =
-    let at : journal.address ≡ state.market.listing.address = head-same addresses in
-    let with : journal.entries ≡ state.entries = head-same entries in
-    let rest : journals ≡ map journal_in states = journals-in journals states (tail-same addresses) (tail-same entries) in
-    λ i. record { address = at i; entries = with i } ∷ rest i
-
-wallet-journals-in : (journals : List PlainWalletJournal) (states : List WalletState)
-    → map (λ (journal : PlainWalletJournal). journal.address) journals ≡ map (λ (state : WalletState). state.seen.address) states
-    → map (λ (journal : PlainWalletJournal). journal.entries) journals ≡ map (λ (state : WalletState). state.entries) states → journals ≡ map wallet_journal_in states
-wallet-journals-in [] [] addresses entries = refl
-wallet-journals-in [] (state ∷ states) addresses entries = absurd (cc)
-wallet-journals-in (journal ∷ journals) [] addresses entries = absurd (cc)
-wallet-journals-in (journal ∷ journals) (state ∷ states) addresses entries =
-    let at : journal.address ≡ state.seen.address = head-same addresses in
-    let with : journal.entries ≡ state.entries = head-same entries in
-    let rest : journals ≡ map wallet_journal_in states = wallet-journals-in journals states (tail-same addresses) (tail-same entries) in
-    λ i. record { address = at i; entries = with i } ∷ rest i
+-- lists are one where two things that tell an element are the same of both
+same-by-two : {A B C : Type 0} (f : A → B) (g : A → C) → ((x y : A) → f x ≡ f y → g x ≡ g y → x ≡ y) → (xs ys : List A) → map f xs ≡ map f ys → map g xs ≡ map g ys
+    → xs ≡ ys
+same-by-two f g tell [] [] first second = refl
+same-by-two f g tell (x ∷ xs) (y ∷ ys) first second =
+    λ i. tell x y (head-same first) (head-same second) i ∷ same-by-two f g tell xs ys (tail-same first) (tail-same second) i
+same-by-two f g tell _ _ first second = absurd (cc)
 
 -- addresses of accounts that stand for markets are theirs
 pub stand-addresses : (all : List PlainMarketAccounts) (states : List MarketState) → AllZip StandIn all states
@@ -147,30 +111,32 @@ module _ (script : PlainScript) (items : List Item) (outcome : PlainOutcome) (le
 
   pub journals-left : outcome.markets ≡ map journal_in world.markets
   journals-left =
-      journals-in outcome.markets world.markets
+      let address : PlainMarketJournal → Address = λ (journal : PlainMarketJournal). journal.address in
+      same-by-two address (λ (journal : PlainMarketJournal). journal.entries) (λ one other at with. λ i. record { address = at i; entries = with i })
+      outcome.markets (map journal_in world.markets)
       (left.start.market_journals ∙ sym (same-addresses script.start.markets outcome.accounts.markets left.start.markets)
-      ∙ sym (stand-addresses outcome.accounts.markets world.markets left.stand))
-      left.markets
+      ∙ sym (stand-addresses outcome.accounts.markets world.markets left.stand) ∙ sym (map-map journal_in address world.markets))
+      (left.markets ∙ sym (map-map journal_in (λ (journal : PlainMarketJournal). journal.entries) world.markets))
 
   pub wallet-journals-left : outcome.wallets ≡ map wallet_journal_in world.wallets
   wallet-journals-left =
-      let address : WalletSeen → Address = λ (seen : WalletSeen). seen.address in
-      wallet-journals-in outcome.wallets world.wallets
+      let address : PlainWalletJournal → Address = λ (journal : PlainWalletJournal). journal.address in
+      let seen_address : WalletSeen → Address = λ (seen : WalletSeen). seen.address in
+      same-by-two address (λ (journal : PlainWalletJournal). journal.entries) (λ one other at with. λ i. record { address = at i; entries = with i })
+      outcome.wallets (map wallet_journal_in world.wallets)
       (left.start.wallet_journals
       ∙ sym (map-map wallet_state (λ (state : WalletState). state.seen.address) script.start.wallets)
-      ∙ sym (map-map named address (map wallet_state script.start.wallets))
-      ∙ ap (map address) (sym named-left)
-      ∙ map-map named address world.wallets)
-      left.wallets
+      ∙ sym (map-map named seen_address (map wallet_state script.start.wallets))
+      ∙ ap (map seen_address) (sym named-left)
+      ∙ map-map named seen_address world.wallets
+      ∙ sym (map-map wallet_journal_in address world.wallets))
+      (left.wallets ∙ sym (map-map wallet_journal_in (λ (journal : PlainWalletJournal). journal.entries) world.wallets))
 
 -- accounts that stand for the markets of one world stand for one market, place by place
 pub stand-for-one : (one other : List PlainMarketAccounts) (states : List MarketState) → AllZip StandIn one states → AllZip StandIn other states → AllZip StandForOne one other
-stand-for-one [] [] [] first second = tt
-stand-for-one [] [] (state ∷ states) first second = absurd first
+stand-for-one [] [] states first second = tt
 stand-for-one [] (y ∷ ys) [] first second = absurd second
-stand-for-one [] (y ∷ ys) (state ∷ states) first second = absurd first
-stand-for-one (x ∷ xs) [] [] first second = absurd first
 stand-for-one (x ∷ xs) [] (state ∷ states) first second = absurd second
-stand-for-one (x ∷ xs) (y ∷ ys) [] first second = absurd first
 stand-for-one (x ∷ xs) (y ∷ ys) (state ∷ states) first second =
     (record { market = state.market; first = first.0; second = second.0 }, stand-for-one xs ys states first.1 second.1)
+stand-for-one _ _ _ first second = absurd first

@@ -1,5 +1,6 @@
+pub mod Common
+pub mod AlikeWorlds
 pub mod TogetherLaws
-pub mod ListLaws
 pub mod KeptLaws
 pub mod LeftLaws
 pub mod ChainLaws

@@ -1,20 +1,7 @@
 -- What rows join, as links: all within, and what agrees with the rows agrees with them.
 use Rattle.std.proofs.Common.{◌≡◌, ◌<◌, ◌+◌, ℕ, zero, suc, true, eqb, ltb, List, [], ◌∷◌, ◌++◌, Some, get_or, length, refl, sym, ap, ◌∙◌, subst, arith, ⊎_elim}
-use Rattle.std.specs.List.{All, list_any}
-use Rattle.std.proofs.lemmas.Bool.{cases_eq, cond_both, eqb-true, or_left, or_right}
-use Rattle.std.proofs.lemmas.List.{get_or-append-add, get_or_append_left, length-append}
-use Rattle.std.proofs.lemmas.List.Elements.{All-append, All-cons, All-head, All-nil, All-tail}
-use Rattle.dex_types.specs.declared.addresses.Address.{Address}
-use Rattle.dex_world.specs.declared.places.RowPlaces.{RowPlaces}
-use Rattle.dex_types.specs.Accounts.{PlainAccounts}
-use Rattle.dex_types.specs.Addresses.{is_same}
-use Rattle.dex_types.specs.Rows.{PlainRow}
-use Rattle.dex_types.specs.Wallets.{row_wallets}
-use Rattle.dex_laws.proofs.TraderLaws.{is_same-refl}
-use Rattle.dex_world.specs.Fold.{names}
-use Rattle.dex_world.specs.Places.{ArePlacesOf}
-use Rattle.dex_world.proofs.GroupLaws.{EachTwo}
-use Rattle.dex_script_types.specs.Places.{AreBeside, ArePlaced, IsBeside, IsPlaced, market_place, wallet_place}
+use Rattle.dex_world.proofs.Common.{Address, All-append, All-cons, All-head, All-nil, All-tail, EachTwo, PlainAccounts, PlainRow, cond_both, eqb-true, is_same, is_same-refl, list_any, names, or_left, or_right, row_wallets}
+use Rattle.dex_parts.proofs.Common.{All, All-second, AreBeside, ArePlaced, ArePlacesOf, IsBeside, IsPlaced, RowPlaces, cases_eq, get_or-append-add, get_or_append_left, length-append, market_place, wallet_place}
 use Rattle.dex_script_types.proofs.PlacedLaws.{market-within, wallet-within}
 use Rattle.dex_parts.specs.Joins.{IsWithin, Link, leg_links, links_of, place_links, row_links, wallet_links}
 use Rattle.dex_parts.specs.Numbers.{labels_of, numbers_to}
@@ -79,20 +66,16 @@ module _ (start : PlainAccounts) where
 
   pub links-within : (rows : List PlainRow) (places : List RowPlaces) → ArePlaced start rows places → All (IsWithin (markets + wallets)) (links_of markets places)
   links-within [] [] placed = All-nil (IsWithin (markets + wallets))
-  links-within [] (at ∷ places) placed = absurd placed
-  links-within (row ∷ rows) [] placed = absurd placed
   links-within (row ∷ rows) (at ∷ places) placed =
       let Within : Link → Type 0 = IsWithin (markets + wallets) in
       let on : at.market < markets = market-within row.market start.markets at.market placed.0.market in
       All-append Within (row_links markets at) (leg_links at places ++ links_of markets places) (row-links-within row at placed.0)
       (All-append Within (leg_links at places) (links_of markets places) (leg-links-within at places rows on placed.1) (links-within rows places placed.1))
+  links-within _ _ placed = absurd placed
 
   pub markets-on : (rows : List PlainRow) (places : List RowPlaces) → ArePlaced start rows places → All (λ (at : RowPlaces). at.market < markets) places
-  markets-on [] [] placed = All-nil (λ (at : RowPlaces). at.market < markets)
-  markets-on [] (at ∷ places) placed = absurd placed
-  markets-on (row ∷ rows) [] placed = absurd placed
-  markets-on (row ∷ rows) (at ∷ places) placed =
-      All-cons (λ (one : RowPlaces). one.market < markets) at places (market-within row.market start.markets at.market placed.0.market) (markets-on rows places placed.1)
+  markets-on rows places placed =
+      All-second (IsPlaced start) (λ (at : RowPlaces). at.market < markets) (λ row at is. market-within row.market start.markets at.market is.market) rows places placed
 
 -- ---- numbers of markets and wallets that agree with rows
 
@@ -143,11 +126,10 @@ module _ (start : PlainAccounts) (tell : ℕ → ℕ) where
   pub links-agree : (rows : List PlainRow) (places : List RowPlaces) → All RowAgrees rows → EachTwo LegsAgree rows → ArePlaced start rows places → AreBeside rows places
       → All (Agrees tell) (links_of many places)
   links-agree [] [] agree legs placed beside = All-nil (Agrees tell)
-  links-agree [] (at ∷ places) agree legs placed beside = absurd placed
-  links-agree (row ∷ rows) [] agree legs placed beside = absurd placed
   links-agree (row ∷ rows) (at ∷ places) agree legs placed beside =
       All-append (Agrees tell) (row_links many at) (leg_links at places ++ links_of many places)
       (row-agrees row at (All-head RowAgrees row rows agree) placed.0)
       (All-append (Agrees tell) (leg_links at places) (links_of many places)
       (leg-agrees row at rows places legs.0 placed.0 beside.0 placed.1 beside.1)
       (links-agree rows places (All-tail RowAgrees row rows agree) legs.1 placed.1 beside.1))
+  links-agree _ _ agree legs placed beside = absurd placed

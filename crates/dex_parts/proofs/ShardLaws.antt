@@ -1,23 +1,9 @@
 -- What a shard leaves by itself is what the whole leaves of it.
-use Rattle.std.proofs.Common.{◌≡◌, ◌==◌, ℕ, suc, Bool, true, false, cond, List, [], ◌∷◌, get_or, arith, map, Option, refl, sym, ap, ◌∙◌, subst}
-use Rattle.std.specs.List.{All, AllPairs, AllZip, filter}
+use Rattle.std.proofs.Common.{◌≡◌, ◌==◌, ℕ, suc, Bool, true, false, cond, List, [], ◌∷◌, get_or, arith, map, refl, sym, ap, ◌∙◌, subst}
+use Rattle.dex_world.proofs.Common.{AllPairs, AllZip, EachTwo, Listing, MarketState, PlainAccount, PlainMarketAccounts, PlainRow, WalletSeen, WalletState, World, filter, fold_items, members}
+use Rattle.dex_parts.proofs.Common.{All, IsLeftIn, IsReplayOf, Item, PlainMarketJournal, PlainOutcome, PlainScript, PlainWalletJournal, filter-of, head-same, items_of, market_state, start_world, tail-same, wallet_state, with_amount, with_amounts, world_after}
 use Rattle.std.proofs.lemmas.List.Elements.{All-cons, filter_agree}
-use Rattle.dex_types.specs.declared.addresses.Address.{Address}
-use Rattle.dex_types.specs.declared.rows.WalletSeen.{WalletSeen}
-use Rattle.dex_types.specs.declared.terms.Program.{Program}
-use Rattle.dex_types.specs.Accounts.{PlainAccount, PlainMarketAccounts}
-use Rattle.dex_types.specs.Market.{Listing}
-use Rattle.dex_types.specs.Rows.{PlainRow}
-use Rattle.dex_token.specs.TokenAccount.{with_amount}
-use Rattle.dex_world.specs.Groups.{members}
-use Rattle.dex_world.specs.Items.{Item, fold_items, items_of}
-use Rattle.dex_world.specs.World.{MarketState, WalletState, World}
-use Rattle.dex_world.proofs.GroupLaws.{EachTwo}
-use Rattle.dex_world.proofs.MappedLists.{filter-of, head-same, tail-same}
-use Rattle.dex_state.specs.Outcomes.{PlainMarketJournal, PlainOutcome, PlainWalletJournal}
-use Rattle.dex_script_types.specs.PlainScript.{PlainScript}
 use Rattle.dex_replay.specs.Acting.{NeverFalls}
-use Rattle.dex_replay.specs.Replays.{IsLeftIn, IsReplayOf, market_state, start_world, wallet_state, with_amounts, world_after}
 use Rattle.dex_replay.proofs.Groups.{each-two, each-two-weaker, grouped-each, grouped-filter, grouped-number, grouped-two}
 use Rattle.dex_replay.proofs.LastAccounts.{listing-in}
 use Rattle.dex_parts.specs.Shards.{AreOfOneShard, FallsInto, IsItemOfOneShard, IsLeftInShard, IsOfOneShard, IsShardOf, Sharding, has_market, has_wallet, items_in, market_journals_in, markets_in, rows_in, wallet_journals_in, wallets_in, world_in}
@@ -30,8 +16,6 @@ use Rattle.dex_parts.proofs.ShardWorlds.{is_market_in, is_wallet_in, items-act}
 zip-filter : {A B : Type 0} (R : A → B → Type 0) (p : A → Bool) (q : B → Bool) → ((x : A) (y : B) → R x y → p x ≡ q y) → (xs : List A) (ys : List B)
     → AllZip R xs ys → AllZip R (filter p xs) (filter q ys)
 zip-filter R p q same [] [] all = tt
-zip-filter R p q same [] (y ∷ ys) all = absurd all
-zip-filter R p q same (x ∷ xs) [] all = absurd all
 zip-filter R p q same (x ∷ xs) (y ∷ ys) all =
     let rest = zip-filter R p q same xs ys all.1 in
     subst (λ (b : Bool). AllZip R (cond (p x) (x ∷ filter p xs) (filter p xs)) (cond b (y ∷ filter q ys) (filter q ys))) (same x y all.0)
@@ -41,14 +25,13 @@ zip-filter R p q same (x ∷ xs) (y ∷ ys) all =
         → AllZip R (cond b (x ∷ filter p xs) (filter p xs)) (cond b (y ∷ filter q ys) (filter q ys))
     either true here rest = (here, rest)
     either false here rest = rest
+zip-filter R p q same _ _ all = absurd all
 
 module _ (sharding : Sharding) (shard : ℕ) where
   -- wallets of the shard with the amounts of the shard's are the shard's with their amounts
   amounts-in : (accounts : List PlainAccount) (states : List WalletState) → map named states ≡ map named (map wallet_state accounts)
       → with_amounts (wallets_in sharding shard accounts) (filter (is_wallet_in sharding shard) states) ≡ wallets_in sharding shard (with_amounts accounts states)
   amounts-in [] [] same = refl
-  amounts-in [] (state ∷ states) same = absurd (cc)
-  amounts-in (account ∷ accounts) [] same = absurd (cc)
   amounts-in (account ∷ accounts) (state ∷ states) same =
       let own : Bool = has_wallet sharding shard account.address in
       let here : is_wallet_in sharding shard state ≡ own = ap (λ (seen : WalletSeen). has_wallet sharding shard seen.address) (head-same same) in
@@ -64,6 +47,7 @@ module _ (sharding : Sharding) (shard : ℕ) where
           (wallets_in sharding shard (with_amounts accounts states))
       either true rest = ap (λ (others : List PlainAccount). record account { bytes = with_amount account.bytes state.seen.balance } ∷ others) rest
       either false rest = rest
+  amounts-in _ _ same = absurd (cc)
 
   -- ---- the script's items fall into the shards as its rows do
 
@@ -115,24 +99,13 @@ module _ (sharding : Sharding) (shard : ℕ) where
           ∙ filter-of market_state (is_market_in sharding shard) script.start.markets
 
       start-in : start_world part ≡ world_in sharding shard (start_world script)
-      start-in =
-          ap (λ (markets : List PlainMarketAccounts). record (start_world part) { markets = map market_state markets }) is.markets
-          ∙ ap (λ (markets : List MarketState). record (start_world part) { markets = markets }) markets-start
-          ∙ ap (λ (wallets : List PlainAccount). record (world_in sharding shard (start_world script)) {
-            wallets = map wallet_state wallets;
-            srm = part.start.srm;
-            msrm = part.start.msrm;
-            program = part.program;
-          }) is.wallets
-          ∙ ap (λ (wallets : List WalletState). record (world_in sharding shard (start_world script)) {
-            wallets = wallets;
-            srm = part.start.srm;
-            msrm = part.start.msrm;
-            program = part.program;
-          }) (filter-of wallet_state (is_wallet_in sharding shard) script.start.wallets)
-          ∙ ap (λ (srm : Option Address). record (world_in sharding shard (start_world script)) { srm = srm; msrm = part.start.msrm; program = part.program }) is.srm
-          ∙ ap (λ (msrm : Option Address). record (world_in sharding shard (start_world script)) { msrm = msrm; program = part.program }) is.msrm
-          ∙ ap (λ (program : Program). record (world_in sharding shard (start_world script)) { program = program }) is.program
+      start-in = λ i. record {
+        markets = (ap (map market_state) is.markets ∙ markets-start) i;
+        wallets = (ap (map wallet_state) is.wallets ∙ filter-of wallet_state (is_wallet_in sharding shard) script.start.wallets) i;
+        srm = is.srm i;
+        msrm = is.msrm i;
+        program = is.program i;
+      }
 
       pub world-own : own ≡ world_in sharding shard whole
       world-own =
@@ -142,6 +115,9 @@ module _ (sharding : Sharding) (shard : ℕ) where
           ∙ items-act sharding shard (items_of script.rows) (start_world script) items-fall
 
       -- ---- what is left
+
+      pub leaves : (left : PlainOutcome) → IsReplayOf part left → IsLeftIn part (world_in sharding shard whole) left
+      leaves left replay = subst (λ (world : World). IsLeftIn part world left) world-own replay
 
       module _ (all left : PlainOutcome) (replay : IsReplayOf script all) (replay_own : IsReplayOf part left) where
         own-markets : own.markets ≡ filter (is_market_in sharding shard) whole.markets
@@ -170,11 +146,6 @@ module _ (sharding : Sharding) (shard : ℕ) where
               (zip-filter StandIn (λ (market : PlainMarketAccounts). has_market sharding shard market.address) (is_market_in sharding shard)
               (λ accounts state stands. ap (has_market sharding shard) stands.address) all.accounts.markets whole.markets replay.stand);
         }
-
-pub shard-leaves : (sharding : Sharding) (script : PlainScript) → AllPairs NeverFalls script.rows → FallsInto sharding script → (shard : ℕ) (part : PlainScript)
-    (left : PlainOutcome) → IsShardOf sharding shard script part → IsReplayOf part left → IsLeftIn part (world_in sharding shard (world_after script (items_of script.rows))) left
-shard-leaves sharding script rising falls shard part left is replay =
-    subst (λ (world : World). IsLeftIn part world left) (world-own sharding shard script rising falls part is) replay
 
 pub shard-left : (sharding : Sharding) (script : PlainScript) → AllPairs NeverFalls script.rows → FallsInto sharding script → (shard : ℕ) (part : PlainScript)
     (all left : PlainOutcome) → IsShardOf sharding shard script part → IsReplayOf script all → IsReplayOf part left → IsLeftInShard sharding shard all left

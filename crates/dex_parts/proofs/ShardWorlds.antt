@@ -1,26 +1,9 @@
 -- Items that act in a whole world act in the world of one shard as its own items do.
-use Rattle.std.proofs.Common.{◌≡◌, ◌==◌, ℕ, Bool, true, false, cond, List, [], ◌∷◌, Option, Some, None, IfSome, is_some, map, refl, sym, ap, ◌∙◌, subst, ⊎_elim}
-use Rattle.std.specs.List.{All, filter}
-use Rattle.std.proofs.lemmas.Bool.{both_ways, cases_Bool, cond-false, cond-true, cond_both}
-use Rattle.std.proofs.lemmas.List.Elements.{All-head, All-map, All-tail, All-weaker}
-use Rattle.dex_types.specs.declared.addresses.Address.{Address}
-use Rattle.dex_types.specs.declared.refusals.Refusal.{Refusal}
-use Rattle.dex_types.specs.declared.rows.Seen.{Seen}
-use Rattle.dex_types.specs.declared.rows.WalletSeen.{WalletSeen}
-use Rattle.dex_types.specs.Addresses.{is_same}
-use Rattle.dex_types.specs.Market.{Listing, Market}
-use Rattle.dex_types.specs.Rows.{PlainRow}
-use Rattle.dex_types.specs.Transfers.{Transfers}
-use Rattle.dex_types.specs.Wallets.{movement_of}
-use Rattle.dex_laws.proofs.TraderLaws.{is_same-true}
-use Rattle.dex_sound.proofs.KeepLaws.{step-keeps}
-use Rattle.dex_history.specs.Journal.{request_of, row_step}
-use Rattle.dex_world.specs.Fold.{act, acted, fold, market_acted, markets_acted, names, wallet_acted, wallet_moved}
-use Rattle.dex_world.specs.Groups.{members}
-use Rattle.dex_world.specs.Items.{Item, act_item, chosen, fold_items, held_in, idle_row, is_any_refused, why_in, why_on}
-use Rattle.dex_world.specs.World.{MarketState, WalletState, World, market_at, role_at, seen_by, wallet_at}
-use Rattle.dex_world.proofs.MappedLists.{list_any-agree, map-agree}
-use Rattle.dex_world.proofs.NameLaws.{row-among}
+use Rattle.std.proofs.Common.{◌≡◌, ◌==◌, IfSome, ℕ, Bool, true, false, cond, List, [], ◌∷◌, Option, Some, None, map, refl, sym, ap, ◌∙◌, subst, ⊎_elim}
+use Rattle.dex_world.proofs.Common.{Address, All-head, All-tail, All-weaker, Listing, Market, MarketState, PlainRow, Seen, Transfers, WalletState, World, act, act_item, acted, cases_Bool, chosen, cond-false, cond-true, cond_both, filter, fold, fold_items, idle_row, is_same, is_same-true, map-id, market_acted, markets_acted, members, movement_of, names, request_of, row_step, seen_by, step-keeps, wallet_acted, wallet_at, wallet_moved}
+use Rattle.dex_parts.proofs.Common.{All, Item, both_ways, filter-of, market_at}
+use Rattle.std.proofs.lemmas.List.Elements.{filter_agree}
+use Rattle.dex_parts.proofs.AlikeWorlds.{ActsAlike, chosen-all, item-acts}
 use Rattle.dex_parts.specs.Shards.{IsItemOfOneShard, IsOfOneShard, Sharding, has_market, has_wallet, items_in, world_in}
 
 -- a row names the wallet of each of its roles
@@ -77,11 +60,6 @@ module _ (sharding : Sharding) (shard : ℕ) where
       wallet-found address own states
       ∙ sym (cond-false (is_same address here) (Some state.seen) (wallet_at address states) (other-address own_wallet address here own away)))
 
-  role-found : (role : Option Address) → ((address : Address) → role ≡ Some address → own_wallet address ≡ true) → (states : List WalletState)
-      → role_at role (filter is_wallet_in states) ≡ role_at role states
-  role-found None own states = refl
-  role-found (Some address) own states = wallet-found address (own address refl) states
-
   -- ---- the addresses stay
 
   market-stays : (row : PlainRow) (seen : Seen) (state : MarketState) → is_market_in (market_acted row seen state) ≡ is_market_in state
@@ -93,19 +71,10 @@ module _ (sharding : Sharding) (shard : ℕ) where
       (λ (one : WalletState). is_wallet_in one ≡ is_wallet_in state) (λ named. refl) (λ apart. refl)
 
   wallets-stay : (row : PlainRow) (seen : Seen) (t : Transfers) (states : List WalletState)
-      → filter is_wallet_in (map (wallet_acted row seen t) states) ≡ map (wallet_acted row seen t) (filter is_wallet_in states)
-  wallets-stay row seen t [] = refl
-  wallets-stay row seen t (state ∷ states) =
-      let act_on : WalletState → WalletState = wallet_acted row seen t in
-      ap (λ (b : Bool). cond b (act_on state ∷ filter is_wallet_in (map act_on states)) (filter is_wallet_in (map act_on states))) (wallet-stays row seen t state)
-      ∙ ap (λ (rest : List WalletState). cond (is_wallet_in state) (act_on state ∷ rest) rest) (wallets-stay row seen t states)
-      ∙ either (is_wallet_in state)
-    where
-      either : (b : Bool)
-          → cond b (wallet_acted row seen t state ∷ map (wallet_acted row seen t) (filter is_wallet_in states)) (map (wallet_acted row seen t) (filter is_wallet_in states))
-          ≡ map (wallet_acted row seen t) (cond b (state ∷ filter is_wallet_in states) (filter is_wallet_in states))
-      either true = refl
-      either false = refl
+      → map (wallet_acted row seen t) (filter is_wallet_in states) ≡ filter is_wallet_in (map (wallet_acted row seen t) states)
+  wallets-stay row seen t states =
+      ap (map (wallet_acted row seen t)) (sym (filter_agree (λ (state : WalletState). is_wallet_in (wallet_acted row seen t state)) is_wallet_in (wallet-stays row seen t) states))
+      ∙ filter-of (wallet_acted row seen t) is_wallet_in states
 
   -- ---- a row whose wallets are of its market's shard
 
@@ -116,20 +85,6 @@ module _ (sharding : Sharding) (shard : ℕ) where
     -- ---- of the shard
 
     module _ (own : is_in row ≡ true) where
-      sees-same : (world : World) → seen_by row (world_in sharding shard world) ≡ seen_by row world
-      sees-same world =
-          let late : Seen = seen_by row world in
-          let early : Seen = seen_by row (world_in sharding shard world) in
-          let mine : (wallet : Address) → names row wallet ≡ true → own_wallet wallet ≡ true = λ wallet named. wallet-as-market wallet named ∙ own in
-          ap (λ (one : Option WalletSeen). record early { coin = one })
-          (role-found row.coin (λ address is. mine address (role-named row row.coin (row-among row).0 address is)) world.wallets)
-          ∙ ap (λ (one : Option WalletSeen). record early { coin = late.coin; pc = one })
-          (role-found row.pc (λ address is. mine address (role-named row row.pc (row-among row).1 address is)) world.wallets)
-          ∙ ap (λ (one : Option WalletSeen). record early { coin = late.coin; pc = late.pc; discount = one })
-          (role-found row.discount (λ address is. mine address (role-named row row.discount (row-among row).2 address is)) world.wallets)
-          ∙ ap (λ (one : Option WalletSeen). record late { referrer = one })
-          (role-found row.referrer (λ address is. mine address (role-named row row.referrer (row-among row).3 address is)) world.wallets)
-
       markets-act : (seen : Seen) (states : List MarketState) → markets_acted row seen (filter is_market_in states) ≡ filter is_market_in (markets_acted row seen states)
       markets-act seen [] = refl
       markets-act seen (state ∷ states) =
@@ -155,33 +110,13 @@ module _ (sharding : Sharding) (shard : ℕ) where
           markets-act seen states
           ∙ sym (cond-false (is_market_in state) (state ∷ filter is_market_in rest) (filter is_market_in rest) away)))
 
-      row-acts : (world : World) → act row (world_in sharding shard world) ≡ world_in sharding shard (act row world)
-      row-acts world =
-          ap (λ (o : Option Market). acted row o (world_in sharding shard world)) (market-found row.market own world.markets)
-          ∙ by-market (market_at row.market world.markets)
-        where
-          by-market : (o : Option Market) → acted row o (world_in sharding shard world) ≡ world_in sharding shard (acted row o world)
-          by-market None = refl
-          by-market (Some m) =
-              let seen : Seen = seen_by row world in
-              let transfers : Transfers = (row_step row seen m).transfers in
-              ap (λ (seen : Seen). record (world_in sharding shard world) {
-                markets = markets_acted row seen (filter is_market_in world.markets);
-                wallets = map (wallet_acted row seen (row_step row seen m).transfers) (filter is_wallet_in world.wallets);
-              }) (sees-same world)
-              ∙ ap (λ (markets : List MarketState). record (world_in sharding shard world) {
-                markets = markets;
-                wallets = map (wallet_acted row seen transfers) (filter is_wallet_in world.wallets);
-              }) (markets-act seen world.markets)
-              ∙ ap (λ (wallets : List WalletState). record (world_in sharding shard world) {
-                markets = filter is_market_in (markets_acted row seen world.markets);
-                wallets = wallets;
-              }) (sym (wallets-stay row seen transfers world.wallets))
-
-      why-same : (world : World) → why_in (world_in sharding shard world) row ≡ why_in world row
-      why-same world =
-          ap (λ (seen : Seen). why_on row seen (market_at row.market (filter is_market_in world.markets))) (sees-same world)
-          ∙ ap (λ (o : Option Market). why_on row (seen_by row world) o) (market-found row.market own world.markets)
+      acts-alike : ActsAlike (λ number. number) (filter is_market_in) (filter is_wallet_in) row
+      acts-alike = record {
+        market = market-found row.market own;
+        wallet = λ address named. wallet-found address (wallet-as-market address named ∙ own);
+        markets = markets-act;
+        wallets = wallets-stay row;
+      }
 
     -- ---- of another shard
 
@@ -219,11 +154,10 @@ module _ (sharding : Sharding) (shard : ℕ) where
           by-market None = refl
           by-market (Some m) =
               let seen : Seen = seen_by row world in
-              let transfers : Transfers = (row_step row seen m).transfers in
-              ap (λ (markets : List MarketState). record world { markets = markets; wallets = filter is_wallet_in (map (wallet_acted row seen transfers) world.wallets) })
-              (markets-left seen world.markets)
-              ∙ ap (λ (wallets : List WalletState). record world { markets = filter is_market_in world.markets; wallets = wallets })
-              (wallets-left seen transfers world.wallets)
+              λ i. record world {
+                markets = markets-left seen world.markets i;
+                wallets = wallets-left seen (row_step row seen m).transfers world.wallets i;
+              }
 
   -- ---- the rows of an item
 
@@ -232,45 +166,18 @@ module _ (sharding : Sharding) (shard : ℕ) where
     one : IsOfOneShard sharding row
     lies : is_in row ≡ b
 
-  abbrev IsOwn : PlainRow → Type 0
-  IsOwn row = IsAs true row
-
   abbrev IsAway : PlainRow → Type 0
   IsAway row = IsAs false row
 
-  rows-act : (rows : List PlainRow) (world : World) → All IsOwn rows → fold rows (world_in sharding shard world) ≡ world_in sharding shard (fold rows world)
-  rows-act [] world own = refl
-  rows-act (row ∷ rows) world own =
-      let here : IsOwn row = All-head IsOwn row rows own in
-      ap (fold rows) (row-acts row here.one here.lies world) ∙ rows-act rows (act row world) (All-tail IsOwn row rows own)
+  -- so it is with nothing to do
+  idle-as : (b : Bool) (row : PlainRow) → IsAs b row → IsAs b (idle_row row)
+  idle-as b row is = record { one = is.one; lies = is.lies }
 
   rows-away : (rows : List PlainRow) (world : World) → All IsAway rows → world_in sharding shard (fold rows world) ≡ world_in sharding shard world
   rows-away [] world away = refl
   rows-away (row ∷ rows) world away =
       let here : IsAway row = All-head IsAway row rows away in
       rows-away rows (act row world) (All-tail IsAway row rows away) ∙ row-away row here.one here.lies world
-
-  -- what is chosen of such rows is such
-  chosen-as : (b : Bool) (world : World) (rows : List PlainRow) → All (IsAs b) rows → All (IsAs b) (chosen world rows)
-  chosen-as b world rows all =
-      cond_both (is_any_refused world rows) (map (held_in world) rows) rows (All (IsAs b))
-      (λ any. All-map (IsAs b) (held_in world) rows
-      (All-weaker (IsAs b) (λ (row : PlainRow). IsAs b (held_in world row))
-      (λ row is. cond_both (is_some (why_in world row)) row (idle_row row) (IsAs b) (λ refused. is) (λ free. record { one = is.one; lies = is.lies })) rows all))
-      (λ none. all)
-
-  chosen-same : (world : World) (rows : List PlainRow) → All IsOwn rows → chosen (world_in sharding shard world) rows ≡ chosen world rows
-  chosen-same world rows own =
-      let part : World = world_in sharding shard world in
-      let any : is_any_refused part rows ≡ is_any_refused world rows =
-      list_any-agree (λ (row : PlainRow). is_some (why_in part row)) (λ (row : PlainRow). is_some (why_in world row)) rows
-      (All-weaker IsOwn (λ (row : PlainRow). is_some (why_in part row) ≡ is_some (why_in world row)) (λ row is. ap is_some (why-same row is.one is.lies world)) rows own) in
-      let held : map (held_in part) rows ≡ map (held_in world) rows =
-      map-agree (held_in part) (held_in world) rows
-      (All-weaker IsOwn (λ (row : PlainRow). held_in part row ≡ held_in world row)
-      (λ row is. ap (λ (o : Option Refusal). cond (is_some o) row (idle_row row)) (why-same row is.one is.lies world)) rows own) in
-      ap (λ (b : Bool). cond b (map (held_in part) rows) rows) any
-      ∙ ap (λ (some : List PlainRow). cond (is_any_refused world rows) some rows) held
 
   -- ---- items
 
@@ -279,13 +186,13 @@ module _ (sharding : Sharding) (shard : ℕ) where
       All-weaker (λ (row : PlainRow). IsOfOneShard sharding row × (sharding.market row.market ≡ sharding.market item.first.market)) (IsAs b)
       (λ row both. record { one = both.0; lies = ap (λ (n : ℕ). n == shard) both.1 ∙ lies }) (members item) is
 
-  item-acts : (item : Item) (world : World) → All IsOwn (members item) → act_item item (world_in sharding shard world) ≡ world_in sharding shard (act_item item world)
-  item-acts item world own =
-      ap (λ (rows : List PlainRow). fold rows (world_in sharding shard world)) (chosen-same world (members item) own)
-      ∙ rows-act (chosen world (members item)) world (chosen-as true world (members item) own)
+  item-own : (item : Item) (world : World) → All (IsAs true) (members item) → act_item item (world_in sharding shard world) ≡ world_in sharding shard (act_item item world)
+  item-own item world own =
+      ap (λ (rows : List PlainRow). fold (chosen (world_in sharding shard world) rows) (world_in sharding shard world)) (sym (map-id (members item)))
+      ∙ item-acts (λ number. number) (filter is_market_in) (filter is_wallet_in) (IsAs true) (λ row is. acts-alike row is.one is.lies) (idle-as true) item world own
 
   item-away : (item : Item) (world : World) → All IsAway (members item) → world_in sharding shard (act_item item world) ≡ world_in sharding shard world
-  item-away item world away = rows-away (chosen world (members item)) world (chosen-as false world (members item) away)
+  item-away item world away = rows-away (chosen world (members item)) world (chosen-all IsAway (idle-as false) world (members item) away)
 
   pub items-act : (items : List Item) (world : World) → All (IsItemOfOneShard sharding) items
       → fold_items (items_in sharding shard items) (world_in sharding shard world) ≡ world_in sharding shard (fold_items items world)
@@ -296,5 +203,5 @@ module _ (sharding : Sharding) (shard : ℕ) where
       items-act items (act_item item world) (All-tail (IsItemOfOneShard sharding) item items are) in
       cond_both (own_market item.first.market) (item ∷ items_in sharding shard items) (items_in sharding shard items)
       (λ (some : List Item). fold_items some (world_in sharding shard world) ≡ world_in sharding shard (fold_items items (act_item item world)))
-      (λ own. ap (fold_items (items_in sharding shard items)) (item-acts item world (rows-as item true is own)) ∙ rest)
+      (λ own. ap (fold_items (items_in sharding shard items)) (item-own item world (rows-as item true is own)) ∙ rest)
       (λ away. ap (fold_items (items_in sharding shard items)) (sym (item-away item world (rows-as item false is away))) ∙ rest)

@@ -1,21 +1,7 @@
 -- Scripts fall into the shards that joined labels tell.
-use Rattle.std.proofs.Common.{◌≡◌, ◌<◌, ◌≤◌, ◌+◌, ℕ, zero, suc, true, false, ◌-◌, cond, eqb, ltb, List, [], ◌∷◌, ◌++◌, Option, Some, None, drop, get_or, length, map, take, refl, sym, ap, ◌∙◌, subst, arith, ⊎_elim}
-use Rattle.std.specs.List.{All, AllPairs, list_any}
-use Rattle.std.proofs.lemmas.Bool.{both_ways, cases_eq, cond-false, cond-true, eq-eqb, false≢true, le-ltb, lt-ltb, ne_eqb, or_cases}
-use Rattle.std.proofs.lemmas.List.{get_or-drop, get_or-map, get_or-take, length-drop, length-map, length-take-le}
-use Rattle.std.proofs.lemmas.List.Elements.{All-cons, All-head, All-nil}
-use Rattle.dex_types.specs.declared.addresses.Address.{Address}
-use Rattle.dex_world.specs.declared.places.RowPlaces.{RowPlaces}
-use Rattle.dex_types.specs.Accounts.{PlainAccount, PlainAccounts, PlainMarketAccounts}
-use Rattle.dex_types.specs.Addresses.{is_same}
-use Rattle.dex_types.specs.Rows.{PlainRow}
-use Rattle.dex_types.specs.Wallets.{row_wallets}
-use Rattle.dex_laws.proofs.TraderLaws.{is_same-true}
-use Rattle.dex_world.specs.Fold.{names}
-use Rattle.dex_world.specs.Places.{ArePlacesOf}
-use Rattle.dex_world.proofs.GroupLaws.{EachTwo}
-use Rattle.dex_world.proofs.MappedLists.{All-front, zip-map}
-use Rattle.dex_script_types.specs.Places.{AreBeside, ArePlaced, IsBeside, IsPlaced, market_place, wallet_place}
+use Rattle.std.proofs.Common.{◌≡◌, ◌<◌, ◌≤◌, ◌+◌, ℕ, zero, suc, true, false, ◌-◌, cond, eqb, ltb, List, [], ◌∷◌, ◌++◌, Option, Some, None, drop, get_or, length, map, take, refl, sym, ap, ap₂, ◌∙◌, subst, subst₂, arith, ⊎_elim}
+use Rattle.dex_world.proofs.Common.{Address, All-cons, All-head, All-nil, AllPairs, EachTwo, PlainAccount, PlainAccounts, PlainMarketAccounts, PlainRow, cond-false, cond-true, eq-eqb, false≢true, get_or-map, is_same, is_same-true, length-map, list_any, lt-ltb, names, ne_eqb, row_wallets}
+use Rattle.dex_parts.proofs.Common.{All, All-behind, All-front, AreBeside, ArePlaced, ArePlacesOf, AreRows, IsBeside, IsPlaced, PlainScript, RowPlaces, both_ways, cases_eq, get_or-drop, get_or-take, le-ltb, length-drop, length-take-le, market_place, or_cases, wallet_place, zip-map}
 use Rattle.dex_script_types.proofs.PlacedLaws.{market-here, market-within, wallet-here, wallet-within}
 use Rattle.dex_parts.specs.Joins.{IsWithin, Link, leg_links, links_of, place_links, row_links, wallet_links}
 use Rattle.dex_parts.specs.Numbers.{in_market, labels_of, market_shards, numbers_to, row_shards, wallet_shards}
@@ -23,10 +9,7 @@ use Rattle.dex_parts.specs.Sharded.{AreShardsOf, number_at, sharding_by}
 use Rattle.dex_parts.specs.Shards.{AreOfOneShard, FallsInto, IsOfOneShard, Sharding}
 use Rattle.dex_parts.proofs.JoinLaws.{Agrees, HasOne, Keeps, all-keep, all-low, all-one}
 use Rattle.dex_parts.proofs.LinkLaws.{LegsAgree, RowAgrees, labels-long, links-agree, links-within, markets-on, numbers-at, numbers-long}
-use Rattle.dex_parts.proofs.ListLaws.{All-behind}
 use Rattle.dex_replay.proofs.Groups.{each-two, each-two-weaker}
-use Rattle.dex_script_types.specs.Facts.{AreRows}
-use Rattle.dex_script_types.specs.PlainScript.{PlainScript}
 
 -- each two, from places
 two-each : {A : Type 0} (R : A → A → Type 0) (xs : List A) → EachTwo R xs → AllPairs R xs
@@ -101,13 +84,12 @@ module _ (start : PlainAccounts) where
 
     rows-fall : (rows : List PlainRow) (places : List RowPlaces) → ArePlaced start rows places → All (HasOne labels) (links_of markets places) → All (IsOfOneShard sharding) rows
     rows-fall [] [] placed one = All-nil (IsOfOneShard sharding)
-    rows-fall [] (at ∷ places) placed one = absurd placed
-    rows-fall (row ∷ rows) [] placed one = absurd placed
     rows-fall (row ∷ rows) (at ∷ places) placed one =
         let rest : List Link = leg_links at places ++ links_of markets places in
         All-cons (IsOfOneShard sharding) row rows (row-falls row at placed.0 (All-front (HasOne labels) (row_links markets at) rest one))
         (rows-fall rows places placed.1
         (All-behind (HasOne labels) (leg_links at places) (links_of markets places) (All-behind (HasOne labels) (row_links markets at) rest one)))
+    rows-fall _ _ placed one = absurd placed
 
     -- ---- legs
 
@@ -139,14 +121,13 @@ module _ (start : PlainAccounts) where
     all-legs-fall : (rows : List PlainRow) (places : List RowPlaces) → ArePlaced start rows places → AreBeside rows places → EachTwo (λ (one other : PlainRow). one.number ≤ other.number) rows
         → All (HasOne labels) (links_of markets places) → EachTwo (AreOfOneShard sharding) rows
     all-legs-fall [] [] placed beside rise one = tt
-    all-legs-fall [] (at ∷ places) placed beside rise one = absurd placed
-    all-legs-fall (row ∷ rows) [] placed beside rise one = absurd placed
     all-legs-fall (row ∷ rows) (at ∷ places) placed beside rise one =
         let behind : All (HasOne labels) (leg_links at places ++ links_of markets places) =
         All-behind (HasOne labels) (row_links markets at) (leg_links at places ++ links_of markets places) one in
         let rest : EachTwo (AreOfOneShard sharding) rows =
         all-legs-fall rows places placed.1 beside.1 rise.1 (All-behind (HasOne labels) (leg_links at places) (links_of markets places) behind) in
         (legs-fall row at rows places placed.0 beside.0 placed.1 beside.1 rise.0 rise.1 rest (All-front (HasOne labels) (leg_links at places) (links_of markets places) behind), rest)
+    all-legs-fall _ _ placed beside rise one = absurd placed
 
 -- ---- a script
 
@@ -351,15 +332,9 @@ pub own-shards : (script : PlainScript) (places own : List RowPlaces) (markets w
     → (of_markets of_wallets of_rows : List ℕ) → of_markets ≡ market_shards markets wallets own → of_wallets ≡ wallet_shards markets wallets own → of_rows ≡ row_shards of_markets own
     → AreShardsOf script of_markets of_wallets of_rows
 own-shards script places own markets wallets many more same placed beside facts few of_markets of_wallets of_rows is_markets is_wallets is_rows =
-    let first : of_markets ≡ market_shards (length script.start.markets) (length script.start.wallets) places =
-    is_markets ∙ ap (market_shards markets wallets) same ∙ ap (λ (n : ℕ). market_shards n wallets places) (sym many)
-    ∙ ap (λ (n : ℕ). market_shards (length script.start.markets) n places) (sym more) in
-    let second : of_wallets ≡ wallet_shards (length script.start.markets) (length script.start.wallets) places =
-    is_wallets ∙ ap (wallet_shards markets wallets) same ∙ ap (λ (n : ℕ). wallet_shards n wallets places) (sym many)
-    ∙ ap (λ (n : ℕ). wallet_shards (length script.start.markets) n places) (sym more) in
-    subst (λ (numbers : List ℕ). AreShardsOf script numbers of_wallets of_rows) (sym first)
-    (subst (λ (numbers : List ℕ). AreShardsOf script (market_shards (length script.start.markets) (length script.start.wallets) places) numbers of_rows) (sym second)
-    (subst (λ (numbers : List ℕ). AreShardsOf script (market_shards (length script.start.markets) (length script.start.wallets) places)
-    (wallet_shards (length script.start.markets) (length script.start.wallets) places) numbers)
-    (sym (is_rows ∙ ap (λ (numbers : List ℕ). row_shards numbers own) first ∙ ap (row_shards (market_shards (length script.start.markets) (length script.start.wallets) places)) same))
-    (are-shards script places facts few placed beside)))
+    let own_markets : List ℕ = market_shards (length script.start.markets) (length script.start.wallets) places in
+    let own_wallets : List ℕ = wallet_shards (length script.start.markets) (length script.start.wallets) places in
+    let first : of_markets ≡ own_markets = is_markets ∙ (λ i. market_shards (sym many i) (sym more i) (same i)) in
+    let second : of_wallets ≡ own_wallets = is_wallets ∙ (λ i. wallet_shards (sym many i) (sym more i) (same i)) in
+    subst₂ (λ (numbers others : List ℕ). AreShardsOf script numbers others of_rows) (sym first) (sym second)
+    (subst (AreShardsOf script own_markets own_wallets) (sym (is_rows ∙ ap₂ row_shards first same)) (are-shards script places facts few placed beside))

@@ -1,7 +1,5 @@
 use Rattle.std.proofs.Common.{arith, map, subst, sym, ◌∙◌}
-use Rattle.std.proofs.lemmas.List.{length-map}
-use Rattle.dex_types.specs.Accounts.{accounts_of, market_accounts_of, named_of}
-use Rattle.dex_types.specs.Rows.{row_of}
+use Rattle.dex_world.proofs.Common.{accounts_of, length-map, market_accounts_of, named_of, row_of}
 use Rattle.dex_script_types.specs.PlainScript.{PlainScript}
 use Rattle.dex_script_types.specs.ScriptInside.{script_inside}
 use Rattle.dex_parts.specs.Sharded.{AreShardsOf}
