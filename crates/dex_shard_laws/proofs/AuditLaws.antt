@@ -1,9 +1,8 @@
 -- What an audit finds in shards it finds in the whole, and the other way round.
 use Rattle.std.proofs.Common.{◌≡◌, ◌==◌, ◌<◌, ◌↔◌, ℕ, List, [], ◌∷◌, refl, sym, ap, subst, arith, ⊎_elim}
+use Rattle.dex_world.proofs.Common.{PlainAccount, PlainAccounts, PlainMarketAccounts, cond-true, cond_both, eq-eqb}
 use Rattle.std.specs.List.{All, Contains, filter, flat_map}
-use Rattle.std.proofs.lemmas.Bool.{cond-true, cond_both, eq-eqb}
 use Rattle.std.proofs.lemmas.List.Elements.{All-head, All-tail, Contains-append_cases, Contains-append_left, Contains-append_right}
-use Rattle.dex_types.specs.Accounts.{PlainAccount, PlainAccounts, PlainMarketAccounts}
 use Rattle.dex_audit.specs.Findings.{told}
 use Rattle.dex_audit.specs.Supplies.{supply_off}
 use Rattle.dex_audit_rules.specs.Funds.{differs}

@@ -1,44 +1,27 @@
 -- The worths of a shard's accounts are those of the whole.
-use Rattle.std.proofs.Common.{◌≡◌, ◌==◌, ℕ, ℤ, pos, ◌+ℤ◌, ◌-ℤ◌, Bool, true, false, cond, List, [], ◌∷◌, ◌++◌, get_or, map, Option, Some, None, refl, sym, ap, ◌∙◌}
-use Rattle.std.specs.List.{All, AllPairs, AllZip, filter}
+use Rattle.std.proofs.Common.{◌≡◌, ◌==◌, IfSome, ℕ, ℤ, pos, ◌+ℤ◌, ◌-ℤ◌, Bool, true, false, cond, List, [], ◌∷◌, ◌++◌, get_or, map, Option, Some, None, refl, sym, ap, ◌∙◌}
+use Rattle.dex_world.proofs.Common.{Address, All-head, All-map, All-tail, AllPairs, AllZip, Call, Entry, Market, Movement, PlainAccount, PlainMarketAccounts, PlainRow, Seen, asked_of, filter, filter-append, is_same, is_same-true, names, total}
+use Rattle.dex_replay.proofs.Common.{IsReplayOf, PlainMarketJournal, PlainOutcome, PlainScript, market_in}
+use Rattle.std.specs.List.{All}
+use Rattle.dex_history.specs.Journal.{front}
+use Rattle.dex_script_types.specs.Firsts.{first_of}
 use Rattle.std.specs.Option.{unwrap_or}
 use Rattle.std.proofs.lemmas.Bool.{and_parts, both_ways, cond-false, cond_both}
-use Rattle.std.proofs.lemmas.List.Elements.{All-head, All-map, All-tail, filter-append}
-use Rattle.dex_types.specs.declared.addresses.Address.{Address}
-use Rattle.dex_types.specs.declared.movements.Entry.{Entry}
-use Rattle.dex_types.specs.declared.movements.Movement.{Movement}
-use Rattle.dex_types.specs.declared.rows.Seen.{Seen}
-use Rattle.dex_types.specs.declared.rows.WalletSeen.{WalletSeen}
-use Rattle.dex_types.specs.declared.terms.Program.{Program}
-use Rattle.dex_types.specs.Accounts.{PlainAccount, PlainMarketAccounts}
-use Rattle.dex_types.specs.Addresses.{is_same}
-use Rattle.dex_types.specs.Market.{Market}
-use Rattle.dex_types.specs.Rows.{PlainRow}
 use Rattle.dex_types.specs.Side.{Token, Coin, Pc}
-use Rattle.dex_types.specs.Totals.{total}
 use Rattle.dex_types.specs.Trader.{Trader}
-use Rattle.dex_laws.proofs.TraderLaws.{is_same-true}
 use Rattle.dex_accounts.proofs.Decoded as decoded
-use Rattle.dex_accounts.specs.Decoded.{market_in}
-use Rattle.dex_history.specs.Journal.{Call, asked_of, front}
 use Rattle.dex_eager.specs.Worth.{Worth, held_for}
 use Rattle.dex_world.proofs.MappedLists.{head-same, tail-same}
 use Rattle.dex_world.proofs.NameLaws.{row-among}
-use Rattle.dex_world.specs.Fold.{names}
-use Rattle.dex_state.specs.Outcomes.{PlainMarketJournal, PlainOutcome}
-use Rattle.dex_script_types.specs.Firsts.{first_of}
-use Rattle.dex_script_types.specs.PlainScript.{PlainScript}
 use Rattle.dex_replay.proofs.Groups.{filter-all, filter-none}
 use Rattle.dex_replay.specs.Acting.{NeverFalls}
 use Rattle.dex_replay.specs.Alike.{StandForOne}
 use Rattle.dex_replay.specs.EntryCalls.{call_by, call_told, calls_told, is_row_on, role_told, seen_told, wallet_told, with_call}
-use Rattle.dex_replay.specs.Replays.{IsReplayOf}
 use Rattle.dex_replay.specs.Told.{told_in, told_out}
 use Rattle.dex_replay.specs.WorthTold.{PlainWorthRow, calls_of, row_told, rows_told, table_told, tables_told, worth_told}
 use Rattle.dex_parts.specs.Shards.{FallsInto, IsLeftInShard, IsOfOneShard, IsShardOf, Sharding, has_market, has_wallet, market_journals_in, markets_in}
 use Rattle.dex_parts.proofs.LeftLaws.{same-addresses}
 use Rattle.dex_parts.proofs.ShardLaws.{shard-left}
-use Rattle.dex_parts.proofs.ShardWorlds.{role-named}
 
 -- the first that passes is among those that are kept, and tells there what it tells here
 first-kept : {X Y : Type 0} (test kept : X → Bool) (f g : X → Y) (xs : List X) → ((x : X) → test x ≡ true → kept x ≡ true) → All (λ (x : X). kept x ≡ true → f x ≡ g x) xs
@@ -63,31 +46,29 @@ module _ (sharding : Sharding) (shard : ℕ) (script part : PlainScript) (falls 
 
   -- ---- calls
 
-  role-same : (moves : List Movement) (role : Option Address) → ((address : Address) → role ≡ Some address → has_wallet sharding shard address ≡ true)
-      → role_told part.start.wallets moves role ≡ role_told script.start.wallets moves role
-  role-same moves None own = refl
-  role-same moves (Some address) own =
-      ap (first_of (λ (wallet : PlainAccount). is_same address wallet.address) (wallet_told moves)) is.wallets
-      ∙ first-kept (λ (wallet : PlainAccount). is_same address wallet.address) (λ (wallet : PlainAccount). has_wallet sharding shard wallet.address)
-      (wallet_told moves) (wallet_told moves) script.start.wallets
-      (λ wallet same. ap (has_wallet sharding shard) (sym (is_same-true address wallet.address same)) ∙ own address refl)
-      (λ k d within mine. refl)
+  module _ (row : PlainRow) (one : IsOfOneShard sharding row) (own : own_market row.market ≡ true) (moves : List Movement) where
+    role-same : (role : Option Address) → IfSome role (λ (address : Address). names row address ≡ true)
+        → role_told part.start.wallets moves role ≡ role_told script.start.wallets moves role
+    role-same None named = refl
+    role-same (Some address) named =
+        ap (first_of (λ (wallet : PlainAccount). is_same address wallet.address) (wallet_told moves)) is.wallets
+        ∙ first-kept (λ (wallet : PlainAccount). is_same address wallet.address) (λ (wallet : PlainAccount). has_wallet sharding shard wallet.address)
+        (wallet_told moves) (wallet_told moves) script.start.wallets
+        (λ wallet same. ap (has_wallet sharding shard) (sym (is_same-true address wallet.address same)) ∙ ap (λ (n : ℕ). n == shard) (one address named) ∙ own)
+        (λ k d within mine. refl)
 
   seen-same : (row : PlainRow) (entry : Entry) → IsOfOneShard sharding row → own_market row.market ≡ true → seen_told part row entry ≡ seen_told script row entry
   seen-same row entry one own =
-      let moves : List Movement = front entry.moves in
-      let early : Seen = seen_told part row entry in
-      let late : Seen = seen_told script row entry in
-      let mine : (wallet : Address) → names row wallet ≡ true → has_wallet sharding shard wallet ≡ true = λ wallet named. ap (λ (n : ℕ). n == shard) (one wallet named) ∙ own in
-      ap (λ (role : Option WalletSeen). record early { coin = role }) (role-same moves row.coin (λ address here. mine address (role-named row row.coin (row-among row).0 address here)))
-      ∙ ap (λ (role : Option WalletSeen). record early { coin = late.coin; pc = role }) (role-same moves row.pc (λ address here. mine address (role-named row row.pc (row-among row).1 address here)))
-      ∙ ap (λ (role : Option WalletSeen). record early { coin = late.coin; pc = late.pc; discount = role })
-      (role-same moves row.discount (λ address here. mine address (role-named row row.discount (row-among row).2 address here)))
-      ∙ ap (λ (role : Option WalletSeen). record early { coin = late.coin; pc = late.pc; discount = late.discount; referrer = role })
-      (role-same moves row.referrer (λ address here. mine address (role-named row row.referrer (row-among row).3 address here)))
-      ∙ ap (λ (srm : Option Address). record late { srm = srm; msrm = part.start.msrm; program = part.program }) is.srm
-      ∙ ap (λ (msrm : Option Address). record late { msrm = msrm; program = part.program }) is.msrm
-      ∙ ap (λ (program : Program). record late { program = program }) is.program
+      let same = role-same row one own (front entry.moves) in
+      λ i. record {
+        coin = same row.coin (row-among row).0 i;
+        pc = same row.pc (row-among row).1 i;
+        discount = same row.discount (row-among row).2 i;
+        referrer = same row.referrer (row-among row).3 i;
+        srm = is.srm i;
+        msrm = is.msrm i;
+        program = is.program i;
+      }
 
   call-same : (market : Address) → own_market market ≡ true → (entry : Entry) → call_told part market entry ≡ call_told script market entry
   call-same market own entry =
@@ -99,9 +80,7 @@ module _ (sharding : Sharding) (shard : ℕ) (script part : PlainScript) (falls 
 
   calls-same : (market : Address) → own_market market ≡ true → (entries : List Entry) → calls_told part market entries ≡ calls_told script market entries
   calls-same market own [] = refl
-  calls-same market own (entry ∷ entries) =
-      ap (λ (call : Option Call). with_call call (calls_told part market entries)) (call-same market own entry)
-      ∙ ap (with_call (call_told script market entry)) (calls-same market own entries)
+  calls-same market own (entry ∷ entries) = λ i. with_call (call-same market own entry i) (calls-same market own entries i)
 
   -- ---- rows of the table
 
@@ -125,8 +104,6 @@ module _ (sharding : Sharding) (shard : ℕ) (script part : PlainScript) (falls 
       → map (λ (accounts : PlainMarketAccounts). accounts.address) lasts ≡ map (λ (journal : PlainMarketJournal). journal.address) journals
       → tables_told part (markets_in sharding shard lasts) (market_journals_in sharding shard journals) ≡ filter is_row_in (tables_told script lasts journals)
   tables-in [] [] same = refl
-  tables-in [] (journal ∷ journals) same = absurd (cc)
-  tables-in (last ∷ lasts) [] same = absurd (cc)
   tables-in (last ∷ lasts) (journal ∷ journals) same =
       let rest = tables-in lasts journals (tail-same same) in
       let others : List PlainMarketAccounts = markets_in sharding shard lasts in
@@ -149,6 +126,7 @@ module _ (sharding : Sharding) (shard : ℕ) (script part : PlainScript) (falls 
       either false lies rest =
           rest ∙ ap (λ (rows : List PlainWorthRow). rows ++ filter is_row_in (tables_told script lasts journals))
           (sym (filter-none is_row_in (rows_told script last journal) (rows-of false last journal lies)))
+  tables-in _ _ same = absurd (cc)
 
 -- ---- accounts that stand for one market tell one table
 
@@ -171,12 +149,9 @@ rows-alike script one other journal alike =
 tables-alike : (script : PlainScript) (one other : List PlainMarketAccounts) (journals : List PlainMarketJournal) → AllZip StandForOne one other
     → tables_told script one journals ≡ tables_told script other journals
 tables-alike script [] [] journals alike = refl
-tables-alike script [] (y ∷ ys) journals alike = absurd alike
-tables-alike script (x ∷ xs) [] journals alike = absurd alike
 tables-alike script (x ∷ xs) (y ∷ ys) [] alike = refl
-tables-alike script (x ∷ xs) (y ∷ ys) (journal ∷ journals) alike =
-    ap (λ (rows : List PlainWorthRow). rows ++ tables_told script xs journals) (rows-alike script x y journal alike.0)
-    ∙ ap (λ (rows : List PlainWorthRow). rows_told script y journal ++ rows) (tables-alike script xs ys journals alike.1)
+tables-alike script (x ∷ xs) (y ∷ ys) (journal ∷ journals) alike = λ i. rows-alike script x y journal alike.0 i ++ tables-alike script xs ys journals alike.1 i
+tables-alike script _ _ _ alike = absurd alike
 
 pub shard-worth : (sharding : Sharding) (script : PlainScript) → AllPairs NeverFalls script.rows → FallsInto sharding script → (shard : ℕ) (part : PlainScript) (all left : PlainOutcome)
     → IsShardOf sharding shard script part → IsReplayOf script all → IsReplayOf part left
