@@ -201,7 +201,7 @@ one-cut most (a ∷ counts) [] numbers some one other = absurd (omega (arith, ap
 one-cut most (a ∷ counts) (b ∷ others) numbers some one other =
     let same : a ≡ b = one-part most a b numbers one.0 other.0 in
     let rest : counts ≡ others = one-cut most counts others (drop a numbers) some one.1 (subst (λ (n : ℕ). AreCutBy most others (drop n numbers)) (sym same) other.1) in
-    ap (λ (n : ℕ). n ∷ counts) same ∙ ap (λ (l : List ℕ). b ∷ l) rest
+    λ i. same i ∷ rest i
 
 -- ---- the numbers beside rows are theirs
 

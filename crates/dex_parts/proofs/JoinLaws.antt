@@ -27,9 +27,9 @@ joined-append labels (link ∷ links) more = joined-append (joined labels link) 
 relabelled-same : (label : ℕ) (labels : List ℕ) → map (relabelled label label) labels ≡ labels
 relabelled-same label [] = refl
 relabelled-same label (first ∷ others) =
-    ap (λ (n : ℕ). n ∷ map (relabelled label label) others)
-    (cond_both (eqb first label) label first (λ (n : ℕ). n ≡ first) (λ same. sym (eqb-true first label same)) (λ apart. refl))
-    ∙ ap (λ (rest : List ℕ). first ∷ rest) (relabelled-same label others)
+    let here : relabelled label label first ≡ first =
+    cond_both (eqb first label) label first (λ (n : ℕ). n ≡ first) (λ same. sym (eqb-true first label same)) (λ apart. refl) in
+    λ i. here i ∷ relabelled-same label others i
 
 -- of two with one label none changes
 pub joined-same : (labels : List ℕ) (one other : ℕ) → get_or labels one 0 ≡ get_or labels other 0 → joined labels (one, other) ≡ labels
@@ -42,16 +42,12 @@ joined-same labels one other same =
 
 -- ---- what a join does to the label of a place, by the lower and the higher of the two labels
 
--- labels in which one label was taken for another that is no higher
-record IsRelabelled (labels new : List ℕ) (from to : ℕ) : Type 0 where
-  lower : to ≤ from
-  is : new ≡ map (relabelled from to) labels
-
--- the labels of a link, the higher and the lower
+-- the higher of the two labels of a link was taken for the lower one
 record IsJoined (labels new : List ℕ) (link : Link) : Type 0 where
   from : ℕ
   to : ℕ
-  relabels : IsRelabelled labels new from to
+  lower : to ≤ from
+  is : new ≡ map (relabelled from to) labels
   ends : ((get_or labels link.0 0 ≡ to) × (get_or labels link.1 0 ≡ from)) ⊎ ((get_or labels link.0 0 ≡ from) × (get_or labels link.1 0 ≡ to))
 
 is-joined : (labels : List ℕ) (link : Link) → IsJoined labels (joined labels link) link
@@ -59,8 +55,8 @@ is-joined labels link =
     let one : ℕ = get_or labels link.0 0 in
     let other : ℕ = get_or labels link.1 0 in
     cond_both (ltb one other) (map (relabelled other one) labels) (map (relabelled one other) labels) (λ (new : List ℕ). IsJoined labels new link)
-    (λ lower. record { from = other; to = one; relabels = record { lower = omega (arith, ltb-true one other lower); is = refl }; ends = inl (refl, refl) })
-    (λ higher. record { from = one; to = other; relabels = record { lower = ltb-false one other higher; is = refl }; ends = inr (refl, refl) })
+    (λ lower. record { from = other; to = one; lower = omega (arith, ltb-true one other lower); is = refl; ends = inl (refl, refl) })
+    (λ higher. record { from = one; to = other; lower = ltb-false one other higher; is = refl; ends = inr (refl, refl) })
 
 -- the label at a place
 label-at : (labels new : List ℕ) (from to place : ℕ) → new ≡ map (relabelled from to) labels → place < length labels
@@ -82,9 +78,9 @@ stays-one labels (link ∷ links) one other within within_other same =
     let join : IsJoined labels (joined labels link) link = is-joined labels link in
     let long = joined-long labels link in
     stays-one (joined labels link) links one other (omega (arith, within, long)) (omega (arith, within_other, long))
-    (label-at labels (joined labels link) join.from join.to one join.relabels.is within
+    (label-at labels (joined labels link) join.from join.to one join.is within
     ∙ ap (relabelled join.from join.to) same
-    ∙ sym (label-at labels (joined labels link) join.from join.to other join.relabels.is within_other))
+    ∙ sym (label-at labels (joined labels link) join.from join.to other join.is within_other))
 
 -- what is joined is one
 joined-one : (labels : List ℕ) (link : Link) → IsWithin (length labels) link → get_or (joined labels link) link.0 0 ≡ get_or (joined labels link) link.1 0
@@ -92,8 +88,8 @@ joined-one labels link within =
     let join : IsJoined labels (joined labels link) link = is-joined labels link in
     let from : ℕ = join.from in
     let to : ℕ = join.to in
-    let first = label-at labels (joined labels link) from to link.0 join.relabels.is within.0 in
-    let second = label-at labels (joined labels link) from to link.1 join.relabels.is within.1 in
+    let first = label-at labels (joined labels link) from to link.0 join.is within.0 in
+    let second = label-at labels (joined labels link) from to link.1 join.is within.1 in
     ⊎_elim
     (λ (ends : (get_or labels link.0 0 ≡ to) × (get_or labels link.1 0 ≡ from)).
     first ∙ ap (relabelled from to) ends.0 ∙ relabelled-to from to ∙ sym (second ∙ ap (relabelled from to) ends.1 ∙ relabelled-from from to))
@@ -169,7 +165,7 @@ module _ (tell : ℕ → ℕ) where
       (λ (ends : (get_or labels link.0 0 ≡ join.from) × (get_or labels link.1 0 ≡ join.to)).
       ap tell (sym ends.1) ∙ keeps link.1 within.1 ∙ sym agrees ∙ sym (keeps link.0 within.0) ∙ ap tell ends.0)
       join.ends in
-      ap tell (label-at labels (joined labels link) join.from join.to place join.relabels.is own)
+      ap tell (label-at labels (joined labels link) join.from join.to place join.is own)
       ∙ cond_both (eqb label join.from) join.to label (λ (n : ℕ). tell n ≡ tell place)
       (λ taken. same ∙ ap tell (sym (eqb-true label join.from taken)) ∙ keeps place own) (λ left. keeps place own)
 
@@ -192,9 +188,9 @@ joined-low labels link low = λ place inside.
     let join : IsJoined labels (joined labels link) link = is-joined labels link in
     let own : place < length labels = omega (arith, inside, joined-long labels link) in
     let label : ℕ = get_or labels place 0 in
-    subst (λ (n : ℕ). n ≤ place) (sym (label-at labels (joined labels link) join.from join.to place join.relabels.is own))
+    subst (λ (n : ℕ). n ≤ place) (sym (label-at labels (joined labels link) join.from join.to place join.is own))
     (cond_both (eqb label join.from) join.to label (λ (n : ℕ). n ≤ place)
-    (λ taken. omega (arith, join.relabels.lower, eqb-true label join.from taken, low place own)) (λ left. low place own))
+    (λ taken. omega (arith, join.lower, eqb-true label join.from taken, low place own)) (λ left. low place own))
 
 pub all-low : (labels : List ℕ) (links : List Link) → AreLow labels → AreLow (all_joined labels links)
 all-low labels [] low = low

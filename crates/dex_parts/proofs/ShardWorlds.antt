@@ -1,15 +1,10 @@
 -- Items that act in a whole world act in the world of one shard as its own items do.
-use Rattle.std.proofs.Common.{◌≡◌, ◌==◌, IfSome, ℕ, Bool, true, false, cond, List, [], ◌∷◌, Option, Some, None, map, refl, sym, ap, ◌∙◌, subst, ⊎_elim}
+use Rattle.std.proofs.Common.{◌≡◌, ◌==◌, ℕ, Bool, true, false, cond, List, [], ◌∷◌, Option, Some, None, map, refl, sym, ap, ◌∙◌, ⊎_elim}
 use Rattle.dex_world.proofs.Common.{Address, All-head, All-tail, All-weaker, Listing, Market, MarketState, PlainRow, Seen, Transfers, WalletState, World, act, act_item, acted, cases_Bool, chosen, cond-false, cond-true, cond_both, filter, fold, fold_items, idle_row, is_same, is_same-true, map-id, market_acted, markets_acted, members, movement_of, names, request_of, row_step, seen_by, step-keeps, wallet_acted, wallet_at, wallet_moved}
 use Rattle.dex_parts.proofs.Common.{All, Item, both_ways, filter-of, market_at}
 use Rattle.std.proofs.lemmas.List.Elements.{filter_agree}
 use Rattle.dex_parts.proofs.AlikeWorlds.{ActsAlike, chosen-all, item-acts}
 use Rattle.dex_parts.specs.Shards.{IsItemOfOneShard, IsOfOneShard, Sharding, has_market, has_wallet, items_in, world_in}
-
--- a row names the wallet of each of its roles
-pub role-named : (row : PlainRow) (role : Option Address) → IfSome role (λ (address : Address). names row address ≡ true) → (address : Address) → role ≡ Some address
-    → names row address ≡ true
-role-named row role among address is = subst (λ (one : Option Address). IfSome one (λ (wallet : Address). names row wallet ≡ true)) is among
 
 module _ (sharding : Sharding) (shard : ℕ) where
   abbrev own_market : Address → Bool
