@@ -175,9 +175,8 @@ all-counted : {A : Type 0} (names : PlainRow → Address → Bool) (address_in :
     → AreRowsOf names (map address_in items) rows counts → counts ≡ map (λ (item : A). count_by (λ (row : PlainRow). names row (address_in item)) rows) items
 all-counted names address_in rows [] [] so = refl
 all-counted names address_in rows (item ∷ items) (count ∷ counts) so =
-    let named : ℕ = count_by (λ (row : PlainRow). names row (address_in item)) rows in
     let rest = all-counted names address_in rows items counts (record { long = omega (arith, so.long); each = λ place d less. so.each (suc place) d (omega (arith, less)) }) in
-    ap (λ (n : ℕ). n ∷ counts) (so.each 0 (address_in item) (omega arith)) ∙ ap (λ (all : List ℕ). named ∷ all) rest
+    λ i. so.each 0 (address_in item) (omega arith) i ∷ rest i
 all-counted names address_in rows _ _ so = absurd (omega (arith, so.long))
 
 pub rooms-told : {A : Type 0} (names : PlainRow → Address → Bool) (address_in : A → Address) (rows : List PlainRow) (items : List A) (i : ℕ) (counts : List ℕ) → length rows ≤ i

@@ -1,7 +1,7 @@
 -- All cells before and after a row.
 use Rattle.std.proofs.Common.{◌≡◌, ℕ, Bool, true, List, map, get_or, set, Option, Some, sym, ap, ◌∙◌}
-use Rattle.dex_world.proofs.Common.{Market, MarketState, PlainMarketAccounts, PlainRow, Reply, Seen, WalletState, World, act, acted, is_same, is_same-true, markets_acted, request_of, row_step, seen_by, wallet_acted, why, why_in, why_on}
-use Rattle.dex_bank.proofs.Common.{AreCells, CanAct, CellState, CellsState, IsFirstAt, IsMarketCell, IsReply, MarketCellState, StandsAt, made_of, market_at, opened_of, wallet_state_of, world_of}
+use Rattle.dex_world.proofs.Common.{Market, MarketState, PlainRow, Reply, Seen, WalletState, World, act, acted, is_same, is_same-true, markets_acted, request_of, row_step, seen_by, wallet_acted, why, why_in, why_on}
+use Rattle.dex_bank.proofs.Common.{AreCells, CanAct, CellState, CellsState, IsFirstAt, IsMarketCell, IsReply, MarketCellState, StandsAt, market_at, wallet_state_of, world_of}
 use Rattle.std.proofs.lemmas.List.Elements.{All-get_or, All-set}
 use Rattle.std.proofs.Math.Seq.{map-set_same}
 use Rattle.dex_cell.specs.CellState as market
@@ -77,12 +77,8 @@ module _ (row : PlainRow) (waits : Bool) (seen : Seen) (place : ℕ) (cells : Ce
     reply = told;
     acted = world-acted;
     kept =
-        let made : List MarketCellState → List CellState → CellsState = λ ms ws. record cells { markets = ms; wallets = ws } in
-        let old : MarketCellState = get_or cells.markets place default in
-        ap (λ (ms : List MarketCellState). made ms (map made_of wallets))
-        (map-set_same opened_market cells.markets place cell default
-        (ap (λ (start : PlainMarketAccounts). market.new_cell start cell.room) has.start ∙ ap (market.new_cell old.start) has.room))
-        ∙ ap (made (opened_of cells).markets) has.wallets.made;
+        let same = map-set_same opened_market cells.markets place cell default (λ i. market.new_cell (has.start i) (has.room i)) in
+        λ i. record cells { markets = same i; wallets = has.wallets.made i };
     others = others-stay row.market cells.markets place cell first;
     refused = λ refused. map-set_same (λ (c : MarketCellState). c.accounts) cells.markets place cell default (has.refused refused);
     cells = record {

@@ -82,14 +82,10 @@ module _ (first second : PlainRow) (share : ShareNothing first second) (one two 
 
   -- where one is refused, the other waits or is
   waits-by : (a b : Bool) → (a || b) ≡ true → a ≡ false → (b && not a) ≡ true
-  waits-by true b some none = absurd (false≢true (sym none))
-  waits-by false true some none = refl
-  waits-by false false some none = absurd (false≢true some)
+  waits-by a b some none = grind arith
 
   waits-too : (a b : Bool) → (a || b) ≡ true → b ≡ false → (a && not b) ≡ true
-  waits-too a true some none = absurd (false≢true (sym none))
-  waits-too true false some none = refl
-  waits-too false false some none = absurd (false≢true some)
+  waits-too a b some none = grind arith
 
   pub both-stepped : HaveBothStepped first second (answer, other_answer) before after
   both-stepped = record {

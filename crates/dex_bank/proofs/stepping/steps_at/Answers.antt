@@ -1,4 +1,4 @@
-use Rattle.std.proofs.Common.{◌++◌, ◌<◌, ◌≤◌, List, get_or, set, take, ap, ◌∙◌, subst, arith, ⊎_elim}
+use Rattle.std.proofs.Common.{◌++◌, ◌<◌, ◌≤◌, List, get_or, set, ap, ap₂, ◌∙◌, subst₂, arith, ⊎_elim}
 use Rattle.std.proofs.lemmas.Bool.{cases_lt}
 use Rattle.dex_bank.proofs.Common.{MarketCellState}
 use Rattle.dex_act.specs.Steps.{AreStepsOn}
@@ -19,14 +19,11 @@ returns-then-one-two c =
     record {
       first = first;
       second = second;
-      are = ap (λ (l : List MarketCellState). set l one first ++ set c.split_at_mut-lower.result.1.now 0 second) parts.front
-          ∙ ap (λ (l : List MarketCellState). set (take two markets) one first ++ set l 0 second) parts.back
+      are = ap₂ (λ (front back : List MarketCellState). set front one first ++ set back 0 second) parts.front parts.back
           ∙ set-parts markets one two first second c.if-one-two.true c.requires.within.1;
       steps = λ d.
-          subst (λ (m : MarketCellState). steps m (get_or markets two d))
-          (ap (λ (l : List MarketCellState). get_or l one lower) parts.front ∙ front-at markets two one lower d c.if-one-two.true c.requires.within.0)
-          (subst (steps (get_or c.split_at_mut-lower.result.0.now one lower)) (ap (λ (l : List MarketCellState). get_or l 0 upper) parts.back ∙ back-at markets two upper d c.requires.within.1)
-          c.step_two.ensures);
+          subst₂ steps (ap (λ (l : List MarketCellState). get_or l one lower) parts.front ∙ front-at markets two one lower d c.if-one-two.true c.requires.within.0)
+          (ap (λ (l : List MarketCellState). get_or l 0 upper) parts.back ∙ back-at markets two upper d c.requires.within.1) c.step_two.ensures;
     }
 
 pub returns-else-one-two : goal.returns-else-one-two
@@ -45,13 +42,10 @@ returns-else-one-two c =
     record {
       first = first;
       second = second;
-      are = ap (λ (l : List MarketCellState). set l two second ++ set c.split_at_mut-lower-else-one-two.result.1.now 0 first) parts.front
-          ∙ ap (λ (l : List MarketCellState). set (take one markets) two second ++ set l 0 first) parts.back
+      are = ap₂ (λ (front back : List MarketCellState). set front two second ++ set back 0 first) parts.front parts.back
           ∙ set-parts-back markets one two first second below c.requires.within.0;
       steps = λ d.
-          subst (λ (m : MarketCellState). steps m (get_or markets two d))
-          (ap (λ (l : List MarketCellState). get_or l 0 upper) parts.back ∙ back-at markets one upper d c.requires.within.0)
-          (subst (steps (get_or c.split_at_mut-lower-else-one-two.result.1.now 0 upper))
+          subst₂ steps (ap (λ (l : List MarketCellState). get_or l 0 upper) parts.back ∙ back-at markets one upper d c.requires.within.0)
           (ap (λ (l : List MarketCellState). get_or l two lower) parts.front ∙ front-at markets one two lower d below c.requires.within.1)
-          c.step_two-else-one-two.ensures);
+          c.step_two-else-one-two.ensures;
     }
