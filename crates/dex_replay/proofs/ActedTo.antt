@@ -1,24 +1,21 @@
 -- A script's items act one after the other, until none of its rows is left.
 use Rattle.std.proofs.Common.{◌≡◌, ℕ, zero, suc, ◌+◌, ◌<◌, ◌≤◌, min, true, false, eqb, List, [], ◌∷◌, ◌++◌, Option, None, Some, drop, get_or, is_some, length, map, option_copied, option_map, refl, slice_get, sym, ap, ◌∙◌, subst, arith, ⊎_elim}
 use Rattle.dex_world.proofs.Common.{All-cons, All-head, All-nil, All-tail, All-weaker, AllPairs, AllZip-long, PlainRow, Row, World, act, act_item, alone, cases_Bool, false≢true, flat_map, flat_map-append, fold_items, length-map, members, ne_eqb, row_of, why_in}
-use Rattle.dex_replay.proofs.Common.{AreCells, AreLegs, CanAct, CellsState, IsRowOf, IsScript, PlainScript, opened, opened_of, start_world, world_of}
-use Rattle.std.specs.List.{All}
+use Rattle.dex_replay.proofs.Common.{All, AreCells, AreLegs, CanAct, CellsState, HasNoThree, IsLeg, IsRowOf, IsScript, PlainScript, RowPlaces, opened, opened_of, start_world, world_of}
 use Rattle.std.specs.Borrow.{Bor}
 use Rattle.std.proofs.lemmas.List.{append-nil, append_assoc, drop-map, get_or_default, get_or_past}
 use Rattle.std.proofs.lemmas.Option.{slice_get-map}
 use Rattle.dex_world.specs.Items.{Item, items_of, pair_of}
 use Rattle.dex_world.proofs.GroupLaws.{grouped-apart, grouped-pair}
 use Rattle.dex_world.proofs.ItemLaws.{alone-acts}
-use Rattle.dex_world.specs.declared.places.RowPlaces.{RowPlaces}
 use Rattle.dex_bank.specs.Cells.{CanActBoth, IsTakeOrRefused}
 use Rattle.dex_bank.specs.Places.{ArePlacedIn, ArePlacesIn}
 use Rattle.dex_bank.proofs.Stands.{its-address, stand-still}
-use Rattle.dex_script_types.specs.Facts.{HasNoThree, IsLeg}
 use Rattle.dex_replay.specs.Acting.{AreLeft, HaveActed, IsNext, NeverFalls}
 use Rattle.dex_replay.proofs.Counting.{IsCounted, run-counted}
 use Rattle.dex_replay.proofs.Groups.{each-two}
 use Rattle.dex_replay.proofs.Items.{HaveAllRun, items-run, row_told, take-or-refused}
-use Rattle.dex_replay.proofs.MappedLists.{All-front}
+use Rattle.dex_replay.proofs.MappedLists.{All-behind, All-front}
 use Rattle.dex_replay.proofs.Orders.{IsItemIn, order-items, own-order}
 use Rattle.dex_replay.proofs.Room.{can-act}
 use Rattle.dex_replay.proofs.RunSteps.{start-run}
@@ -137,11 +134,7 @@ module _ (script : PlainScript) (is : IsScript script) (left : List PlainRow) (p
   -- the item with which they begin
   module _ (item : Item) (rest : List PlainRow) (split : items_of left ≡ item ∷ items_of rest) (rows : left ≡ members item ++ rest) where
     begins : IsOwn item
-    begins = All-head IsOwn item (items_of rest) (subst (All IsOwn) split (All-behind so.done own))
-      where
-        All-behind : (front : List Item) → All IsOwn (front ++ items_of left) → All IsOwn (items_of left)
-        All-behind [] all = all
-        All-behind (first ∷ front) all = All-behind front (All-tail IsOwn first (front ++ items_of left) all)
+    begins = All-head IsOwn item (items_of rest) (subst (All IsOwn) split (All-behind IsOwn so.done (items_of left) own))
 
     -- after it
     acts : (after : CellsState) (behind : List RowPlaces) → AllPairs NeverFalls rest → HasNoThree rest → ArePlacedIn cells rest behind → opened_of after ≡ opened_of cells

@@ -1,11 +1,10 @@
 -- In the journals that a run leaves, the rows of an item were all done, or each that was not refused was held back.
 use Rattle.std.proofs.Common.{◌≡◌, ℕ, ◌&&◌, ◌||◌, not, Bool, true, false, eqb, List, [], ◌∷◌, get_or, map, refl, sym, ap, ◌∙◌, subst, ⊎_elim}
 use Rattle.std.proofs.Math.Bool.{and-false, or-false}
-use Rattle.dex_world.proofs.Common.{Address, All-cons, All-head, All-map, All-nil, All-tail, All-weaker, AllZip, Asked, Call, EachTwo, Entry, IsLegal, Market, MarketState, PlainMarketAccounts, PlainRow, Reply, cases_Bool, cond-false, cond-true, cond_both, decoded, eq-eqb, eqb-true, false_from_ne_true, false≢true, filter, is_done, is_refusal, is_same, is_same-refl, is_same-sym, is_same-true, is_take, list_any, members, step_of}
-use Rattle.dex_replay.proofs.Common.{IsAllOrNone, PlainMarketJournal, PlainScript, has_market, is_answered, market_in, was_held}
-use Rattle.std.specs.List.{All}
+use Rattle.dex_world.proofs.Common.{Address, All-cons, All-map, All-nil, All-weaker, AllZip, Asked, Call, EachTwo, Entry, IsLegal, Market, MarketState, PlainMarketAccounts, PlainRow, Reply, cases_Bool, cond-false, cond-true, cond_both, decoded, eq-eqb, eqb-true, false≢true, filter, is_done, is_refusal, is_same, is_same-refl, is_same-sym, is_same-true, is_take, list_any, members, step_of}
+use Rattle.dex_replay.proofs.Common.{All, IsAllOrNone, Item, PlainMarketJournal, PlainScript, has_market, is_answered, market_in, was_held}
 use Rattle.std.proofs.lemmas.List.Elements.{All-contains}
-use Rattle.dex_world.specs.Items.{Item}
+use Rattle.std.proofs.lemmas.List.Folds.{list_any_none}
 use Rattle.dex_replay.specs.Lawful.{entries_at}
 use Rattle.dex_replay.proofs.Items.{IsSettled, is_refused_told, row_told}
 use Rattle.dex_replay.proofs.MappedLists.{All-unmap, head-same, list_any-agree, list_any-map, tail-same}
@@ -22,25 +21,20 @@ told_under number test sign = eqb sign.0.number number && test sign.1
 abbrev is_it : (Reply → Bool) → RowReply → RowReply → Bool
 is_it test one other = is_same other.row.market one.row.market && (eqb other.row.number one.row.number && test other.reply)
 
-apart-not : (test : Reply → Bool) (one other : RowReply) → OnApart one.row other.row → (is_it test one other ≡ false) × (is_it test other one ≡ false)
-apart-not test one other apart =
+not-it : (test : Reply → Bool) (one other : RowReply) → OnApart other.row one.row → is_it test one other ≡ false
+not-it test one other apart =
     ⊎_elim
-    (λ (same : eqb one.row.number other.row.number ≡ true).
-    let away : is_same one.row.market other.row.market ≡ false = apart (eqb-true one.row.number other.row.number same) in (
-      ap (λ (b : Bool). b && (eqb other.row.number one.row.number && test other.reply)) (is_same-sym other.row.market one.row.market ∙ away),
-      ap (λ (b : Bool). b && (eqb one.row.number other.row.number && test one.reply)) away,
-    ))
-    (λ (differ : eqb one.row.number other.row.number ≡ false).
-    let back : eqb other.row.number one.row.number ≡ false =
-    false_from_ne_true (eqb other.row.number one.row.number) (λ is. false≢true (sym differ ∙ eq-eqb one.row.number other.row.number (sym (eqb-true other.row.number one.row.number is)))) in (
-      ap (λ (b : Bool). is_same other.row.market one.row.market && (b && test other.reply)) back ∙ and-false (is_same other.row.market one.row.market),
-      ap (λ (b : Bool). is_same one.row.market other.row.market && (b && test one.reply)) differ ∙ and-false (is_same one.row.market other.row.market),
-    ))
-    (cases_Bool (eqb one.row.number other.row.number))
+    (λ (same : eqb other.row.number one.row.number ≡ true).
+    ap (λ (b : Bool). b && (eqb other.row.number one.row.number && test other.reply)) (apart (eqb-true other.row.number one.row.number same)))
+    (λ (differ : eqb other.row.number one.row.number ≡ false).
+    ap (λ (b : Bool). is_same other.row.market one.row.market && (b && test other.reply)) differ ∙ and-false (is_same other.row.market one.row.market))
+    (cases_Bool (eqb other.row.number one.row.number))
 
-none-of : {A : Type 0} (p : A → Bool) (xs : List A) → All (λ x. p x ≡ false) xs → list_any p xs ≡ false
-none-of p [] none = refl
-none-of p (x ∷ xs) none = ap (λ (b : Bool). b || list_any p xs) (All-head (λ y. p y ≡ false) x xs none) ∙ none-of p xs (All-tail (λ y. p y ≡ false) x xs none)
+apart-not : (test : Reply → Bool) (one other : RowReply) → OnApart one.row other.row → (is_it test one other ≡ false) × (is_it test other one ≡ false)
+apart-not test one other apart = (
+  not-it test one other (λ same. is_same-sym other.row.market one.row.market ∙ apart (sym same)),
+  not-it test other one apart,
+)
 
 -- where no market has two of one number, each is told of once
 pub told-once : (test : Reply → Bool) (all : List RowReply) → EachTwo OnApart (map row_told all) → All (λ (told : RowReply). list_any (is_it test told) all ≡ test told.reply) all
@@ -49,7 +43,7 @@ told-once test (first ∷ all) apart =
     All-cons (λ (told : RowReply). list_any (is_it test told) (first ∷ all) ≡ test told.reply) first all
     (ap (λ (b : Bool). (b && (eqb first.row.number first.row.number && test first.reply)) || list_any (is_it test first) all) (is_same-refl first.row.market)
     ∙ ap (λ (b : Bool). (b && test first.reply) || list_any (is_it test first) all) (eq-eqb first.row.number first.row.number refl)
-    ∙ ap (λ (b : Bool). test first.reply || b) (none-of (is_it test first) all (λ k d within. (away k d within).0))
+    ∙ ap (λ (b : Bool). test first.reply || b) (list_any_none (is_it test first) all (λ k d within. (away k d within).0))
     ∙ or-false (test first.reply))
     (λ k d within.
     ap (λ (b : Bool). b || list_any (is_it test (get_or all k d)) all) (away k d within).1 ∙ told-once test all apart.1 k d within)

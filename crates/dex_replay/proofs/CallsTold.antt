@@ -1,28 +1,14 @@
 -- The calls of lawful journals are those that their entries tell.
 use Rattle.std.proofs.Common.{◌≡◌, ◌==◌, ℕ, List, [], ◌∷◌, get_or, map, Option, Some, refl, sym, ap, ◌∙◌}
-use Rattle.std.specs.List.{All, Contains, filter}
-use Rattle.std.proofs.lemmas.Bool.{eq-eqb}
+use Rattle.dex_world.proofs.Common.{Address, Asked, Call, Contains, Entry, IsLegal, Listing, Market, PlainMarketAccounts, PlainRow, acted_of, asked_of, eq-eqb, filter, is_same, step-keeps, step_of}
+use Rattle.dex_replay.proofs.Common.{All, AllThree, IsLawful, IsLawfulMarket, IsScript, IsSight, PlainMarketJournal, PlainOutcome, PlainScript, first_of, market_in, rows_of_market}
 use Rattle.std.proofs.lemmas.List.Elements.{All-contains_itself, All-filter, All-head, All-tail, All-weaker}
-use Rattle.dex_types.specs.declared.addresses.Address.{Address}
-use Rattle.dex_types.specs.declared.movements.Entry.{Entry}
-use Rattle.dex_types.specs.declared.rows.Seen.{Seen}
-use Rattle.dex_types.specs.Accounts.{PlainMarketAccounts}
-use Rattle.dex_types.specs.Addresses.{is_same}
-use Rattle.dex_types.specs.Market.{Listing, Market}
-use Rattle.dex_types.specs.Rows.{PlainRow}
-use Rattle.dex_accounts.specs.Decoded.{market_in}
-use Rattle.dex_sound.proofs.KeepLaws.{step-keeps}
-use Rattle.dex_history.specs.Journal.{Asked, Call, IsLegal, acted_of, asked_of, step_of}
-use Rattle.dex_state.specs.Outcomes.{PlainMarketJournal, PlainOutcome}
-use Rattle.dex_script_types.specs.PlainScript.{PlainScript}
-use Rattle.dex_script_types.specs.Facts.{IsScript}
-use Rattle.dex_script_types.specs.Firsts.{first_of}
-use Rattle.dex_replay.specs.Lawful.{AllThree, IsLawful, IsLawfulMarket, IsSight, rows_of_market}
+use Rattle.dex_script_types.proofs.Apart.{wallets-distinct}
 use Rattle.dex_replay.proofs.LastAccounts.{listing-in}
 use Rattle.dex_replay.proofs.Groups.{unfilter}
-use Rattle.dex_replay.proofs.MappedLists.{All-across}
+use Rattle.dex_replay.proofs.MappedLists.{All-across, three-weaker}
 use Rattle.dex_replay.specs.EntryCalls.{IsCallOf, TellsHistory, call_by, call_told, calls_told, is_row_on, with_call}
-use Rattle.dex_replay.proofs.Finding.{row-found, wallets-once}
+use Rattle.dex_replay.proofs.Finding.{row-found}
 use Rattle.dex_replay.proofs.SightTold.{sight-told}
 
 -- ---- one call
@@ -32,11 +18,10 @@ pub call-told : (script : PlainScript) → IsScript script → (row : PlainRow) 
 call-told script facts row m call is =
     let number : call.entry.row ≡ row.number =
     ap (λ (entry : Entry). entry.row) is.stands.entry ∙ ap (λ (asked : Asked). asked.number) is.asks in
-    let seen = sight-told script row call m (wallets-once script.start facts.start.accepted) is.asks is.sight is.stands in
+    let seen = sight-told script row call m (wallets-distinct script.start facts.start.accepted) is.asks is.sight is.stands in
     ap (λ (n : ℕ). first_of (is_row_on row.market n) (call_by script call.entry) script.rows) number
     ∙ row-found (call_by script call.entry) row script.rows facts.rows.legs is.row_is
-    ∙ ap (λ (one : Seen). Some (record (call_by script call.entry row) { seen = one })) seen
-    ∙ ap (λ (asked : Asked). Some (record call { asked = asked })) (sym is.asks)
+    ∙ (λ i. Some (record { asked = sym is.asks i; seen = seen i; entry = call.entry }))
 
 -- ---- a legal history
 
@@ -70,7 +55,7 @@ calls-told script facts m (call ∷ calls) legal asked sees =
 
 -- ---- a lawful market
 
-module _ (script : PlainScript) (first last : PlainMarketAccounts) (journal : PlainMarketJournal) (lawful : IsLawfulMarket script first last journal) where
+module _ (script : PlainScript) (facts : IsScript script) (first last : PlainMarketAccounts) (journal : PlainMarketJournal) (lawful : IsLawfulMarket script first last journal) where
   abbrev Asks : PlainRow → Type 0
   Asks row = IsAskedIn script.rows (asked_of row)
 
@@ -89,36 +74,18 @@ module _ (script : PlainScript) (first last : PlainMarketAccounts) (journal : Pl
       (All-filter (λ (row : PlainRow). is_same row.market first.address) Asks script.rows each-asks)))
       k d within (eq-eqb lane lane refl)
 
-  of-lawful : IsScript script → calls_told script first.address journal.entries ≡ Some lawful.calls
-  of-lawful facts =
+  pub lawful-told : calls_told script first.address journal.entries ≡ Some lawful.calls
+  lawful-told =
       ap (calls_told script first.address) lawful.entries
       ∙ ap (λ (listing : Listing). calls_told script listing.address (map (λ (call : Call). call.entry) lawful.calls)) (sym (listing-in first))
       ∙ calls-told script facts (market_in first) lawful.calls lawful.legal all-asked lawful.sees
 
-pub lawful-told : (script : PlainScript) → IsScript script → (first last : PlainMarketAccounts) (journal : PlainMarketJournal)
-    → (lawful : IsLawfulMarket script first last journal) → calls_told script first.address journal.entries ≡ Some lawful.calls
-lawful-told script facts first last journal lawful = of-lawful script first last journal lawful facts
-
-pub history-told : (script : PlainScript) → IsScript script → (first last : PlainMarketAccounts) (journal : PlainMarketJournal)
-    → IsLawfulMarket script first last journal → TellsHistory script first last journal
-history-told script facts first last journal lawful = record {
-  calls = lawful.calls;
-  told = lawful-told script facts first last journal lawful;
-  entries = sym lawful.entries;
-  legal = lawful.legal;
-  stands = lawful.stands;
-}
+  pub history-told : TellsHistory script first last journal
+  history-told = record { calls = lawful.calls; told = lawful-told; entries = sym lawful.entries; legal = lawful.legal; stands = lawful.stands }
 
 -- ---- an outcome
-
-all-told : (script : PlainScript) → IsScript script → (starts lasts : List PlainMarketAccounts) (journals : List PlainMarketJournal)
-    → AllThree (IsLawfulMarket script) starts lasts journals → AllThree (TellsHistory script) starts lasts journals
-all-told script facts [] [] [] all = tt
-all-told script facts (first ∷ starts) (last ∷ lasts) (journal ∷ journals) all =
-    (history-told script facts first last journal all.0, all-told script facts starts lasts journals all.1)
-all-told script facts _ _ _ all = absurd all
 
 pub outcome-told : (script : PlainScript) → IsScript script → (outcome : PlainOutcome) → IsLawful script outcome
     → AllThree (TellsHistory script) script.start.markets outcome.accounts.markets outcome.markets
 outcome-told script facts outcome lawful =
-    all-told script facts script.start.markets outcome.accounts.markets outcome.markets lawful.markets
+    three-weaker (IsLawfulMarket script) (TellsHistory script) (history-told script facts) script.start.markets outcome.accounts.markets outcome.markets lawful.markets

@@ -1,8 +1,7 @@
 -- No journal is longer than there are rows that name its market or its wallet: it has one entry of each of them.
 use Rattle.std.proofs.Common.{◌≡◌, ◌≤◌, Bool, List, length, map, sym, ap, ◌∙◌, subst, arith}
 use Rattle.dex_world.proofs.Common.{Address, Asked, Call, Entry, MarketState, PlainAccount, PlainMarketAccounts, PlainRow, Reply, WalletState, World, filter, is_same, length-map, names}
-use Rattle.dex_replay.proofs.Common.{Origin, PlainScript, origin_of_entry, rows_naming, rows_on}
-use Rattle.std.specs.List.{All, count_by}
+use Rattle.dex_replay.proofs.Common.{All, Origin, PlainScript, count_by, origin_of_entry, rows_naming, rows_on}
 use Rattle.std.proofs.lemmas.List.Sums.{length-filter}
 use Rattle.dex_replay.proofs.Items.{row_told}
 use Rattle.dex_replay.proofs.MappedLists.{All-second, length-filter_map}

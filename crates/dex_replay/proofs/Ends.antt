@@ -1,10 +1,7 @@
 -- What cells leave at the end is what items leave that made their world.
-use Rattle.std.proofs.Common.{◌≡◌, ℕ, List, [], ◌∷◌, map, refl, sym, ap, ◌∙◌, subst}
+use Rattle.std.proofs.Common.{◌≡◌, List, [], ◌∷◌, map, refl, sym, ap, ◌∙◌, subst}
 use Rattle.dex_world.proofs.Common.{All-head, All-tail, AllZip, MarketState, PlainAccount, PlainMarketAccounts, WalletState, World}
-use Rattle.dex_replay.proofs.Common.{AreAccepted, AreCells, CellState, CellsState, IsLeftBy, IsWalletCell, MarketCellState, PlainMarketJournal, PlainScript, PlainWalletJournal, StandsFor, account_in, address_of, balance_of, closed, market_journal_in, market_state_of, wallet_journal_in, wallet_state_of, with_amount, with_amounts, world_after, world_of}
-use Rattle.std.specs.List.{All}
-use Rattle.dex_cell.specs.CellState.{AreOfOneMarket}
-use Rattle.dex_world.specs.Items.{Item}
+use Rattle.dex_replay.proofs.Common.{All, AreAccepted, AreCells, AreOfOneMarket, CellState, CellsState, IsLeftBy, IsWalletCell, Item, MarketCellState, PlainMarketJournal, PlainScript, PlainWalletJournal, StandsFor, account_in, address_of, balance_of, closed, market_journal_in, market_state_of, wallet_journal_in, wallet_state_of, with_amounts, world_after, world_of}
 use Rattle.dex_replay.specs.Replays.{IsOfStart}
 use Rattle.dex_replay.proofs.LastAccounts.{last-accepted}
 use Rattle.dex_replay.proofs.MappedLists.{AllZip-maps, map-map}
@@ -14,9 +11,7 @@ use Rattle.dex_replay.proofs.Starts.{AreOfScript, its-address, market-addresses,
 amounts-of : (cells : List CellState) → All IsWalletCell cells → map account_in cells ≡ with_amounts (map start_account cells) (map wallet_state_of cells)
 amounts-of [] kept = refl
 amounts-of (cell ∷ cells) kept =
-    let last : PlainAccount = record { address = cell.address; bytes = with_amount cell.start (balance_of cell.bytes) } in
-    ap (λ (bytes : List ℕ). record { address = cell.address; bytes = bytes } ∷ map account_in cells) (All-head IsWalletCell cell cells kept).others
-    ∙ ap (λ (accounts : List PlainAccount). last ∷ accounts) (amounts-of cells (All-tail IsWalletCell cell cells kept))
+    λ i. record { address = cell.address; bytes = (All-head IsWalletCell cell cells kept).others i } ∷ amounts-of cells (All-tail IsWalletCell cell cells kept) i
 
 module _ (script : PlainScript) (cells : CellsState) (own : AreOfScript script cells) (kept : AreCells cells) where
   pub of-start : IsOfStart script (closed cells)

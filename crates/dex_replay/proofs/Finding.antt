@@ -1,19 +1,19 @@
 -- The row of a number on a market and the wallet of an address are found, where none stands twice.
-use Rattle.std.proofs.Common.{◌≡◌, ℕ, zero, suc, ◌<◌, ◌≤◌, ◌==◌, ◌&&◌, ⊎_elim, inl, inr, Bool, true, false, List, [], ◌∷◌, ◌++◌, length, get_or, map, Some, refl, sym, ap, ◌∙◌, subst, arith}
-use Rattle.std.specs.List.{AllPairs, Contains, flat_map}
-use Rattle.std.proofs.lemmas.Bool.{cases_Bool, cond-false, cond-true, eq-eqb, eqb-true}
-use Rattle.dex_types.specs.declared.addresses.Address.{Address}
-use Rattle.dex_types.specs.Accounts.{PlainAccount, PlainAccounts}
-use Rattle.dex_types.specs.Addresses.{is_same}
-use Rattle.dex_types.specs.Rows.{PlainRow}
-use Rattle.dex_laws.proofs.TraderLaws.{is_same-refl}
-use Rattle.dex_state.specs.Addresses.{address_of, all_of_market, times}
-use Rattle.dex_types.specs.declared.limits.Limits.{Limits}
-use Rattle.dex_state.specs.Accepted.{AreAccepted}
-use Rattle.dex_state.proofs.Times.{times-append, times-cons}
-use Rattle.dex_script_types.specs.Facts.{AreLegs}
-use Rattle.dex_script_types.specs.Firsts.{first_of}
+use Rattle.std.proofs.Common.{◌≡◌, ℕ, zero, suc, ◌<◌, ◌==◌, ◌&&◌, ⊎_elim, Bool, true, false, List, [], ◌∷◌, length, get_or, map, Some, refl, sym, ap, ◌∙◌, subst, arith, ap₂}
+use Rattle.dex_world.proofs.Common.{Address, AllPairs, Contains, PlainAccount, PlainRow, cases_Bool, cond-false, cond-true, eq-eqb, eqb-true, get_or-map, is_same, is_same-refl, is_same-sym, length-map}
+use Rattle.dex_replay.proofs.Common.{AreLegs, address_of, first_of}
+use Rattle.dex_script_types.proofs.Apart.{AreDistinct}
 use Rattle.dex_replay.specs.EntryCalls.{is_row_on}
+
+-- what is told of the first that passes a test
+found-at : {A Y : Type 0} (test : A → Bool) (told : A → Y) (x : A) → test x ≡ true → (xs : List A) (k : ℕ) → k < length xs → get_or xs k x ≡ x
+    → ((j : ℕ) → j < k → test (get_or xs j x) ≡ false) → first_of test told xs ≡ Some (told x)
+found-at test told x is [] k within here before = absurd (omega (arith, within))
+found-at test told x is (first ∷ others) zero within here before =
+    cond-true (test first) (Some (told first)) (first_of test told others) (ap test here ∙ is) ∙ ap (λ one. Some (told one)) here
+found-at test told x is (first ∷ others) (suc k) within here before =
+    cond-false (test first) (Some (told first)) (first_of test told others) (before 0 (omega arith))
+    ∙ found-at test told x is others k (omega (arith, within)) here (λ j less. before (suc j) (omega (arith, less)))
 
 -- ---- a row
 
@@ -37,64 +37,21 @@ module _ {Y : Type 0} (told : PlainRow → Y) (row : PlainRow) where
   itself =
       ap (λ (b : Bool). b && is_same row.market row.market) (eq-eqb row.number row.number refl) ∙ is_same-refl row.market
 
-  abbrev row_found : List PlainRow → Type 0
-  row_found rows = first_of is_it told rows ≡ Some (told row)
-
-  pub row-found : (rows : List PlainRow) → AllPairs MayBeLegs rows → Contains rows row → row_found rows
-  row-found rows legs here = at rows legs here.0 here.1 here.2
-    where
-      at : (some : List PlainRow) → AllPairs MayBeLegs some → (k : ℕ) → k < length some → get_or some k row ≡ row → row_found some
-      at [] legs k within is = absurd (omega (arith, within))
-      at (first ∷ others) legs zero within is =
-          cond-true (is_it first) (Some (told first)) (first_of is_it told others) (ap is_it is ∙ itself) ∙ ap (λ (one : PlainRow). Some (told one)) is
-      at (first ∷ others) legs (suc k) within is =
-          cond-false (is_it first) (Some (told first)) (first_of is_it told others)
-          (another first (subst (MayBeLegs first) is (legs 0 (suc k) row (omega arith) within)))
-          ∙ at others (λ i j d before end. legs (suc i) (suc j) d (omega (arith, before)) (omega (arith, end))) k (omega (arith, within)) is
+  pub row-found : (rows : List PlainRow) → AllPairs MayBeLegs rows → Contains rows row → first_of is_it told rows ≡ Some (told row)
+  row-found rows legs here =
+      found-at is_it told row itself rows here.0 here.1 here.2
+      (λ j before. another (get_or rows j row) (subst (MayBeLegs (get_or rows j row)) here.2 (legs j here.0 row before here.1)))
 
 -- ---- a wallet
 
--- of accepted accounts no address is that of two wallets
-pub wallets-once : {limits : Limits} (accounts : PlainAccounts) → AreAccepted limits accounts → (address : Address) → times address (map address_of accounts.wallets) ≤ 1
-wallets-once accounts accepted address =
-    omega (
-      arith,
-      accepted.once address,
-      times-append address (map address_of accounts.mints) (map address_of accounts.wallets ++ flat_map all_of_market accounts.markets),
-      times-append address (map address_of accounts.wallets) (flat_map all_of_market accounts.markets),
-    )
-
--- a wallet that is there is counted
-times-there : (wallet : PlainAccount) (wallets : List PlainAccount) (k : ℕ) → k < length wallets → get_or wallets k wallet ≡ wallet
-    → 1 ≤ times wallet.address (map address_of wallets)
-times-there wallet [] k within is = absurd (omega (arith, within))
-times-there wallet (first ∷ wallets) zero within is =
-    let same : is_same wallet.address first.address ≡ true =
-    subst (λ (one : PlainAccount). is_same wallet.address one.address ≡ true) (sym is) (is_same-refl wallet.address) in
-    omega (arith, times-cons wallet.address first.address (map address_of wallets), cond-true {A = ℕ} (is_same wallet.address first.address) 1 0 same)
-times-there wallet (first ∷ wallets) (suc k) within is =
-    omega (arith, times-cons wallet.address first.address (map address_of wallets), times-there wallet wallets k (omega (arith, within)) is)
-
 module _ {Y : Type 0} (told : PlainAccount → Y) (wallet : PlainAccount) where
-  abbrev wallet_found : List PlainAccount → Type 0
-  wallet_found wallets = first_of (λ (one : PlainAccount). is_same wallet.address one.address) told wallets ≡ Some (told wallet)
-
-  pub wallet-found : (wallets : List PlainAccount) → times wallet.address (map address_of wallets) ≤ 1 → Contains wallets wallet → wallet_found wallets
-  wallet-found wallets once here = at wallets once here.0 here.1 here.2
-    where
-      at : (some : List PlainAccount) → times wallet.address (map address_of some) ≤ 1 → (k : ℕ) → k < length some → get_or some k wallet ≡ wallet
-          → wallet_found some
-      at [] once k within is = absurd (omega (arith, within))
-      at (first ∷ others) once zero within is =
-          cond-true (is_same wallet.address first.address) (Some (told first)) (first_of (λ (one : PlainAccount). is_same wallet.address one.address) told others)
-          (subst (λ (one : PlainAccount). is_same wallet.address one.address ≡ true) (sym is) (is_same-refl wallet.address))
-          ∙ ap (λ (one : PlainAccount). Some (told one)) is
-      at (first ∷ others) once (suc k) within is =
-          let count = times-cons wallet.address first.address (map address_of others) in
-          let later : 1 ≤ times wallet.address (map address_of others) = times-there wallet others k (omega (arith, within)) is in
-          let apart : is_same wallet.address first.address ≡ false = elim (cases_Bool (is_same wallet.address first.address)) [
-            | inl same ↦ absurd (omega (arith, once, count, later, cond-true {A = ℕ} (is_same wallet.address first.address) 1 0 same))
-            | inr apart ↦ apart
-          ] in
-          cond-false (is_same wallet.address first.address) (Some (told first)) (first_of (λ (one : PlainAccount). is_same wallet.address one.address) told others) apart
-          ∙ at others (omega (arith, once, count)) k (omega (arith, within)) is
+  pub wallet-found : (wallets : List PlainAccount) → AreDistinct (map address_of wallets) → Contains wallets wallet
+      → first_of (λ (one : PlainAccount). is_same wallet.address one.address) told wallets ≡ Some (told wallet)
+  wallet-found wallets distinct here =
+      let address : Address = wallet.address in
+      found-at (λ (one : PlainAccount). is_same address one.address) told wallet (is_same-refl address) wallets here.0 here.1 here.2
+      (λ j before.
+      is_same-sym address (get_or wallets j wallet).address
+      ∙ ap₂ is_same (sym (get_or-map address_of wallets j wallet address (omega (arith, before, here.1))))
+      (sym (get_or-map address_of wallets here.0 wallet address here.1 ∙ ap address_of here.2))
+      ∙ distinct j here.0 address before (omega (arith, here.1, length-map wallets address_of)))

@@ -1,17 +1,15 @@
 -- What all wallets and vaults of a world hold of a mint, and that a row keeps it: what it takes from wallets enters
 -- vaults of their mint, and what it brings to them leaves these.
 use Rattle.std.proofs.Common.{ℕ, ◌+◌, ◌≡◌, ◌⊎◌, Bool, true, false, ◌||◌, cond, get_or, nat_lt, List, [], ◌∷◌, map, Option, Some, None, refl, sym, ap, ◌∙◌, arith, ⊎_elim}
+use Rattle.dex_replay.proofs.Common.{All, market_at, times}
 use Rattle.dex_world.proofs.Common.{Address, All-head, All-tail, CanMove, IsSound, Listing, Market, MarketState, Movement, PlainRow, Seen, Step, Transfers, WalletSeen, WalletState, World, asked_of, balance_seen, brought_to, cases_Bool, cond-false, cond-true, cond_both, is_role, is_same, is_same-refl, is_same-sym, is_same-true, ltb-false, market_acted, markets_acted, moved_balance, movement_by, movement_of, names, names-roles, or_parts, request_of, role_at, row_step, seen_by, step-keeps, taken_from, total, wallet_acted, wallet_at}
-use Rattle.std.specs.List.{All}
 use Rattle.dex_types.specs.Wallets.{amount_at}
 use Rattle.dex_laws.proofs.TotalLaws.{total-agree, total-none, total-plus}
 use Rattle.dex_sound.specs.Kept.{KeepsMarket}
 use Rattle.dex_history.proofs.BalanceLaws.{ArePaid, amount-le}
 use Rattle.dex_history.proofs.MintLaws.{AreOfMints, IsOfMint}
 use Rattle.dex_history.proofs.StepConserves.{row-paid}
-use Rattle.dex_state.specs.Addresses.{times}
 use Rattle.dex_state.proofs.Times.{one, times-cons}
-use Rattle.dex_world.specs.World.{market_at}
 use Rattle.dex_replay.proofs.Sights.{AreOnce, address_in, found-address}
 
 -- what a market's vaults hold of a mint

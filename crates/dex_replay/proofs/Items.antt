@@ -1,16 +1,13 @@
 -- Items that act one after the other leave a run of their rows, of which those of one item all acted, or none did.
 use Rattle.std.proofs.Common.{◌≡◌, ℕ, ◌&&◌, ◌||◌, not, Bool, true, false, cond, List, [], ◌∷◌, ◌++◌, get_or, map, Option, Some, None, Result, Ok, Err, is_some, refl, sym, ap, ◌∙◌, subst}
 use Rattle.dex_world.proofs.Common.{All-cons, All-head, All-nil, All-tail, All-weaker, BadData, Contains, Contains-append_left, EachApart, EachTwo, Ix, Market, PlainRow, Refusal, Seen, ShareNothing, Step, World, act, act_item, asked_of, chosen, decoded, false≢true, flat_map, fold, fold_items, idle-step, idle_row, is_done, is_refusal, is_take, list_any, map-id, members, nothing_to_do, request_of, row_step, seen_by, step-refused, why, why-far, why_in, why_on}
-use Rattle.dex_replay.proofs.Common.{AreLegs, IsRowOf, IsStart, PlainScript}
-use Rattle.std.specs.List.{All}
+use Rattle.dex_replay.proofs.Common.{All, AreLegs, IsLeg, IsRowOf, IsStart, Item, PlainScript, held_in}
 use Rattle.std.proofs.lemmas.List.{append-nil, append_assoc, map-append}
 use Rattle.std.proofs.lemmas.List.Elements.{All-contains_itself, Contains-append_right}
 use Rattle.dex_types.specs.Requests.{Request}
 use Rattle.dex_types.specs.Why.{why_decoded}
 use Rattle.dex_history.specs.Journal.{is_take_or_bad}
 use Rattle.dex_history.proofs.HeldLaws.{take-tells}
-use Rattle.dex_world.specs.Items.{Item, held_in}
-use Rattle.dex_script_types.specs.Facts.{IsLeg}
 use Rattle.dex_replay.proofs.MappedLists.{list_any-agree, list_any-map, map-agree}
 use Rattle.dex_replay.proofs.Orders.{IsItemIn, legs-apart}
 use Rattle.dex_replay.proofs.Doing.{Does, does-nothing, does-own, doing}

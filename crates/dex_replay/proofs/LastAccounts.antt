@@ -2,13 +2,12 @@
 use Rattle.std.proofs.Common.{◌≡◌, ℕ, ◌≤◌, List, [], ◌∷◌, ◌++◌, length, map, get_or, Option, Some, None, refl, sym, ap, ◌∙◌, subst, arith}
 use Rattle.dex_world.proofs.Common.{Address, All-map, Call, Listing, Market, PlainAccount, PlainAccounts, PlainMarketAccounts, acted_of, flat_map, flat_map-map, is_same, length-map, list_any, market_after, step-keeps, step_of}
 use Rattle.dex_state.specs.Accepted.{HasFew}
-use Rattle.dex_replay.proofs.Common.{AreAccepted, AreCells, CellState, CellsState, IsAccepted, IsMarketCell, IsWallet, IsWalletCell, MarketCellState, PlainScript, WalletWords, account_in, address_of, addresses_of, all_of_market, balance_of, closed, market_words, wallet_words, wallet_words-with_amount}
+use Rattle.dex_replay.proofs.Common.{All, AreAccepted, AreCells, CellState, CellsState, IsAccepted, IsMarketCell, IsWallet, IsWalletCell, MarketCellState, PlainScript, WalletWords, account_in, address_of, addresses_of, all_of_market, balance_of, closed, market_words, wallet_words, wallet_words-with_amount}
 use Rattle.dex_accounts.specs.Decoded.{market_in}
-use Rattle.std.specs.List.{All}
 use Rattle.std.specs.Option.{IfSome}
 use Rattle.dex_token.specs.MintAccount.{IsMint}
 use Rattle.dex_accounts.specs.Decoded.{listing_in}
-use Rattle.dex_state.specs.Addresses.{market_addresses, times}
+use Rattle.dex_state.specs.Addresses.{times}
 use Rattle.dex_state.specs.Accepted.{AreApart, HasMints, IsMintOf}
 use Rattle.dex_replay.proofs.MappedLists.{All-unmap, flat_map-agree, map-map}
 use Rattle.dex_replay.proofs.Starts.{AreOfScript, start_account, wallet-addresses}
@@ -35,9 +34,7 @@ listed_parts listing = listing.coin_vault ∷ listing.pc_vault ∷ listing.reque
 
 all-of-market : (cell : MarketCellState) → IsMarketCell cell → all_of_market cell.accounts ≡ all_of_market cell.start
 all-of-market cell is =
-    ap (λ (address : Address). (address ∷ listed_parts (listing_in cell.accounts)) ++ map address_of cell.accounts.orders) is.one_market.address
-    ∙ ap (λ (listing : Listing). (cell.start.address ∷ listed_parts listing) ++ map address_of cell.accounts.orders) (listing-stays cell is)
-    ∙ ap (λ (addresses : List Address). market_addresses cell.start ++ addresses) is.one_market.orders
+    λ i. (is.one_market.address i ∷ listed_parts (listing-stays cell is i)) ++ is.one_market.orders i
 
 -- ---- of one wallet
 
@@ -79,9 +76,7 @@ module _ (script : PlainScript) (cells : CellsState) (own : AreOfScript script c
       (λ k d within. all-of-market (get_or cells.markets k d) (kept.markets k d within))
       ∙ sym (flat_map-map all_of_market (λ (cell : MarketCellState). cell.start) cells.markets)
       ∙ ap (λ (some : List PlainMarketAccounts). flat_map all_of_market some) own.markets in
-      ap (λ (first : List Address). first ++ (map address_of last.wallets ++ flat_map all_of_market last.markets)) mints
-      ∙ ap (λ (second : List Address). map address_of script.start.mints ++ (second ++ flat_map all_of_market last.markets)) wallets
-      ∙ ap (λ (third : List Address). map address_of script.start.mints ++ (map address_of script.start.wallets ++ third)) markets
+      λ i. mints i ++ (wallets i ++ markets i)
 
   few-orders : (cell : MarketCellState) → IsMarketCell cell → HasFew script.limits cell.start → HasFew script.limits cell.accounts
   few-orders cell is few =

@@ -1,10 +1,7 @@
 -- What a run of all rows of a script leaves is lawful.
 use Rattle.std.proofs.Common.{◌≡◌, ℕ, ◌==◌, Bool, true, List, [], ◌∷◌, get_or, map, sym, ap, ◌∙◌, subst}
 use Rattle.dex_world.proofs.Common.{Address, All-filter, All-weaker, AllZip, Call, Contains, EachTwo, Entry, MarketState, Movement, PlainAccount, PlainMarketAccounts, PlainRow, Reply, WalletEntry, WalletState, World, asked_of, filter, flat_map, is_same, members, names, rows_of_lane, wallet_entry_of}
-use Rattle.dex_replay.proofs.Common.{AllThree, IsAllOrNone, IsLawful, IsLawfulMarket, IsLawfulWallet, IsLeftBy, IsRowOf, IsScript, KeepsLanes, Origin, PlainMarketJournal, PlainOutcome, PlainScript, PlainWalletJournal, StandsFor, has_market, is_answered, origin_of_entry, origin_of_row, start_world, with_amount, with_amounts, world_after}
-use Rattle.std.specs.List.{All}
-use Rattle.dex_history.specs.Journal.{front}
-use Rattle.dex_world.specs.Items.{Item}
+use Rattle.dex_replay.proofs.Common.{All, AllThree, IsAllOrNone, IsLawful, IsLawfulMarket, IsLawfulWallet, IsLeftBy, IsRowOf, IsScript, Item, KeepsLanes, Origin, PlainMarketJournal, PlainOutcome, PlainScript, PlainWalletJournal, StandsFor, front, has_market, is_answered, origin_of_entry, origin_of_row, start_world, with_amount, with_amounts, world_after}
 use Rattle.dex_replay.specs.Lawful.{AreTold, IsTold}
 use Rattle.dex_replay.proofs.AllOrNone.{journal-says, settled-told, told-once}
 use Rattle.dex_replay.proofs.Items.{HaveAllRun, IsSettled, items-run, row_told}

@@ -19,7 +19,7 @@ mod Runs
 mod Sights
 pub mod Singles
 pub mod Starts
-mod OneReplay
+pub mod OneReplay
 mod CallsTold
 mod Finding
 pub mod SightTold

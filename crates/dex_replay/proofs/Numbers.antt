@@ -1,8 +1,7 @@
 -- Lawful journals have one entry for each row.
 use Rattle.std.proofs.Common.{◌≡◌, ◌==◌, ◌<◌, ◌≤◌, ℕ, Bool, true, List, [], ◌∷◌, get_or, map, refl, sym, ap, ◌∙◌, arith}
 use Rattle.dex_world.proofs.Common.{Address, All-filter, AllPairs, AllPairs-filter, Asked, Call, Entry, IsLegal, Market, PlainAccount, PlainMarketAccounts, PlainRow, WalletEntry, asked_of, false≢true, filter, filter_passes, is_same, is_same-true, names, step_of}
-use Rattle.dex_replay.proofs.Common.{AreLegs, AreRows, IsLawfulMarket, IsLawfulWallet, Origin, PlainMarketJournal, PlainScript, PlainWalletJournal, market_in, origin_of_entry, origin_of_row, rows_of_market, rows_of_wallet}
-use Rattle.std.specs.List.{All}
+use Rattle.dex_replay.proofs.Common.{All, AreLegs, AreRows, IsLawfulMarket, IsLawfulWallet, Origin, PlainMarketJournal, PlainScript, PlainWalletJournal, market_in, origin_of_entry, origin_of_row, rows_of_market, rows_of_wallet}
 use Rattle.dex_replay.proofs.MappedLists.{filter-across, filter-of, map-map}
 
 -- the lane and the number of a call, as its entry and as its row have them
@@ -15,9 +14,7 @@ asked_sign call = (call.asked.lane, call.asked.number)
 -- are the same in a legal history
 signs : (calls : List Call) (m : Market) → IsLegal m calls → map entry_sign calls ≡ map asked_sign calls
 signs [] m legal = refl
-signs (call ∷ calls) m legal =
-    ap (λ (entry : Entry). (entry.lane, entry.row) ∷ map entry_sign calls) legal.0.entry
-    ∙ ap (λ (rest : List (ℕ × ℕ)). asked_sign call ∷ rest) (signs calls (step_of call m).market legal.1)
+signs (call ∷ calls) m legal = λ i. ((legal.0.entry i).lane, (legal.0.entry i).row) ∷ signs calls (step_of call m).market legal.1 i
 
 pub market-numbers : (script : PlainScript) (first last : PlainMarketAccounts) (journal : PlainMarketJournal) (lane : ℕ)
     → IsLawfulMarket script first last journal

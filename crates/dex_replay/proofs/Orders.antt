@@ -1,9 +1,7 @@
 -- Orders of a script's items that keep each lane: whose rows they are, and that no market has two of one number.
-use Rattle.std.proofs.Common.{◌≡◌, ℕ, ◌≤◌, true, false, eqb, List, [], ◌∷◌, ◌++◌, get_or, refl, sym, ap, ◌∙◌, subst, ⊎_elim}
-use Rattle.dex_world.proofs.Common.{All-filter, All-head, All-tail, All-weaker, EachApart, EachTwo, PlainRow, ShareNothing, cases_Bool, cond-false, cond-true, eq-eqb, eqb-true, filter-append, filter_passes, flat_map, grouped-flat, is_same, items_of_lane, members, rows_of_lane}
-use Rattle.dex_replay.proofs.Common.{AreLegs, AreRows, IsRowOf, KeepsLanes, PlainScript}
-use Rattle.std.specs.List.{All}
-use Rattle.dex_world.specs.Items.{Item, items_of}
+use Rattle.std.proofs.Common.{◌≡◌, ℕ, ◌≤◌, true, false, eqb, List, [], ◌∷◌, ◌++◌, get_or, refl, sym, ap, ◌∙◌, subst}
+use Rattle.dex_world.proofs.Common.{All-filter, All-head, All-tail, All-weaker, EachApart, EachTwo, PlainRow, ShareNothing, cond_both, eq-eqb, eqb-true, filter-append, filter_passes, flat_map, grouped-flat, is_same, items_of_lane, members, rows_of_lane}
+use Rattle.dex_replay.proofs.Common.{All, AreLegs, AreRows, IsRowOf, Item, KeepsLanes, PlainScript, items_of}
 use Rattle.dex_replay.proofs.Groups.{each-two, each-two-filter, each-two-weaker, each-with-each, filter-all, filter-none, grouped-each, grouped-filter, grouped-number, grouped-two, pairs-of-class, unfilter}
 
 abbrev number_of : PlainRow → ℕ
@@ -97,18 +95,14 @@ lane-rows (item ∷ order) own lane =
     let rest : List PlainRow = flat_map members (items_of_lane lane order) in
     filter-append in_lane (members item) (flat_map members order)
     ∙ ap (λ (some : List PlainRow). rows_of_lane lane (members item) ++ some) (lane-rows order (All-tail Own item order own) lane)
-    ∙ ⊎_elim
-    (λ (yes : eqb item.first.lane lane ≡ true).
-    ap (λ (some : List PlainRow). some ++ rest)
+    ∙ cond_both (eqb item.first.lane lane) (item ∷ items_of_lane lane order) (items_of_lane lane order)
+    (λ (some : List Item). rows_of_lane lane (members item) ++ rest ≡ flat_map members some)
+    (λ yes. ap (λ (some : List PlainRow). some ++ rest)
     (filter-all in_lane (members item) (All-weaker (λ (row : PlainRow). row.lane ≡ item.first.lane) (λ (row : PlainRow). in_lane row ≡ true)
-    (λ row is. ap (λ (n : ℕ). eqb n lane) is ∙ yes) (members item) here))
-    ∙ sym (ap (flat_map members) (cond-true (eqb item.first.lane lane) (item ∷ items_of_lane lane order) (items_of_lane lane order) yes)))
-    (λ (no : eqb item.first.lane lane ≡ false).
-    ap (λ (some : List PlainRow). some ++ rest)
+    (λ row is. ap (λ (n : ℕ). eqb n lane) is ∙ yes) (members item) here)))
+    (λ no. ap (λ (some : List PlainRow). some ++ rest)
     (filter-none in_lane (members item) (All-weaker (λ (row : PlainRow). row.lane ≡ item.first.lane) (λ (row : PlainRow). in_lane row ≡ false)
-    (λ row is. ap (λ (n : ℕ). eqb n lane) is ∙ no) (members item) here))
-    ∙ sym (ap (flat_map members) (cond-false (eqb item.first.lane lane) (item ∷ items_of_lane lane order) (items_of_lane lane order) no)))
-    (cases_Bool (eqb item.first.lane lane))
+    (λ row is. ap (λ (n : ℕ). eqb n lane) is ∙ no) (members item) here)))
 
 -- two rows of one number are not on one market
 abbrev pub OnApart : PlainRow → PlainRow → Type 0

@@ -1,8 +1,7 @@
 -- Each row of a script finds the cells that it names, with room for one entry more.
 use Rattle.std.proofs.Common.{◌≡◌, ℕ, ◌+◌, ◌≤◌, Bool, true, cond, List, ◌∷◌, ◌++◌, length, map, get_or, sym, ap, ◌∙◌, subst, arith}
 use Rattle.dex_world.proofs.Common.{Address, Call, Listing, PlainMarketAccounts, PlainRow, is_same, length-map, list_any, names, row_wallets, sum_by-append, sum_by-cons}
-use Rattle.dex_replay.proofs.Common.{CanAct, CellState, CellsState, IsRowOf, MarketCellState, PlainScript, address_of, has_account, is_among, is_market, market_state_of, rows_naming, rows_on, wallet_state_of, world_of}
-use Rattle.std.specs.List.{All, count_by}
+use Rattle.dex_replay.proofs.Common.{All, CanAct, CellState, CellsState, IsRowOf, MarketCellState, PlainScript, address_of, count_by, has_account, is_among, is_market, market_state_of, rows_naming, rows_on, wallet_state_of, world_of}
 use Rattle.dex_cell.specs.CellState as market
 use Rattle.dex_wallet.specs.CellState as wallet
 use Rattle.dex_act.proofs.CellLists.{is_among-any}

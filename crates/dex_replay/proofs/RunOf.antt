@@ -2,13 +2,11 @@
 -- mint conserved.
 use Rattle.std.proofs.Common.{◌≡◌, ℕ, ◌+◌, cond, List, [], ◌∷◌, map, refl, sym, ap, ◌∙◌, subst, arith}
 use Rattle.dex_world.proofs.Common.{Address, All-cons, All-head, All-nil, All-tail, All-weaker, AllZip, MarketState, PlainAccount, PlainMarketAccounts, WalletState, World, is_same, total}
-use Rattle.dex_replay.proofs.Common.{AreCells, AreSound, CellsState, IsAccepted, IsLeftBy, IsOneOrder, IsReplayOf, IsRunOf, IsScript, KeepsLanes, PlainOutcome, PlainScript, StandsFor, WalletWords, balance_of, closed, market_state, market_words, opened, opened_of, wallet_state, wallet_words, wallet_words-with_amount, with_amount, with_amounts, world_after, world_of}
+use Rattle.dex_replay.proofs.Common.{All, AreCells, AreSound, CellsState, IsAccepted, IsLeftBy, IsOneOrder, IsReplayOf, IsRunOf, IsScript, Item, KeepsLanes, PlainOutcome, PlainScript, StandsFor, WalletWords, balance_of, closed, items_of, market_state, opened, opened_of, wallet_state, wallet_words, wallet_words-with_amount, with_amount, with_amounts, world_after, world_of}
 use Rattle.dex_accounts.specs.Decoded.{market_in}
-use Rattle.std.specs.List.{All}
 use Rattle.dex_accounts.proofs.Decoded.{AreSound-of}
 use Rattle.dex_accounts.proofs.Decoded as decoded
 use Rattle.dex_state.specs.Conserved.{IsConserved, amount_of, held_of, in_vaults, in_wallets}
-use Rattle.dex_world.specs.Items.{Item, items_of}
 use Rattle.dex_replay.proofs.Ends.{is-left}
 use Rattle.dex_replay.proofs.Holdings.{in_market, in_wallet}
 use Rattle.dex_replay.proofs.Lawfulness.{is-lawful, order-run, told}
@@ -27,9 +25,7 @@ in_accounts mint accounts = amount_of mint accounts.coin_vault + amount_of mint 
 accounts-hold : (mint : Address) (accounts : PlainMarketAccounts) → IsAccepted accounts → in_accounts mint accounts ≡ in_market mint (market_in accounts)
 unfolding market_in
 accounts-hold mint accounts is =
-    ap (λ (a : Address). cond (is_same mint a) (wallet_words accounts.coin_vault).amount 0 + amount_of mint accounts.pc_vault) is.coin_mint
-    ∙ ap (λ (a : Address). cond (is_same mint (market_words accounts.market).terms.coin_mint) (wallet_words accounts.coin_vault).amount 0
-    + cond (is_same mint a) (wallet_words accounts.pc_vault).amount 0) is.pc_mint
+    λ i. cond (is_same mint (is.coin_mint i)) (wallet_words accounts.coin_vault).amount 0 + cond (is_same mint (is.pc_mint i)) (wallet_words accounts.pc_vault).amount 0
 
 module _ (mint : Address) where
   -- markets for which accounts stand

@@ -1,17 +1,13 @@
 -- One row more leaves a run of rows with that row.
-use Rattle.std.proofs.Common.{◌≡◌, ℕ, ◌≤◌, ⊎_elim, Bool, true, false, ◌||◌, cond, List, [], ◌∷◌, ◌++◌, map, get_or, Option, Some, refl, sym, ap, ◌∙◌, subst, arith}
-use Rattle.dex_world.proofs.Common.{Address, All-cons, All-head, All-map, All-nil, All-push, All-tail, All-weaker, AllZip, Asked, Call, CanMove, Contains, Contains-append_left, Entry, IsSound, Listing, Market, MarketState, Movement, PlainAccount, PlainMarketAccounts, PlainRow, Reply, Seen, Sees, Stands, Step, Transfers, WalletEntry, WalletState, World, act, acted, asked_of, balance_after-append, balance_seen, brought_to, cases_Bool, cond-false, cond-true, cond_both, done, entry_by, false≢true, is_same, is_same-refl, is_same-true, list_any, list_any_at, map_push, market_acted, market_after, market_after-one, markets_acted, moved_balance, movement_of, names, places-movements, request_of, row_step, row_wallets, seen-wallets, seen_by, seen_wallets, step-keeps, sum_by-cons, taken_from, wallet-movement_by, wallet_acted, wallet_entry_by, wallet_entry_of, wallet_moved}
-use Rattle.dex_replay.proofs.Common.{AreSound, IsRowOf, IsSight, IsStart, Origin, PlainScript, address_of, balance_of, has_market, market_in, market_state, origin_of_entry, origin_of_row, start_world, wallet_state}
-use Rattle.std.specs.List.{All}
+use Rattle.std.proofs.Common.{◌≡◌, ℕ, ◌≤◌, Bool, true, false, ◌||◌, cond, List, [], ◌∷◌, ◌++◌, map, get_or, Option, Some, refl, sym, ap, ◌∙◌, subst, arith}
+use Rattle.dex_world.proofs.Common.{Address, All-cons, All-head, All-map, All-nil, All-push, All-tail, All-weaker, AllZip, Asked, Call, CanMove, Contains, Contains-append_left, Entry, IsSound, Listing, Market, MarketState, Movement, PlainAccount, PlainMarketAccounts, PlainRow, Reply, Seen, Sees, Stands, Step, Transfers, WalletEntry, WalletState, World, act, acted, asked_of, balance_after-append, balance_seen, brought_to, cond-false, cond-true, cond_both, done, entry_by, false≢true, is_same, is_same-refl, is_same-true, list_any, list_any_at, map_push, market_acted, market_after, market_after-one, markets_acted, moved_balance, movement_of, names, places-movements, request_of, row_step, row_wallets, seen-wallets, seen_by, seen_wallets, step-keeps, sum_by-cons, taken_from, wallet-movement_by, wallet_acted, wallet_entry_by, wallet_entry_of, wallet_moved}
+use Rattle.dex_replay.proofs.Common.{All, AreSound, IsRowOf, IsSight, IsStart, Origin, PlainScript, address_of, balance_of, front, has_market, market_at, market_in, market_state, origin_of_entry, origin_of_row, start_world, times, wallet_state}
 use Rattle.std.proofs.lemmas.List.Elements.{Contains-push}
 use Rattle.std.proofs.lemmas.List.Folds.{Any-from_list_any}
-use Rattle.dex_history.specs.Journal.{front}
 use Rattle.dex_history.proofs.HistoryLaws.{IsLegal-one, IsWalletLegal-one}
 use Rattle.dex_history.proofs.PriceLaws.{calls-sound}
 use Rattle.dex_history.proofs.StepMints.{row-of}
 use Rattle.dex_history.proofs.StepMoves.{row-moves}
-use Rattle.dex_state.specs.Addresses.{times}
-use Rattle.dex_world.specs.World.{market_at}
 use Rattle.dex_replay.proofs.LastAccounts.{listing-in, market_after-listing}
 use Rattle.dex_replay.proofs.MappedLists.{Any-map, filter-push_no, filter-push_yes, zip-map}
 use Rattle.dex_replay.proofs.Holdings.{CanMoveIt, markets-hold, wallets-hold}
@@ -39,21 +35,17 @@ market-there : (script : PlainScript) (done : List RowReply) (address : Address)
     → list_any (λ (state : MarketState). is_same address state.market.listing.address) states ≡ has_market address firsts
 market-there script done address [] [] are = refl
 market-there script done address (first ∷ firsts) (state ∷ states) are =
-    ap (λ (a : Address). is_same address a || list_any (λ (one : MarketState). is_same address one.market.listing.address) states) (history-address script done first state are.0)
-    ∙ ap (λ (b : Bool). is_same address first.address || b) (market-there script done address firsts states are.1)
+    λ i. is_same address (history-address script done first state are.0 i) || market-there script done address firsts states are.1 i
 market-there script done address _ _ are = absurd are
 
 found : (address : Address) (states : List MarketState) → list_any (λ (state : MarketState). is_same address state.market.listing.address) states ≡ true
     → (m : Market) × (market_at address states ≡ Some m)
 found address [] known = absurd (false≢true known)
-found address (state ∷ states) known = either (is_same address state.market.listing.address) refl (found address states)
-  where
-    either : (b : Bool) → is_same address state.market.listing.address ≡ b
-        → (list_any (λ (one : MarketState). is_same address one.market.listing.address) states ≡ true → (m : Market) × (market_at address states ≡ Some m)) → (m : Market) × (market_at address (state ∷ states) ≡ Some m)
-    either true same later = (state.market, cond-true (is_same address state.market.listing.address) (Some state.market) (market_at address states) same)
-    either false apart later =
-        let rest : (m : Market) × (market_at address states ≡ Some m) = later (sym (ap (λ (b : Bool). b || list_any (λ (one : MarketState). is_same address one.market.listing.address) states) apart) ∙ known) in
-        (rest.0, cond-false (is_same address state.market.listing.address) (Some state.market) (market_at address states) apart ∙ rest.1)
+found address (state ∷ states) known =
+    cond_both (is_same address state.market.listing.address) (Some state.market) (market_at address states) (λ (one : Option Market). (m : Market) × (one ≡ Some m))
+    (λ same. (state.market, refl))
+    (λ apart.
+    found address states (sym (ap (λ (b : Bool). b || list_any (λ (one : MarketState). is_same address one.market.listing.address) states) apart) ∙ known))
 
 -- ---- markets
 
@@ -289,15 +281,11 @@ module _ (script : PlainScript) (start : IsStart script.limits script.start) (do
       → All AreSound firsts → market_at address states ≡ Some m → IsSound m
   sound-at address m [] [] are sound at = absurd (cc)
   sound-at address m (first ∷ firsts) (state ∷ states) are sound at =
-      ⊎_elim
-      (λ (same : is_same address state.market.listing.address ≡ true).
-      let here : Some state.market ≡ Some m = sym (cond-true (is_same address state.market.listing.address) (Some state.market) (market_at address states) same) ∙ at in
+      cond_both (is_same address state.market.listing.address) (Some state.market) (market_at address states) (λ (one : Option Market). one ≡ Some m → IsSound m)
+      (λ same is.
       let own : state.market ≡ m = cc in
       subst IsSound own (history-sound script done first state (All-head AreSound first firsts sound) are.0))
-      (λ (apart : is_same address state.market.listing.address ≡ false).
-      sound-at address m firsts states are.1 (All-tail AreSound first firsts sound)
-      (sym (cond-false (is_same address state.market.listing.address) (Some state.market) (market_at address states) apart) ∙ at))
-      (cases_Bool (is_same address state.market.listing.address))
+      (λ apart is. sound-at address m firsts states are.1 (All-tail AreSound first firsts sound) is) at
   sound-at address m _ _ are sound at = absurd are
 
   module _ (row : PlainRow) (fits : IsRowOf script.start row) where

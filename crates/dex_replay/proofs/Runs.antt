@@ -1,9 +1,7 @@
 -- Rows that act one after the other leave each market a history, and each wallet a journal, of the rows that name it.
-use Rattle.std.proofs.Common.{◌≡◌, Bool, true, false, ◌||◌, List, [], ◌∷◌, map, Option, Some, None, refl, sym, ap, ◌∙◌, ⊎_elim}
-use Rattle.dex_world.proofs.Common.{Address, Agree, AllZip, Asked, Call, Contains, Entry, IsLegal, IsWalletLegal, MarketState, Movement, PlainAccount, PlainMarketAccounts, PlainRow, Reply, Sees, WalletSeen, WalletState, World, address_seen, asked_of, balance_after, cases_Bool, cond-false, cond-true, cond_both, false≢true, filter, is_same, is_same-true, list_any, market_after, names, role_at, seen_by, wallet_at, wallet_entry_of}
-use Rattle.dex_replay.proofs.Common.{IsRowOf, IsSight, IsWalletSeen, Origin, PlainScript, balance_of, has_account, is_known_role, market_in, origin_of_entry, origin_of_row, start_world, wallet_words}
-use Rattle.std.specs.List.{All, Any}
-use Rattle.dex_history.specs.Journal.{front}
+use Rattle.std.proofs.Common.{◌≡◌, Bool, true, ◌||◌, List, [], ◌∷◌, map, Option, Some, None, refl, sym, ap, ◌∙◌}
+use Rattle.dex_world.proofs.Common.{Address, Agree, AllZip, Asked, Call, Contains, Entry, IsLegal, IsWalletLegal, MarketState, Movement, PlainAccount, PlainMarketAccounts, PlainRow, Reply, Sees, WalletSeen, WalletState, World, address_seen, asked_of, balance_after, cond_both, false≢true, filter, is_same, is_same-true, list_any, market_after, names, role_at, seen_by, wallet_at, wallet_entry_of}
+use Rattle.dex_replay.proofs.Common.{All, Any, IsRowOf, IsSight, IsWalletSeen, Origin, PlainScript, balance_of, front, has_account, is_known_role, market_in, origin_of_entry, origin_of_row, start_world, wallet_words}
 use Rattle.dex_replay.proofs.Holdings.{held_in}
 use Rattle.dex_replay.proofs.MappedLists.{any-here, any-there}
 
@@ -77,14 +75,9 @@ wallet-seen : (address : Address) (states : List WalletState) → list_any (λ (
     → address_seen (wallet_at address states) ≡ Some address
 wallet-seen address [] known = absurd (false≢true known)
 wallet-seen address (state ∷ states) known =
-    ⊎_elim
-    (λ (same : is_same address state.seen.address ≡ true).
-    ap address_seen (cond-true (is_same address state.seen.address) (Some state.seen) (wallet_at address states) same)
-    ∙ ap (λ (a : Address). Some a) (sym (is_same-true address state.seen.address same)))
-    (λ (apart : is_same address state.seen.address ≡ false).
-    ap address_seen (cond-false (is_same address state.seen.address) (Some state.seen) (wallet_at address states) apart)
-    ∙ wallet-seen address states (sym (ap (λ (b : Bool). b || list_any (λ (one : WalletState). is_same address one.seen.address) states) apart) ∙ known))
-    (cases_Bool (is_same address state.seen.address))
+    cond_both (is_same address state.seen.address) (Some state.seen) (wallet_at address states) (λ (one : Option WalletSeen). address_seen one ≡ Some address)
+    (λ same. ap (λ (a : Address). Some a) (sym (is_same-true address state.seen.address same)))
+    (λ apart. wallet-seen address states (sym (ap (λ (b : Bool). b || list_any (λ (one : WalletState). is_same address one.seen.address) states) apart) ∙ known))
 
 -- wallets of one address are one wallet
 agree : (wallets : List WalletState) (address other : Address) (one two : Option WalletSeen) → one ≡ wallet_at address wallets → two ≡ wallet_at other wallets
@@ -99,8 +92,7 @@ module _ (script : PlainScript) (done : List RowReply) where
       → list_any (λ (state : WalletState). is_same address state.seen.address) states ≡ has_account address firsts
   still-there address [] [] are = refl
   still-there address (first ∷ firsts) (state ∷ states) are =
-      ap (λ (a : Address). is_same address a || list_any (λ (one : WalletState). is_same address one.seen.address) states) are.0.address
-      ∙ ap (λ (b : Bool). is_same address first.address || b) (still-there address firsts states are.1)
+      λ i. is_same address (are.0.address i) || still-there address firsts states are.1 i
   still-there address _ _ are = absurd are
 
   sight-of : (address : Address) (firsts : List PlainAccount) (states : List WalletState) → AllZip (IsMoved done) firsts states
@@ -113,10 +105,7 @@ module _ (script : PlainScript) (done : List RowReply) where
     where
       seen-by : (seen : WalletSeen) → seen.address ≡ first.address → seen.mint ≡ (wallet_words first.bytes).mint → seen.owner ≡ (wallet_words first.bytes).owner
           → seen ≡ record { address = first.address; mint = (wallet_words first.bytes).mint; owner = (wallet_words first.bytes).owner; balance = seen.balance }
-      seen-by seen address mint owner =
-          ap (λ (a : Address). record seen { address = a }) address
-          ∙ ap (λ (a : Address). record seen { address = first.address; mint = a }) mint
-          ∙ ap (λ (a : Address). record seen { address = first.address; mint = (wallet_words first.bytes).mint; owner = a }) owner
+      seen-by seen address mint owner = λ i. record seen { address = address i; mint = mint i; owner = owner i }
 
       later : (role : Option WalletSeen) → IsWalletSeen firsts role → IsWalletSeen (first ∷ firsts) role
       later None is = tt

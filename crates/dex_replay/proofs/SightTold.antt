@@ -1,30 +1,14 @@
 -- What a call saw is what its entry tells.
-use Rattle.std.proofs.Common.{◌≡◌, ℕ, ◌≤◌, ◌⊎◌, inl, inr, ⊎_elim, Bool, true, false, ◌||◌, List, [], ◌∷◌, map, Option, Some, None, refl, sym, ap, ◌∙◌, subst}
-use Rattle.std.specs.List.{list_any}
-use Rattle.std.proofs.lemmas.Bool.{both_ways, cases_Bool, cond-false, cond-true, false≢true, or_left, or_right}
+use Rattle.std.proofs.Common.{◌≡◌, ℕ, ◌⊎◌, inl, inr, Bool, true, false, ◌||◌, List, [], ◌∷◌, map, Option, Some, None, refl, sym, ap, ◌∙◌, subst}
+use Rattle.dex_world.proofs.Common.{Address, Agree, Asked, Call, Entry, Market, Movement, PlainAccount, PlainRow, Seen, Sees, Stands, Transfers, WalletSeen, address_seen, asked_of, balance_in, balance_seen, brought_to, cond_both, is_same, is_same-refl, is_same-true, list_any, movement_of, places-movements, seen_wallets, step_of, taken_from, wallet-movement_by}
+use Rattle.dex_replay.proofs.Common.{IsSight, IsWalletSeen, PlainScript, address_of, front}
+use Rattle.std.proofs.lemmas.Bool.{both_ways, false≢true, or_left, or_right}
 use Rattle.std.proofs.lemmas.Option.{same_Some}
-use Rattle.dex_types.specs.declared.addresses.Address.{Address}
-use Rattle.dex_types.specs.declared.movements.Entry.{Entry}
-use Rattle.dex_types.specs.declared.movements.Movement.{Movement}
-use Rattle.dex_types.specs.declared.rows.Seen.{Seen}
-use Rattle.dex_types.specs.declared.rows.WalletSeen.{WalletSeen}
-use Rattle.dex_types.specs.declared.terms.Program.{Program}
-use Rattle.dex_types.specs.Accounts.{PlainAccount}
-use Rattle.dex_types.specs.Addresses.{is_same}
-use Rattle.dex_types.specs.Market.{Market}
-use Rattle.dex_types.specs.Rows.{PlainRow}
-use Rattle.dex_types.specs.Transfers.{Transfers}
-use Rattle.dex_types.specs.Wallets.{address_seen, balance_in, balance_seen, brought_to, movement_of, seen_wallets, taken_from}
-use Rattle.dex_laws.proofs.TraderLaws.{is_same-refl, is_same-true}
-use Rattle.dex_history.specs.Journal.{Agree, Asked, Call, Sees, Stands, asked_of, front, step_of}
 use Rattle.dex_history.proofs.BalanceLaws.{agree-one, agree-one_back}
 use Rattle.dex_history.proofs.MoveLaws.{AreOneWith, IsIn, coin-one, pc-one, referrer-one, roles_of}
-use Rattle.dex_history.proofs.WalletLaws.{places-movements, wallet-movement_by}
 use Rattle.dex_act.specs.Wallets.{any_hit, hits}
 use Rattle.dex_act.proofs.Seeing.{any-seen}
-use Rattle.dex_state.specs.Addresses.{address_of, times}
-use Rattle.dex_script_types.specs.PlainScript.{PlainScript}
-use Rattle.dex_replay.specs.Lawful.{IsSight, IsWalletSeen}
+use Rattle.dex_script_types.proofs.Apart.{AreDistinct}
 use Rattle.dex_replay.specs.EntryCalls.{before_of, role_told, seen_told, wallet_told}
 use Rattle.dex_replay.proofs.Finding.{wallet-found}
 use Rattle.dex_replay.proofs.Sights.{before-movement}
@@ -41,15 +25,9 @@ module _ (seen : Seen) (t : Transfers) (address : Address) where
   before-moved (first ∷ others) any =
       let wallet : is_same address (moved first).wallet ≡ is_same address first =
       ap (is_same address) (wallet-movement_by first (balance_seen seen first) (taken_from seen t first) (brought_to seen t first)) in
-      let rest : ℕ = before_of address (map (movement_of seen t) others) in
-      ⊎_elim
-      (λ (same : is_same address first ≡ true).
-      cond-true (is_same address (moved first).wallet) (moved first).before rest (wallet ∙ same)
-      ∙ before-movement seen t first ∙ sym (ap (balance_seen seen) (is_same-true address first same)))
-      (λ (apart : is_same address first ≡ false).
-      cond-false (is_same address (moved first).wallet) (moved first).before rest (wallet ∙ apart)
-      ∙ before-moved others (sym (ap (λ (b : Bool). b || list_any (is_same address) others) apart) ∙ any))
-      (cases_Bool (is_same address first))
+      cond_both (is_same address (moved first).wallet) (moved first).before (before_of address (map (movement_of seen t) others)) (λ (n : ℕ). n ≡ balance_seen seen address)
+      (λ same. before-movement seen t first ∙ sym (ap (balance_seen seen) (is_same-true address first (sym wallet ∙ same))))
+      (λ apart. before-moved others (sym (ap (λ (b : Bool). b || list_any (is_same address) others) (sym wallet ∙ apart)) ∙ any))
 
 -- ---- the balance that is seen, of the wallet of a role
 
@@ -88,14 +66,9 @@ balance-in wallet [] one here = absurd here
 balance-in wallet (None ∷ roles) one (inl is) = absurd (cc)
 balance-in wallet (None ∷ roles) one (inr later) = balance-in wallet roles one.1 later
 balance-in wallet (Some first ∷ roles) one here =
-    ⊎_elim
-    (λ (same : is_same wallet.address first.address ≡ true).
-    cond-true (is_same wallet.address first.address) first.balance (balance_in wallet.address roles) same
-    ∙ sym (ap (λ (w : WalletSeen). w.balance) (one.0 first refl (is_same-true wallet.address first.address same))))
-    (λ (apart : is_same wallet.address first.address ≡ false).
-    cond-false (is_same wallet.address first.address) first.balance (balance_in wallet.address roles) apart
-    ∙ balance-in wallet roles one.1 (later apart here))
-    (cases_Bool (is_same wallet.address first.address))
+    cond_both (is_same wallet.address first.address) first.balance (balance_in wallet.address roles) (λ (n : ℕ). n ≡ wallet.balance)
+    (λ same. sym (ap (λ (w : WalletSeen). w.balance) (one.0 first refl (is_same-true wallet.address first.address same))))
+    (λ apart. balance-in wallet roles one.1 (later apart here))
   where
     later : is_same wallet.address first.address ≡ false → (Some first ≡ Some wallet) ⊎ IsIn wallet roles → IsIn wallet roles
     later apart (inl is) =
@@ -121,7 +94,7 @@ before-told call m stands wallet role =
 
 -- ---- what is seen
 
-module _ (wallets : List PlainAccount) (once : (address : Address) → times address (map address_of wallets) ≤ 1) (moves : List Movement) where
+module _ (wallets : List PlainAccount) (distinct : AreDistinct (map address_of wallets)) (moves : List Movement) where
   wallet-told : (wallet : WalletSeen) → IsWalletSeen wallets (Some wallet) → before_of wallet.address moves ≡ wallet.balance
       → role_told wallets moves (Some wallet.address) ≡ Some wallet
   wallet-told wallet there before =
@@ -129,7 +102,7 @@ module _ (wallets : List PlainAccount) (once : (address : Address) → times add
       let same : wallet.address ≡ account.address = ap (λ (w : WalletSeen). w.address) there.4 in
       let balance : before_of account.address moves ≡ wallet.balance = ap (λ (a : Address). before_of a moves) (sym same) ∙ before in
       ap (λ (a : Address). role_told wallets moves (Some a)) same
-      ∙ wallet-found (wallet_told moves) account wallets (once account.address) (there.0, there.2, there.3)
+      ∙ wallet-found (wallet_told moves) account wallets distinct (there.0, there.2, there.3)
       ∙ ap (λ (n : ℕ). Some (record (wallet_told moves account) { balance = n })) balance
       ∙ ap (λ (w : WalletSeen). Some w) (sym there.4)
 
@@ -139,28 +112,21 @@ module _ (wallets : List PlainAccount) (once : (address : Address) → times add
   role-told role (Some wallet) same there before = ap (role_told wallets moves) (sym same) ∙ wallet-told wallet there (before wallet refl)
 
 -- all that the call saw
-pub sight-told : (script : PlainScript) (row : PlainRow) (call : Call) (m : Market) → ((address : Address) → times address (map address_of script.start.wallets) ≤ 1)
+pub sight-told : (script : PlainScript) (row : PlainRow) (call : Call) (m : Market) → AreDistinct (map address_of script.start.wallets)
     → call.asked ≡ asked_of row → IsSight script call.seen → Stands call m → seen_told script row call.entry ≡ call.seen
-sight-told script row call m once asks sight stands =
+sight-told script row call m distinct asks sight stands =
     let seen : Seen = call.seen in
     let sees : Sees (asked_of row) seen = subst (λ (asked : Asked). Sees asked seen) asks stands.sees in
     let moves : List Movement = front call.entry.moves in
     let wallets : List PlainAccount = script.start.wallets in
     let before : (wallet : WalletSeen) → IsRole seen wallet → before_of wallet.address moves ≡ wallet.balance = before-told call m stands in
-    let told = role-told wallets once moves in
-    let coin : role_told wallets moves row.coin ≡ seen.coin =
-    told row.coin seen.coin sees.coin sight.coin (λ wallet is. before wallet (coin-role (asked_of row) seen sees wallet is)) in
-    let pc : role_told wallets moves row.pc ≡ seen.pc =
-    told row.pc seen.pc sees.pc sight.pc (λ wallet is. before wallet (pc-role (asked_of row) seen sees wallet is)) in
-    let discount : role_told wallets moves row.discount ≡ seen.discount =
-    told row.discount seen.discount sees.discount sight.discount (λ wallet is. before wallet (discount-role (asked_of row) seen sees wallet is)) in
-    let referrer : role_told wallets moves row.referrer ≡ seen.referrer =
-    told row.referrer seen.referrer sees.referrer sight.referrer (λ wallet is. before wallet (referrer-role (asked_of row) seen sees wallet is)) in
-    let start : Seen = seen_told script row call.entry in
-    ap (λ (one : Option WalletSeen). record start { coin = one }) coin
-    ∙ ap (λ (one : Option WalletSeen). record start { coin = seen.coin; pc = one }) pc
-    ∙ ap (λ (one : Option WalletSeen). record start { coin = seen.coin; pc = seen.pc; discount = one }) discount
-    ∙ ap (λ (one : Option WalletSeen). record start { coin = seen.coin; pc = seen.pc; discount = seen.discount; referrer = one }) referrer
-    ∙ ap (λ (one : Option Address). record seen { srm = one; msrm = script.start.msrm; program = script.program }) (sym sight.srm)
-    ∙ ap (λ (one : Option Address). record seen { msrm = one; program = script.program }) (sym sight.msrm)
-    ∙ ap (λ (one : Program). record seen { program = one }) (sym sight.program)
+    let told = role-told wallets distinct moves in
+    λ i. record {
+      coin = told row.coin seen.coin sees.coin sight.coin (λ wallet is. before wallet (coin-role (asked_of row) seen sees wallet is)) i;
+      pc = told row.pc seen.pc sees.pc sight.pc (λ wallet is. before wallet (pc-role (asked_of row) seen sees wallet is)) i;
+      discount = told row.discount seen.discount sees.discount sight.discount (λ wallet is. before wallet (discount-role (asked_of row) seen sees wallet is)) i;
+      referrer = told row.referrer seen.referrer sees.referrer sight.referrer (λ wallet is. before wallet (referrer-role (asked_of row) seen sees wallet is)) i;
+      srm = sym sight.srm i;
+      msrm = sym sight.msrm i;
+      program = sym sight.program i;
+    }

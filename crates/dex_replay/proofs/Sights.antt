@@ -1,8 +1,7 @@
 -- What a row sees of a wallet that it names, and at which balance it moves it.
 use Rattle.std.proofs.Common.{nat_lt, ℕ, ◌+◌, ◌≤◌, ◌≡◌, Bool, true, false, ◌||◌, List, [], ◌∷◌, get_or, map, Option, Some, None, refl, sym, ap, ◌∙◌, subst, arith, ⊎_elim}
+use Rattle.dex_replay.proofs.Common.{All, times}
 use Rattle.dex_world.proofs.Common.{Address, All-cons, All-nil, Movement, PlainRow, Seen, Transfers, WalletSeen, WalletState, World, balance_in, balance_seen, brought_to, cases_Bool, cond-false, cond-true, cond_both, false≢true, is_role, is_same, is_same-refl, is_same-true, list_any, movement_of, names, names-roles, role_at, seen_by, taken_from, wallet_at}
-use Rattle.std.specs.List.{All}
-use Rattle.dex_state.specs.Addresses.{times}
 use Rattle.dex_state.proofs.Times.{one, times-cons}
 
 abbrev pub address_in : WalletState → Address
@@ -49,14 +48,11 @@ each-found (first ∷ states) once =
 pub found-address : (address : Address) (states : List WalletState) (wallet : WalletSeen) → wallet_at address states ≡ Some wallet → address ≡ wallet.address
 found-address address [] wallet found = absurd (cc)
 found-address address (state ∷ states) wallet found =
-    ⊎_elim
-    (λ (same : is_same address state.seen.address ≡ true).
-    let here : Some state.seen ≡ Some wallet = sym (cond-true (is_same address state.seen.address) (Some state.seen) (wallet_at address states) same) ∙ found in
+    cond_both (is_same address state.seen.address) (Some state.seen) (wallet_at address states) (λ (one : Option WalletSeen). one ≡ Some wallet → address ≡ wallet.address)
+    (λ same here.
     let is : state.seen ≡ wallet = cc in
     is_same-true address state.seen.address same ∙ ap (λ (one : WalletSeen). one.address) is)
-    (λ (apart : is_same address state.seen.address ≡ false).
-    found-address address states wallet (sym (cond-false (is_same address state.seen.address) (Some state.seen) (wallet_at address states) apart) ∙ found))
-    (cases_Bool (is_same address state.seen.address))
+    (λ apart there. found-address address states wallet there) found
 
 -- ---- the roles of a row
 

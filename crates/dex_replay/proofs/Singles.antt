@@ -1,9 +1,7 @@
 -- Scripts without swaps: each item is a row, so items act as rows one by one.
-use Rattle.std.proofs.Common.{◌≡◌, ℕ, ◌<◌, ◌&&◌, ◌||◌, not, Bool, true, false, eqb, get_or, List, [], ◌∷◌, ◌++◌, map, refl, sym, ap, ◌∙◌, subst, arith}
-use Rattle.dex_world.proofs.Common.{All-cons, All-head, All-map, All-nil, All-tail, All-weaker, EachTwo, PlainRow, World, act, alone, eq-eqb, eqb-true, filter_passes, flat_map, fold, fold_items, grouped-flat, is_refusal, members, rows_of_lane}
-use Rattle.dex_replay.proofs.Common.{HasNoSwap, IsAllOrNone, IsLawful, IsOneOrder, IsReplayOf, KeepsLanes, PlainOutcome, PlainScript, is_answered, start_world, was_held, world_after}
-use Rattle.std.specs.List.{All}
-use Rattle.dex_world.specs.Items.{Item, items_of}
+use Rattle.std.proofs.Common.{◌≡◌, ℕ, ◌<◌, true, false, eqb, get_or, List, [], ◌∷◌, ◌++◌, map, refl, sym, ap, ◌∙◌, subst, arith}
+use Rattle.dex_world.proofs.Common.{All-cons, All-head, All-map, All-nil, All-tail, All-weaker, EachTwo, PlainRow, World, act, alone, eq-eqb, eqb-true, filter_passes, flat_map, fold, fold_items, grouped-flat, members, rows_of_lane}
+use Rattle.dex_replay.proofs.Common.{All, HasNoSwap, IsAllOrNone, IsLawful, IsOneOrder, IsReplayOf, Item, KeepsLanes, PlainOutcome, PlainScript, items_of, start_world, was_held, world_after}
 use Rattle.dex_world.proofs.ItemLaws.{alone-acts}
 use Rattle.dex_replay.specs.Replays.{IsLeftByRows, IsLeftIn}
 use Rattle.dex_replay.specs.Runs.{IsOneOrderOfRows}

@@ -1,8 +1,7 @@
 -- What cells keep of the script with which they were opened.
 use Rattle.std.proofs.Common.{◌≡◌, List, map, refl, sym, ap, ◌∙◌, subst}
-use Rattle.dex_world.proofs.Common.{All-map, MarketState, PlainAccount, PlainMarketAccounts, WalletState, map-id}
-use Rattle.dex_replay.proofs.Common.{CellState, CellsState, MarketCellState, PlainScript, address_of, market_opened, market_state_of, opened, opened_of, rows_naming, rows_on, start_world, wallet_opened, wallet_state_of, world_of}
-use Rattle.std.specs.List.{All}
+use Rattle.dex_world.proofs.Common.{All-map, PlainAccount, PlainMarketAccounts, map-id}
+use Rattle.dex_replay.proofs.Common.{All, CellState, CellsState, MarketCellState, PlainScript, address_of, market_opened, market_state_of, opened, opened_of, rows_naming, rows_on, start_world, wallet_opened, wallet_state_of, world_of}
 use Rattle.dex_cell.specs.CellState as market
 use Rattle.dex_wallet.specs.CellState as wallet
 pub use Rattle.dex_bank.proofs.Stands.{HasItsAddress, its-address}
@@ -77,10 +76,10 @@ wallet-addresses script cells own =
 -- cells as they were opened are as they were opened
 opened-again : (script : PlainScript) → opened_of (opened script) ≡ opened script
 opened-again script =
-    ap (λ (cells : List MarketCellState). record (opened_of (opened script)) { markets = cells })
-    (map-map (market_opened script.rows) (λ (cell : MarketCellState). market.new_cell cell.start cell.room) script.start.markets)
-    ∙ ap (λ (cells : List CellState). record (opened script) { wallets = cells })
-    (map-map (wallet_opened script.rows) (λ (cell : CellState). wallet.new_cell cell.address cell.start cell.room) script.start.wallets)
+    λ i. record (opened script) {
+      markets = map-map (market_opened script.rows) (λ (cell : MarketCellState). market.new_cell cell.start cell.room) script.start.markets i;
+      wallets = map-map (wallet_opened script.rows) (λ (cell : CellState). wallet.new_cell cell.address cell.start cell.room) script.start.wallets i;
+    }
 
 pub opened-opened : (script : PlainScript) (cells : CellsState) → cells ≡ opened script → opened_of cells ≡ opened script
 opened-opened script cells made = ap opened_of made ∙ opened-again script
@@ -93,5 +92,7 @@ opened-address script cells made =
 -- the cells with which a script starts are the world with which it does
 pub opened-world : (script : PlainScript) → world_of (opened script) ≡ start_world script
 opened-world script =
-    ap (λ (states : List MarketState). record (world_of (opened script)) { markets = states }) (map-map (market_opened script.rows) market_state_of script.start.markets)
-    ∙ ap (λ (states : List WalletState). record (start_world script) { wallets = states }) (map-map (wallet_opened script.rows) wallet_state_of script.start.wallets)
+    λ i. record (start_world script) {
+      markets = map-map (market_opened script.rows) market_state_of script.start.markets i;
+      wallets = map-map (wallet_opened script.rows) wallet_state_of script.start.wallets i;
+    }

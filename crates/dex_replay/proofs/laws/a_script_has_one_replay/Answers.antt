@@ -1,5 +1,4 @@
-use Rattle.dex_world.specs.Items.{items_of}
-use Rattle.dex_replay.specs.Replays.{world_after}
+use Rattle.dex_replay.proofs.Common.{items_of, world_after}
 use Rattle.dex_replay.proofs.OneReplay.{left-alike}
 use Rattle.dex_replay.proofs.laws.a_script_has_one_replay.Goals as goal
 
