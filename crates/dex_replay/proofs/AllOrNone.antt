@@ -1,7 +1,7 @@
 -- In the journals that a run leaves, the rows of an item were all done, or each that was not refused was held back.
 use Rattle.std.proofs.Common.{◌≡◌, ℕ, ◌&&◌, ◌||◌, not, Bool, true, false, eqb, List, [], ◌∷◌, get_or, map, refl, sym, ap, ◌∙◌, subst, ⊎_elim}
 use Rattle.std.proofs.Math.Bool.{and-false, or-false}
-use Rattle.dex_world.proofs.Common.{Address, All-cons, All-map, All-nil, All-weaker, AllZip, Asked, Call, EachTwo, Entry, IsLegal, Market, MarketState, PlainMarketAccounts, PlainRow, Reply, cases_Bool, cond-false, cond-true, cond_both, decoded, eq-eqb, eqb-true, false≢true, filter, is_done, is_refusal, is_same, is_same-refl, is_same-sym, is_same-true, is_take, list_any, members, step_of}
+use Rattle.dex_world.proofs.Common.{Address, All-cons, All-map, All-nil, All-weaker, AllZip, Asked, Call, EachTwo, Entry, IsLegal, Market, MarketState, PlainMarketAccounts, PlainRow, Reply, cases_Bool, cond_both, decoded, eq-eqb, eqb-true, false≢true, filter, is_done, is_refusal, is_same, is_same-refl, is_same-sym, is_same-true, is_take, list_any, members, step_of}
 use Rattle.dex_replay.proofs.Common.{All, IsAllOrNone, Item, PlainMarketJournal, PlainScript, has_market, is_answered, market_in, was_held}
 use Rattle.std.proofs.lemmas.List.Elements.{All-contains}
 use Rattle.std.proofs.lemmas.List.Folds.{list_any_none}
@@ -97,16 +97,11 @@ module _ (script : PlainScript) (all : List RowReply) where
   journal-says test told (first ∷ firsts) (state ∷ states) [] are addresses entries known = absurd (cc)
   journal-says test told (first ∷ firsts) (state ∷ states) (journal ∷ journals) are addresses entries known =
       let own : journal.address ≡ first.address = head-same addresses in
-      ⊎_elim
-      (λ (same : is_same told.row.market first.address ≡ true).
-      subst (Says test told)
-      (sym (head-same entries) ∙ sym (cond-true (is_same told.row.market journal.address) journal.entries (entries_at told.row.market journals) (ap (is_same told.row.market) own ∙ same)))
-      (history-says test told first state are.0 same))
-      (λ (apart : is_same told.row.market first.address ≡ false).
-      subst (Says test told)
-      (sym (cond-false (is_same told.row.market journal.address) journal.entries (entries_at told.row.market journals) (ap (is_same told.row.market) own ∙ apart)))
-      (journal-says test told firsts states journals are.1 (tail-same addresses) (tail-same entries) (sym (ap (λ (b : Bool). b || has_market told.row.market firsts) apart) ∙ known)))
-      (cases_Bool (is_same told.row.market first.address))
+      cond_both (is_same told.row.market journal.address) journal.entries (entries_at told.row.market journals) (Says test told)
+      (λ same. subst (Says test told) (sym (head-same entries)) (history-says test told first state are.0 (ap (is_same told.row.market) (sym own) ∙ same)))
+      (λ apart.
+      journal-says test told firsts states journals are.1 (tail-same addresses) (tail-same entries)
+      (sym (ap (λ (b : Bool). b || has_market told.row.market firsts) (ap (is_same told.row.market) (sym own) ∙ apart)) ∙ known))
 
 -- ---- the items
 

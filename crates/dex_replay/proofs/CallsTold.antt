@@ -59,10 +59,6 @@ module _ (script : PlainScript) (facts : IsScript script) (first last : PlainMar
   abbrev Asks : PlainRow → Type 0
   Asks row = IsAskedIn script.rows (asked_of row)
 
-  each-asks : All Asks script.rows
-  each-asks =
-      All-weaker (Contains script.rows) Asks (λ row there. record { row = row; there = there; asks = refl }) script.rows (All-contains_itself script.rows)
-
   -- each of its calls was asked by a row of the script
   all-asked : All (λ (call : Call). IsAskedIn script.rows call.asked) lawful.calls
   all-asked k d within =
@@ -71,7 +67,8 @@ module _ (script : PlainScript) (facts : IsScript script) (first last : PlainMar
       (All-across (IsAskedIn script.rows) (λ (call : Call). call.asked) asked_of
       (filter (λ (call : Call). call.asked.lane == lane) lawful.calls) (rows_of_market lane first.address script.rows) (lawful.rows lane)
       (All-filter (λ (row : PlainRow). row.lane == lane) Asks (filter (λ (row : PlainRow). is_same row.market first.address) script.rows)
-      (All-filter (λ (row : PlainRow). is_same row.market first.address) Asks script.rows each-asks)))
+      (All-filter (λ (row : PlainRow). is_same row.market first.address) Asks script.rows
+      (All-weaker (Contains script.rows) Asks (λ row there. record { row = row; there = there; asks = refl }) script.rows (All-contains_itself script.rows)))))
       k d within (eq-eqb lane lane refl)
 
   pub lawful-told : calls_told script first.address journal.entries ≡ Some lawful.calls

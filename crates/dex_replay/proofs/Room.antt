@@ -1,6 +1,6 @@
 -- Each row of a script finds the cells that it names, with room for one entry more.
 use Rattle.std.proofs.Common.{◌≡◌, ℕ, ◌+◌, ◌≤◌, Bool, true, cond, List, ◌∷◌, ◌++◌, length, map, get_or, sym, ap, ◌∙◌, subst, arith}
-use Rattle.dex_world.proofs.Common.{Address, Call, Listing, PlainMarketAccounts, PlainRow, is_same, length-map, list_any, names, row_wallets, sum_by-append, sum_by-cons}
+use Rattle.dex_world.proofs.Common.{Address, Call, Listing, PlainMarketAccounts, PlainRow, is_same, length-map, list_any, names, sum_by-append, sum_by-cons}
 use Rattle.dex_replay.proofs.Common.{All, CanAct, CellState, CellsState, IsRowOf, MarketCellState, PlainScript, address_of, count_by, has_account, is_among, is_market, market_state_of, rows_naming, rows_on, wallet_state_of, world_of}
 use Rattle.dex_cell.specs.CellState as market
 use Rattle.dex_wallet.specs.CellState as wallet
@@ -21,9 +21,6 @@ module _ (script : PlainScript) (cells : CellsState) (own : AreOfScript script c
       ∙ ap (λ (addresses : List Address). list_any (is_same address) addresses) (wallet-addresses script cells own)
       ∙ list_any-map (is_same address) address_of script.start.wallets
       ∙ known
-
-  wallets-here : (row : PlainRow) → IsRowOf script.start row → All IsHere (row_wallets row)
-  wallets-here row fits = roles-all IsHere script.start account-here row fits
 
   market-here : (row : PlainRow) → IsRowOf script.start row → is_market row.market cells.markets ≡ true
   market-here row fits =
@@ -69,7 +66,7 @@ module _ (script : PlainScript) (cells : CellsState) (own : AreOfScript script c
       let few_moves = All-unmap (HasFewMoves done) wallet_state_of cells.wallets counted.wallets in
       record {
         market = market-here script cells own its row fits;
-        wallets = wallets-here script cells own its row fits;
+        wallets = roles-all (IsHere script cells own its) script.start (account-here script cells own its) row fits;
         market_spare = λ k d within. market-spare (get_or cells.markets k d) (its k d within) (own.market_room k d within) (few k d within);
         wallet_spare = λ k d within. wallet-spare (get_or cells.wallets k d) (own.wallet_room k d within) (few_moves k d within);
       }

@@ -36,13 +36,9 @@ each-found (first ∷ states) once =
     (λ k d within.
     let state : WalletState = get_or states k d in
     let address : Address = state.seen.address in
-    ⊎_elim
-    (λ (same : is_same address first.seen.address ≡ true).
-    absurd (omega (arith, once address, count address, counted states k d within, cond-true {A = ℕ} (is_same address first.seen.address) 1 0 same)))
-    (λ (apart : is_same address first.seen.address ≡ false).
-    cond-false (is_same address first.seen.address) (Some first.seen) (wallet_at address states) apart
-    ∙ each-found states (λ a. omega (arith, once a, count a)) k d within)
-    (cases_Bool (is_same address first.seen.address)))
+    cond_both (is_same address first.seen.address) (Some first.seen) (wallet_at address states) (λ (found : Option WalletSeen). found ≡ Some state.seen)
+    (λ same. absurd (omega (arith, once address, count address, counted states k d within, cond-true {A = ℕ} (is_same address first.seen.address) 1 0 same)))
+    (λ apart. each-found states (λ a. omega (arith, once a, count a)) k d within))
 
 -- what is found at an address has it
 pub found-address : (address : Address) (states : List WalletState) (wallet : WalletSeen) → wallet_at address states ≡ Some wallet → address ≡ wallet.address

@@ -1,6 +1,6 @@
 -- Scripts without swaps: each item is a row, so items act as rows one by one.
 use Rattle.std.proofs.Common.{◌≡◌, ℕ, ◌<◌, true, false, eqb, get_or, List, [], ◌∷◌, ◌++◌, map, refl, sym, ap, ◌∙◌, subst, arith}
-use Rattle.dex_world.proofs.Common.{All-cons, All-head, All-map, All-nil, All-tail, All-weaker, EachTwo, PlainRow, World, act, alone, eq-eqb, eqb-true, filter_passes, flat_map, fold, fold_items, grouped-flat, members, rows_of_lane}
+use Rattle.dex_world.proofs.Common.{All-cons, All-head, All-map, All-nil, All-tail, All-weaker, PlainRow, World, act, alone, eq-eqb, eqb-true, filter_passes, flat_map, fold, fold_items, grouped-flat, members, rows_of_lane}
 use Rattle.dex_replay.proofs.Common.{All, HasNoSwap, IsAllOrNone, IsLawful, IsOneOrder, IsReplayOf, Item, KeepsLanes, PlainOutcome, PlainScript, items_of, start_world, was_held, world_after}
 use Rattle.dex_world.proofs.ItemLaws.{alone-acts}
 use Rattle.dex_replay.specs.Replays.{IsLeftByRows, IsLeftIn}
@@ -13,11 +13,8 @@ use Rattle.dex_replay.proofs.Orders.{each-item, lane-rows}
 abbrev Rises : PlainRow → PlainRow → Type 0
 Rises one other = one.number < other.number
 
-single-items : (rows : List PlainRow) → EachTwo Rises rows → items_of rows ≡ map alone rows
-single-items rows rises = grouped-single (λ (row : PlainRow). row.number) rows rises
-
 pub rows-single : (rows : List PlainRow) → HasNoSwap rows → items_of rows ≡ map alone rows
-rows-single rows single = single-items rows (each-two Rises rows single)
+rows-single rows single = grouped-single (λ (row : PlainRow). row.number) rows (each-two Rises rows single)
 
 pub singles-act : (rows : List PlainRow) (world : World) → fold_items (map alone rows) world ≡ fold rows world
 singles-act [] world = refl
@@ -30,7 +27,8 @@ script-acts script single =
 
 lane-single : (script : PlainScript) → HasNoSwap script.rows → (lane : ℕ) → items_of (rows_of_lane lane script.rows) ≡ map alone (rows_of_lane lane script.rows)
 lane-single script single lane =
-    single-items (rows_of_lane lane script.rows) (each-two-filter Rises (λ (row : PlainRow). eqb row.lane lane) script.rows (each-two Rises script.rows single))
+    grouped-single (λ (row : PlainRow). row.number) (rows_of_lane lane script.rows)
+    (each-two-filter Rises (λ (row : PlainRow). eqb row.lane lane) script.rows (each-two Rises script.rows single))
 
 -- an item that is a row of its lane
 record IsSingle (lane : ℕ) (item : Item) : Type 0 where
