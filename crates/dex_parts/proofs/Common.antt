@@ -12,5 +12,5 @@ pub use Rattle.dex_replay.specs.Replays.{IsLeftBy, IsLeftIn, IsReplayOf, market_
 pub use Rattle.dex_script_types.specs.Places.{AreBeside, ArePlaced, IsBeside, IsPlaced, market_place, wallet_place}
 pub use Rattle.dex_world.proofs.MappedLists.{All-behind, All-front, All-second, All-unmap, filter-of, head-same, item_at, list_any-agree, list_any-map, map-agree, map-map, tail-same, zip-map}
 pub use Rattle.dex_world.specs.Places.{ArePlacesOf}
-pub use Rattle.std.proofs.lemmas.Bool.{both_ways, cases_eq, le-ltb, ltb-false, ltb-true, or_cases}
+pub use Rattle.std.proofs.lemmas.Bool.{both_ways, cases_eq, le-ltb, ltb-true, or_cases}
 pub use Rattle.std.proofs.lemmas.List.{append-nil, drop-map, get_or-append-add, get_or-drop, get_or-take, get_or_append_left, get_or_default, length-append, length-drop, length-take-le, nil_from_length, take-map}

@@ -22,9 +22,7 @@ pub use Rattle.dex_history.specs.Journal.{front}
 pub use Rattle.dex_token.proofs.AmountWrites.{wallet_words-with_amount}
 pub use Rattle.dex_token.specs.TokenAccount.{IsWallet, WalletWords, wallet_words, with_amount}
 pub use Rattle.dex_wallet.specs.CellState.{CellState, IsWalletCell, balance_of}
-pub use Rattle.dex_types.specs.declared.limits.Limits.{Limits}
-pub use Rattle.dex_types.specs.declared.terms.Program.{Program}
-pub use Rattle.dex_world.specs.Items.{Item, held_in, is_any_refused, items_of}
+pub use Rattle.dex_world.specs.Items.{Item, held_in, items_of}
 pub use Rattle.dex_world.specs.World.{market_at}
 pub use Rattle.dex_world.specs.declared.places.RowPlaces.{RowPlaces}
 pub use Rattle.std.specs.List.{All, Any, count_by}

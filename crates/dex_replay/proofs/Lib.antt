@@ -19,7 +19,7 @@ mod Runs
 mod Sights
 pub mod Singles
 pub mod Starts
-pub mod OneReplay
+mod OneReplay
 mod CallsTold
 mod Finding
 pub mod SightTold
