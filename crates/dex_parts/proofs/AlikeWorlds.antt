@@ -12,7 +12,8 @@ cond-of f false x y = refl
 
 -- a row, with a new number, finds in the lists that are made of a world's what it finds in those, and does there what is
 -- made of what it does
-pub record ActsAlike (f : ℕ → ℕ) (of_markets : List MarketState → List MarketState) (of_wallets : List WalletState → List WalletState) (row : PlainRow) : Type 0 where
+pub record ActsAlike (f : ℕ → ℕ) (of_markets : List MarketState → List MarketState) (of_wallets : List WalletState → List WalletState)
+    (row : PlainRow) : Type 0 where
   pub market : (states : List MarketState) → market_at row.market (of_markets states) ≡ market_at row.market states
   pub wallet : (address : Address) → names row address ≡ true → (states : List WalletState) → wallet_at address (of_wallets states) ≡ wallet_at address states
   pub markets : (seen : Seen) (states : List MarketState) → markets_acted (row_with f row) seen (of_markets states) ≡ of_markets (markets_acted row seen states)
@@ -20,7 +21,8 @@ pub record ActsAlike (f : ℕ → ℕ) (of_markets : List MarketState → List M
       → map (wallet_acted (row_with f row) seen t) (of_wallets states) ≡ of_wallets (map (wallet_acted row seen t) states)
 
 -- what is chosen of rows is as they are
-pub chosen-all : (P : PlainRow → Type 0) → ((row : PlainRow) → P row → P (idle_row row)) → (world : World) (rows : List PlainRow) → All P rows → All P (chosen world rows)
+pub chosen-all : (P : PlainRow → Type 0) → ((row : PlainRow) → P row → P (idle_row row)) → (world : World) (rows : List PlainRow)
+    → All P rows → All P (chosen world rows)
 chosen-all P idle world rows all =
     cond_both (is_any_refused world rows) (map (held_in world) rows) rows (All P)
     (λ any. All-map P (held_in world) rows
@@ -49,7 +51,8 @@ module _ (f : ℕ → ℕ) (of_markets : List MarketState → List MarketState) 
     }
 
     row-acts : (world : World) → act (row_with f row) (made world) ≡ made (act row world)
-    row-acts world = ap (λ (found : Option Market). acted (row_with f row) found (made world)) (alike.market world.markets) ∙ by-market (market_at row.market world.markets)
+    row-acts world =
+        ap (λ (found : Option Market). acted (row_with f row) found (made world)) (alike.market world.markets) ∙ by-market (market_at row.market world.markets)
       where
         by-market : (found : Option Market) → acted (row_with f row) found (made world) ≡ made (acted row found world)
         by-market None = refl
@@ -74,7 +77,8 @@ module _ (f : ℕ → ℕ) (of_markets : List MarketState → List MarketState) 
 
   -- ---- the rows of an item that all act alike, also where they have nothing to do
 
-  module _ (P : PlainRow → Type 0) (alike : (row : PlainRow) → P row → ActsAlike f of_markets of_wallets row) (idle : (row : PlainRow) → P row → P (idle_row row)) where
+  module _ (P : PlainRow → Type 0) (alike : (row : PlainRow) → P row → ActsAlike f of_markets of_wallets row)
+      (idle : (row : PlainRow) → P row → P (idle_row row)) where
     rows-act : (rows : List PlainRow) (world : World) → All P rows → fold (map (row_with f) rows) (made world) ≡ made (fold rows world)
     rows-act [] world all = refl
     rows-act (row ∷ rows) world all =

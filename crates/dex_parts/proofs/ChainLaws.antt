@@ -180,7 +180,8 @@ module _ (script first second : PlainScript) (one two : PlainOutcome) (are : Are
 replay-as : (a b : PlainScript) (outcome : PlainOutcome) → a.start ≡ b.start → a.rows ≡ b.rows → a.program ≡ b.program → a.limits ≡ b.limits
     → IsReplayOf a outcome → IsReplayOf b outcome
 replay-as a b outcome start rows program limits replay =
-    let worlds : world_after a (items_of a.rows) ≡ world_after b (items_of b.rows) = λ i. fold_items (items_of (rows i)) (start_world (record a { start = start i; program = program i })) in
+    let worlds : world_after a (items_of a.rows) ≡ world_after b (items_of b.rows) =
+    λ i. fold_items (items_of (rows i)) (start_world (record a { start = start i; program = program i })) in
     left-as a b (world_after b (items_of b.rows)) outcome start limits (subst (λ (world : World). IsLeftIn a world outcome) worlds replay)
 
 abbrev IsApart : PlainRow → PlainRow → Type 0

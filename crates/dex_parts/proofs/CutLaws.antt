@@ -235,7 +235,8 @@ parts-cut most (count ∷ counts) rows (part ∷ parts) cut same =
     let number : PlainRow → ℕ = λ (row : PlainRow). row.number in
     let front : part.rows ≡ take count rows = head-same same in
     let rest = parts-cut most counts (drop count rows) parts (subst (AreCutBy most counts) (drop-map number count rows) cut.1) (tail-same same) in (
-      sym (take-append-drop count rows) ∙ ap (λ (some : List PlainRow). some ++ drop count rows) (sym front) ∙ ap (λ (some : List PlainRow). part.rows ++ some) rest.0,
+      sym (take-append-drop count rows) ∙ ap (λ (some : List PlainRow). some ++ drop count rows) (sym front)
+          ∙ ap (λ (some : List PlainRow). part.rows ++ some) rest.0,
       (
         subst (λ (some : List PlainRow). IsCut some (rows_of_parts parts)) (sym front)
             (subst (IsCut (take count rows)) rest.0 (cut-of count rows cut.0.parted)),

@@ -74,8 +74,8 @@ abbrev pub wallet_journal_in : WalletState → PlainWalletJournal
 wallet_journal_in state = record { address = state.seen.address; entries = state.entries }
 
 -- lists are one where two things that tell an element are the same of both
-same-by-two : {A B C : Type 0} (f : A → B) (g : A → C) → ((x y : A) → f x ≡ f y → g x ≡ g y → x ≡ y) → (xs ys : List A) → map f xs ≡ map f ys → map g xs ≡ map g ys
-    → xs ≡ ys
+same-by-two : {A B C : Type 0} (f : A → B) (g : A → C) → ((x y : A) → f x ≡ f y → g x ≡ g y → x ≡ y) → (xs ys : List A)
+    → map f xs ≡ map f ys → map g xs ≡ map g ys → xs ≡ ys
 same-by-two f g tell [] [] first second = refl
 same-by-two f g tell (x ∷ xs) (y ∷ ys) first second =
     λ i. tell x y (head-same first) (head-same second) i ∷ same-by-two f g tell xs ys (tail-same first) (tail-same second) i

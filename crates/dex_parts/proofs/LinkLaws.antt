@@ -75,7 +75,8 @@ module _ (start : PlainAccounts) where
 
   pub markets-on : (rows : List PlainRow) (places : List RowPlaces) → ArePlaced start rows places → All (λ (at : RowPlaces). at.market < markets) places
   markets-on rows places placed =
-      All-second (IsPlaced start) (λ (at : RowPlaces). at.market < markets) (λ row at is. market-within row.market start.markets at.market is.market) rows places placed
+      All-second (IsPlaced start) (λ (at : RowPlaces). at.market < markets) (λ row at is. market-within row.market start.markets at.market is.market)
+      rows places placed
 
 -- ---- numbers of markets and wallets that agree with rows
 

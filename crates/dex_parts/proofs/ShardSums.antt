@@ -41,7 +41,8 @@ module _ {X : Type 0} (amount : X → ℕ) (own : X → ℕ) where
   total-below : (count : ℕ) (xs : List X) → total (below count) xs ≡ sum_over count (λ (shard : ℕ). total amount (kept shard xs))
   total-below zero xs = total-none (below 0) xs (λ k d within. none-yet (own (get_or xs k d)) (amount (get_or xs k d)))
   total-below (suc count) xs =
-      total-agree (below (suc count)) (λ (x : X). below count x + at_shard count x) xs (λ k d within. one-more count (own (get_or xs k d)) (amount (get_or xs k d)))
+      total-agree (below (suc count)) (λ (x : X). below count x + at_shard count x) xs
+      (λ k d within. one-more count (own (get_or xs k d)) (amount (get_or xs k d)))
       ∙ total-plus (below count) (at_shard count) xs
       ∙ ap₂ (λ (a b : ℕ). a + b) (total-below count xs) (total-kept count xs)
 

@@ -68,7 +68,8 @@ module _ (sharding : Sharding) (shard : ℕ) where
   wallets-stay : (row : PlainRow) (seen : Seen) (t : Transfers) (states : List WalletState)
       → map (wallet_acted row seen t) (filter is_wallet_in states) ≡ filter is_wallet_in (map (wallet_acted row seen t) states)
   wallets-stay row seen t states =
-      ap (map (wallet_acted row seen t)) (sym (filter_agree (λ (state : WalletState). is_wallet_in (wallet_acted row seen t state)) is_wallet_in (wallet-stays row seen t) states))
+      ap (map (wallet_acted row seen t))
+      (sym (filter_agree (λ (state : WalletState). is_wallet_in (wallet_acted row seen t state)) is_wallet_in (wallet-stays row seen t) states))
       ∙ filter-of (wallet_acted row seen t) is_wallet_in states
 
   -- ---- a row whose wallets are of its market's shard
@@ -181,10 +182,12 @@ module _ (sharding : Sharding) (shard : ℕ) where
       All-weaker (λ (row : PlainRow). IsOfOneShard sharding row × (sharding.market row.market ≡ sharding.market item.first.market)) (IsAs b)
       (λ row both. record { one = both.0; lies = ap (λ (n : ℕ). n == shard) both.1 ∙ lies }) (members item) is
 
-  item-own : (item : Item) (world : World) → All (IsAs true) (members item) → act_item item (world_in sharding shard world) ≡ world_in sharding shard (act_item item world)
+  item-own : (item : Item) (world : World) → All (IsAs true) (members item)
+      → act_item item (world_in sharding shard world) ≡ world_in sharding shard (act_item item world)
   item-own item world own =
       ap (λ (rows : List PlainRow). fold (chosen (world_in sharding shard world) rows) (world_in sharding shard world)) (sym (map-id (members item)))
-      ∙ item-acts (λ number. number) (filter is_market_in) (filter is_wallet_in) (IsAs true) (λ row is. acts-alike row is.one is.lies) (idle-as true) item world own
+      ∙ item-acts (λ number. number) (filter is_market_in) (filter is_wallet_in) (IsAs true) (λ row is. acts-alike row is.one is.lies)
+      (idle-as true) item world own
 
   item-away : (item : Item) (world : World) → All IsAway (members item) → world_in sharding shard (act_item item world) ≡ world_in sharding shard world
   item-away item world away = rows-away (chosen world (members item)) world (chosen-all IsAway (idle-as false) world (members item) away)

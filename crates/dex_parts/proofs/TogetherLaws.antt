@@ -25,9 +25,11 @@ markets-act row seen (b ∷ before) (s ∷ states) =
     let here : Bool = is_same row.market s.market.listing.address in
     let step = row_step row seen s.market in
     let behind : List MarketState → List MarketState = each_behind market_behind before in
-    ap (λ (entries : List Entry). cond here (record { market = step.market; entries = entries } ∷ behind states) (market_behind b s ∷ markets_acted row seen (behind states)))
+    ap (λ (entries : List Entry). cond here (record { market = step.market; entries = entries } ∷ behind states)
+    (market_behind b s ∷ markets_acted row seen (behind states)))
     (append_assoc b.entries s.entries (entry_by row seen step.reply step.transfers ∷ []))
-    ∙ ap (λ (others : List MarketState). cond here (market_behind b (market_acted row seen s) ∷ behind states) (market_behind b s ∷ others)) (markets-act row seen before states)
+    ∙ ap (λ (others : List MarketState). cond here (market_behind b (market_acted row seen s) ∷ behind states) (market_behind b s ∷ others))
+    (markets-act row seen before states)
     ∙ cond-of (each_behind market_behind (b ∷ before)) here (market_acted row seen s ∷ states) (s ∷ markets_acted row seen states)
 markets-act row seen _ _ = refl
 
@@ -65,7 +67,8 @@ module _ (before : World) where
   items-act [] world = refl
   items-act (item ∷ items) world =
       ap (λ (rows : List PlainRow). fold_items items (fold (chosen (world_behind before world) rows) (world_behind before world))) (sym (map-id (members item)))
-      ∙ ap (fold_items items) (item-acts (λ number. number) behind_markets behind_wallets (λ row. Unit {0}) (λ row all. acts-alike row) (λ row all. tt) item world (λ k d within. tt))
+      ∙ ap (fold_items items)
+      (item-acts (λ number. number) behind_markets behind_wallets (λ row. Unit {0}) (λ row all. acts-alike row) (λ row all. tt) item world (λ k d within. tt))
       ∙ items-act items (act_item item world)
 
 pub items-append : (items later : List Item) (world : World) → fold_items (items ++ later) world ≡ fold_items later (fold_items items world)

@@ -55,7 +55,8 @@ calls-told script facts m (call ∷ calls) legal asked sees =
 
 -- ---- a lawful market
 
-module _ (script : PlainScript) (facts : IsScript script) (first last : PlainMarketAccounts) (journal : PlainMarketJournal) (lawful : IsLawfulMarket script first last journal) where
+module _ (script : PlainScript) (facts : IsScript script) (first last : PlainMarketAccounts)
+    (journal : PlainMarketJournal) (lawful : IsLawfulMarket script first last journal) where
   abbrev Asks : PlainRow → Type 0
   Asks row = IsAskedIn script.rows (asked_of row)
 
@@ -85,4 +86,5 @@ module _ (script : PlainScript) (facts : IsScript script) (first last : PlainMar
 pub outcome-told : (script : PlainScript) → IsScript script → (outcome : PlainOutcome) → IsLawful script outcome
     → AllThree (TellsHistory script) script.start.markets outcome.accounts.markets outcome.markets
 outcome-told script facts outcome lawful =
-    three-weaker (IsLawfulMarket script) (TellsHistory script) (history-told script facts) script.start.markets outcome.accounts.markets outcome.markets lawful.markets
+    three-weaker (IsLawfulMarket script) (TellsHistory script) (history-told script facts)
+    script.start.markets outcome.accounts.markets outcome.markets lawful.markets

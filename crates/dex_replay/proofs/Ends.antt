@@ -11,7 +11,8 @@ use Rattle.dex_replay.proofs.Starts.{AreOfScript, its-address, market-addresses,
 amounts-of : (cells : List CellState) → All IsWalletCell cells → map account_in cells ≡ with_amounts (map start_account cells) (map wallet_state_of cells)
 amounts-of [] kept = refl
 amounts-of (cell ∷ cells) kept =
-    λ i. record { address = cell.address; bytes = (All-head IsWalletCell cell cells kept).others i } ∷ amounts-of cells (All-tail IsWalletCell cell cells kept) i
+    λ i. record { address = cell.address; bytes = (All-head IsWalletCell cell cells kept).others i }
+    ∷ amounts-of cells (All-tail IsWalletCell cell cells kept) i
 
 module _ (script : PlainScript) (cells : CellsState) (own : AreOfScript script cells) (kept : AreCells cells) where
   pub of-start : IsOfStart script (closed cells)

@@ -25,7 +25,8 @@ in_accounts mint accounts = amount_of mint accounts.coin_vault + amount_of mint 
 accounts-hold : (mint : Address) (accounts : PlainMarketAccounts) → IsAccepted accounts → in_accounts mint accounts ≡ in_market mint (market_in accounts)
 unfolding market_in
 accounts-hold mint accounts is =
-    λ i. cond (is_same mint (is.coin_mint i)) (wallet_words accounts.coin_vault).amount 0 + cond (is_same mint (is.pc_mint i)) (wallet_words accounts.pc_vault).amount 0
+    λ i. cond (is_same mint (is.coin_mint i)) (wallet_words accounts.coin_vault).amount 0
+    + cond (is_same mint (is.pc_mint i)) (wallet_words accounts.pc_vault).amount 0
 
 module _ (mint : Address) where
   -- markets for which accounts stand

@@ -42,7 +42,8 @@ found : (address : Address) (states : List MarketState) → list_any (λ (state 
     → (m : Market) × (market_at address states ≡ Some m)
 found address [] known = absurd (false≢true known)
 found address (state ∷ states) known =
-    cond_both (is_same address state.market.listing.address) (Some state.market) (market_at address states) (λ (one : Option Market). (m : Market) × (one ≡ Some m))
+    cond_both (is_same address state.market.listing.address) (Some state.market) (market_at address states)
+    (λ (one : Option Market). (m : Market) × (one ≡ Some m))
     (λ same. (state.market, refl))
     (λ apart.
     found address states (sym (ap (λ (b : Bool). b || list_any (λ (one : MarketState). is_same address one.market.listing.address) states) apart) ∙ known))
@@ -281,7 +282,8 @@ module _ (script : PlainScript) (start : IsStart script.limits script.start) (do
       → All AreSound firsts → market_at address states ≡ Some m → IsSound m
   sound-at address m [] [] are sound at = absurd (cc)
   sound-at address m (first ∷ firsts) (state ∷ states) are sound at =
-      cond_both (is_same address state.market.listing.address) (Some state.market) (market_at address states) (λ (one : Option Market). one ≡ Some m → IsSound m)
+      cond_both (is_same address state.market.listing.address) (Some state.market) (market_at address states)
+      (λ (one : Option Market). one ≡ Some m → IsSound m)
       (λ same is.
       let own : state.market ≡ m = cc in
       subst IsSound own (history-sound script done first state (All-head AreSound first firsts sound) are.0))

@@ -77,7 +77,8 @@ wallet-seen address [] known = absurd (false≢true known)
 wallet-seen address (state ∷ states) known =
     cond_both (is_same address state.seen.address) (Some state.seen) (wallet_at address states) (λ (one : Option WalletSeen). address_seen one ≡ Some address)
     (λ same. ap (λ (a : Address). Some a) (sym (is_same-true address state.seen.address same)))
-    (λ apart. wallet-seen address states (sym (ap (λ (b : Bool). b || list_any (λ (one : WalletState). is_same address one.seen.address) states) apart) ∙ known))
+    (λ apart.
+    wallet-seen address states (sym (ap (λ (b : Bool). b || list_any (λ (one : WalletState). is_same address one.seen.address) states) apart) ∙ known))
 
 -- wallets of one address are one wallet
 agree : (wallets : List WalletState) (address other : Address) (one two : Option WalletSeen) → one ≡ wallet_at address wallets → two ≡ wallet_at other wallets

@@ -25,7 +25,8 @@ module _ (seen : Seen) (t : Transfers) (address : Address) where
   before-moved (first ∷ others) any =
       let wallet : is_same address (moved first).wallet ≡ is_same address first =
       ap (is_same address) (wallet-movement_by first (balance_seen seen first) (taken_from seen t first) (brought_to seen t first)) in
-      cond_both (is_same address (moved first).wallet) (moved first).before (before_of address (map (movement_of seen t) others)) (λ (n : ℕ). n ≡ balance_seen seen address)
+      cond_both (is_same address (moved first).wallet) (moved first).before (before_of address (map (movement_of seen t) others))
+      (λ (n : ℕ). n ≡ balance_seen seen address)
       (λ same. before-movement seen t first ∙ sym (ap (balance_seen seen) (is_same-true address first (sym wallet ∙ same))))
       (λ apart. before-moved others (sym (ap (λ (b : Bool). b || list_any (is_same address) others) (sym wallet ∙ apart)) ∙ any))
 

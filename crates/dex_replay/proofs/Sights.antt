@@ -44,7 +44,8 @@ each-found (first ∷ states) once =
 pub found-address : (address : Address) (states : List WalletState) (wallet : WalletSeen) → wallet_at address states ≡ Some wallet → address ≡ wallet.address
 found-address address [] wallet found = absurd (cc)
 found-address address (state ∷ states) wallet found =
-    cond_both (is_same address state.seen.address) (Some state.seen) (wallet_at address states) (λ (one : Option WalletSeen). one ≡ Some wallet → address ≡ wallet.address)
+    cond_both (is_same address state.seen.address) (Some state.seen) (wallet_at address states)
+    (λ (one : Option WalletSeen). one ≡ Some wallet → address ≡ wallet.address)
     (λ same here.
     let is : state.seen ≡ wallet = cc in
     is_same-true address state.seen.address same ∙ ap (λ (one : WalletSeen). one.address) is)

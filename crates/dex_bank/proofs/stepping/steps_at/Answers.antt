@@ -22,7 +22,8 @@ returns-then-one-two c =
       are = ap₂ (λ (front back : List MarketCellState). set front one first ++ set back 0 second) parts.front parts.back
           ∙ set-parts markets one two first second c.if-one-two.true c.requires.within.1;
       steps = λ d.
-          subst₂ steps (ap (λ (l : List MarketCellState). get_or l one lower) parts.front ∙ front-at markets two one lower d c.if-one-two.true c.requires.within.0)
+          subst₂ steps
+          (ap (λ (l : List MarketCellState). get_or l one lower) parts.front ∙ front-at markets two one lower d c.if-one-two.true c.requires.within.0)
           (ap (λ (l : List MarketCellState). get_or l 0 upper) parts.back ∙ back-at markets two upper d c.requires.within.1) c.step_two.ensures;
     }
 
