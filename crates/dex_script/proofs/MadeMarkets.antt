@@ -79,7 +79,7 @@ asked (Ok SettleFunds) ix is = absurd (none-some ix is)
 asked (Ok other) ix is = absurd (none-some ix is)
 
 -- what it says: lots of each token, and numbers that fit
-record IsAsked (ix : Ix) : Type 0 where
+pub record IsAsked (ix : Ix) : Type 0 where
   pub coin_lot : 1 ≤ (initial_terms ix).coin_lot
   pub pc_lot : 1 ≤ (initial_terms ix).pc_lot
   pub fits : FitWords (initial_terms ix)
@@ -109,12 +109,10 @@ says other is fits none = absurd is
 pub record IsSet (words : PlainMarketWords) (set : MarketSet) : Type 0 where
   pub ix : Ix
   pub is : market_set words ix ≡ set
-  pub made : IsMarketSet set
-  pub mints : is_same set.coin set.pc ≡ false
-  pub coin_lot : 1 ≤ (initial_terms set.ix).coin_lot
-  pub pc_lot : 1 ≤ (initial_terms set.ix).pc_lot
-  pub wide : HasAddresses set
-  pub fits : FitWords (initial_terms set.ix)
+  pub made : IsMarketSet (market_set words ix)
+  pub mints : is_same words.coin words.pc ≡ false
+  pub wide : HasAddresses (market_set words ix)
+  pub told : IsAsked ix
 
 module _ (words : PlainMarketWords) (stated : IsMarketStated words) (within : exceeds_market words ≡ false) where
   set-made : (ix : Ix) → IsInitialize ix → has_no_room words ≡ false → IsMarketSet (market_set words ix)
@@ -143,21 +141,16 @@ module _ (words : PlainMarketWords) (stated : IsMarketStated words) (within : ex
       let a = unless-ok (is_same words.coin words.pc) (SetupRefused code.OneMint) (found_or found (SetupRefused code.Data) >>= last) set is in
       let b = bind-ok (found_or found (SetupRefused code.Data)) last set a.1 in
       let c = unless-ok (has_no_room words) (SetupRefused code.Capacity) (Ok (market_set words b.0)) set b.2 in
-      let same = ok-same {E = FaultKind} (market_set words b.0) set c.1 in
       let read = asked (decoded words.bytes) b.0 (found-ok found (SetupRefused code.Data) b.0 b.1) in
       let fit = read-fits words.bytes b.0 stated.bytes read.0 in
-      let told = says b.0 read.1 fit.0 fit.1 in
-      let here : IsSet words (market_set words b.0) = record {
+      record {
         ix = b.0;
-        is = refl;
+        is = ok-same {E = FaultKind} (market_set words b.0) set c.1;
         made = set-made b.0 read.1 c.0;
         mints = a.0;
-        coin_lot = told.coin_lot;
-        pc_lot = told.pc_lot;
         wide = record { address = stated.address; coin = stated.coin; pc = stated.pc };
-        fits = told.fits;
-      } in
-      subst (IsSet words) same here
+        told = says b.0 read.1 fit.0 fit.1;
+      }
 
 -- ---- its accounts as they are made
 
