@@ -1,6 +1,7 @@
 -- What a market row asks for can be made, can trade, and stands for a market as it is made.
 use Rattle.std.proofs.Common.{◌≡◌, ◌∙◌, ◌<◌, ◌≤◌, ◌+◌, ◌*◌, ◌-◌, ◌/◌, ◌^◌, [], ◌==◌, ◌||◌, if◌then◌else◌, ℕ, Bool, true, false, List, Option, Some, None, Result, Ok, Err, ap, arith, length, lit<, nat_lt, refl, subst, sym}
-use Rattle.std.proofs.lemmas.Bool.{eqb-false, ltb-false}
+use Rattle.std.proofs.lemmas.Bool.{eqb-false}
+use Rattle.std.proofs.lemmas.Bool.Decides.{nat_tests}
 use Rattle.std.proofs.lemmas.List.{length-set}
 use Rattle.std.proofs.lemmas.List.Elements.{All-nil}
 use Rattle.std.proofs.lemmas.Option.{cond_some, none-some}
@@ -116,22 +117,16 @@ pub record IsSet (words : PlainMarketWords) (set : MarketSet) : Type 0 where
 
 module _ (words : PlainMarketWords) (stated : IsMarketStated words) (within : exceeds_market words ≡ false) where
   set-made : (ix : Ix) → IsInitialize ix → has_no_room words ≡ false → IsMarketSet (market_set words ix)
-  set-made ix is room =
-      let a = or-none ((words.bid_nodes == 0) || (words.ask_nodes == 0)) (words.events == 0) room in
-      let b = or-none (words.bid_nodes == 0) (words.ask_nodes == 0) a.0 in
-      let c = or-none (nat_lt 65536 words.bid_nodes || nat_lt 65536 words.ask_nodes || nat_lt 65535 words.events) (nat_lt 256 (length words.bytes)) within in
-      let d = or-none (nat_lt 65536 words.bid_nodes || nat_lt 65536 words.ask_nodes) (nat_lt 65535 words.events) c.0 in
-      let e = or-none (nat_lt 65536 words.bid_nodes) (nat_lt 65536 words.ask_nodes) d.0 in
-      record {
-        instruction = is;
-        some_bids = omega (arith, eqb-false words.bid_nodes 0 b.0);
-        few_bids = ltb-false 65536 words.bid_nodes e.0;
-        some_asks = omega (arith, eqb-false words.ask_nodes 0 b.1);
-        few_asks = ltb-false 65536 words.ask_nodes e.1;
-        some_events = omega (arith, eqb-false words.events 0 a.1);
-        few_events = ltb-false 65535 words.events d.1;
-        last_byte = stated.last_byte;
-      }
+  set-made ix is room = record {
+    instruction = is;
+    some_bids = grind (arith, nat_tests);
+    few_bids = grind (arith, nat_tests);
+    some_asks = grind (arith, nat_tests);
+    few_asks = grind (arith, nat_tests);
+    some_events = grind (arith, nat_tests);
+    few_events = grind (arith, nat_tests);
+    last_byte = stated.last_byte;
+  }
 
   pub set-is : (set : MarketSet) → set_of words ≡ Ok set → IsSet words set
   unfolding set_of

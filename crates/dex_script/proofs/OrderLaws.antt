@@ -192,18 +192,16 @@ kept-good number before after good kept = by before.is_late refl
 -- ---- all rows
 
 -- a row keeps the instruction rows, is one more, or is a swap
-by-statement : {P : Type 0} (number : ℕ) (before after : PlainDraft) → (Kept before after → P) → ((words : PlainInstruction) → IsOneRow number before after words → P)
-    → ((words : PlainSwap) → IsSwapRow number before after words → P) → (statement : Statement) → with_statement before number statement ≡ Ok after → P
-by-statement number before after kept one two (row.Clock now) is = kept (kept-clock before after now is)
-by-statement number before after kept one two (row.Instruction words) is = one words (instruction-row number before after words is)
-by-statement number before after kept one two (row.Swap words) is = two words (swap-row number before after words is)
-by-statement number before after kept one two setup is = kept (kept-setup number before after setup tt is).0
-
 pub by-row : {P : Type 0} (number : ℕ) (before after : PlainDraft) → (Kept before after → P) → ((words : PlainInstruction) → IsOneRow number before after words → P)
     → ((words : PlainSwap) → IsSwapRow number before after words → P) → (fields : Fields) → with_row before number fields ≡ Ok after → P
 unfolding with_row
-by-row number before after kept one two fields is =
-    let a = bind-ok (statement_of fields) (with_statement before number) after is in by-statement number before after kept one two a.0 a.2
+by-row {P} number before after kept one two fields is = let a = bind-ok (statement_of fields) (with_statement before number) after is in by a.0 a.2
+  where
+    by : (statement : Statement) → with_statement before number statement ≡ Ok after → P
+    by (row.Clock now) told = kept (kept-clock before after now told)
+    by (row.Instruction words) told = one words (instruction-row number before after words told)
+    by (row.Swap words) told = two words (swap-row number before after words told)
+    by setup told = kept (kept-setup number before after setup tt told).0
 
 fault-ok : {A : Type 0} (number : ℕ) (r : Result A FaultKind) (x : A) → fault_in number r ≡ Ok x → r ≡ Ok x
 fault-ok {A} number (Ok y) x is = ap (λ (z : A). Ok z) (ok-same y x is)

@@ -223,17 +223,17 @@ module _ (first before after : PlainDraft) (stays : Stays first before) (number 
   stays-item : (rows : List PlainRow) (lane : ℕ) → with_item before rows lane ≡ after → Stays first after
   stays-item rows lane is = subst (Stays first) is (record { under = record { late = refl; first = refl }; same = λ clock. stays.same clock })
 
-  stays-statement : (statement : Statement) → with_statement before number statement ≡ Ok after → Stays first after
-  stays-statement (row.Clock now) is =
-      subst (Stays first) (ok-same (with_clock before now) after is)
-      (record { under = record { late = stays.under.late; first = refl }; same = λ clock. stays.same clock })
-  stays-statement (row.Instruction words) is = stays-item _ words.lane (instruction-row number before after words is).is
-  stays-statement (row.Swap words) is = stays-item _ words.lane (swap-row number before after words is).is
-  stays-statement setup is = absurd ((kept-setup number before after setup tt is).1 stays.under)
-
   stays-row : (fields : Fields) → with_row before number fields ≡ Ok after → Stays first after
   unfolding with_row
-  stays-row fields is = let a = bind-ok (statement_of fields) (with_statement before number) after is in stays-statement a.0 a.2
+  stays-row fields is = let a = bind-ok (statement_of fields) (with_statement before number) after is in by a.0 a.2
+    where
+      by : (statement : Statement) → with_statement before number statement ≡ Ok after → Stays first after
+      by (row.Clock now) told =
+          subst (Stays first) (ok-same (with_clock before now) after told)
+          (record { under = record { late = stays.under.late; first = refl }; same = λ clock. stays.same clock })
+      by (row.Instruction words) told = stays-item _ words.lane (instruction-row number before after words told).is
+      by (row.Swap words) told = stays-item _ words.lane (swap-row number before after words told).is
+      by setup told = absurd ((kept-setup number before after setup tt told).1 stays.under)
 
 pub stays-behind : (first : PlainDraft) (number : ℕ) (last : PlainDraft) (rows : List Fields) → IsUnderway first → draft_after first number rows ≡ Ok last
     → Stays first last

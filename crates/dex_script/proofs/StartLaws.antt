@@ -52,29 +52,27 @@ nothing-declared limits are batch = record {
   backed = All-nil (IsBacked []);
 }
 
-by-statement : (number : ℕ) (before after : PlainDraft) (statement : Statement) → IsDeclared before → IsStated statement
-    → with_statement before number statement ≡ Ok after → IsDeclared after
-by-statement number before after (row.Program program) so stated is =
-    subst IsDeclared (program-row before after program is).1 (record { declared = so.declared; taken = so.taken; backed = so.backed })
-by-statement number before after (row.Clock now) so stated is =
-    subst IsDeclared (clock-row before after now is) (record { declared = so.declared; taken = so.taken; backed = so.backed })
-by-statement number before after (row.Mint address decimals) so stated is = mint-declared before after so address decimals stated (mint-row before after address decimals is)
-by-statement number before after (row.Srm mint) so stated is = srm-declared before after so mint (srm-row before after mint is)
-by-statement number before after (row.Msrm mint) so stated is = msrm-declared before after so mint (msrm-row before after mint is)
-by-statement number before after (row.Wallet address mint owner amount) so stated is =
-    wallet-declared before after so address mint owner amount stated (wallet-row before after address mint owner amount is)
-by-statement number before after (row.Market words) so stated is = market-declared before after so words stated (market-row before after words is)
-by-statement number before after (row.Orders market address) so stated is = orders-declared before after so market address (orders-row before after market address is)
-by-statement number before after (row.Instruction words) so stated is =
-    subst IsDeclared (instruction-row number before after words is).is (record { declared = so.declared; taken = so.taken; backed = so.backed })
-by-statement number before after (row.Swap words) so stated is =
-    subst IsDeclared (swap-row number before after words is).is (record { declared = so.declared; taken = so.taken; backed = so.backed })
-
 by-row : (number : ℕ) (before after : PlainDraft) (fields : Fields) → IsDeclared before → with_row before number fields ≡ Ok after → IsDeclared after
 unfolding with_row
 by-row number before after fields so is =
-    let a = bind-ok (statement_of fields) (with_statement before number) after is in
-    by-statement number before after a.0 so (row-stated fields a.0 a.1) a.2
+    let a = bind-ok (statement_of fields) (with_statement before number) after is in by a.0 (row-stated fields a.0 a.1) a.2
+  where
+    by : (statement : Statement) → IsStated statement → with_statement before number statement ≡ Ok after → IsDeclared after
+    by (row.Program program) stated told =
+        subst IsDeclared (program-row before after program told).1 (record { declared = so.declared; taken = so.taken; backed = so.backed })
+    by (row.Clock now) stated told =
+        subst IsDeclared (clock-row before after now told) (record { declared = so.declared; taken = so.taken; backed = so.backed })
+    by (row.Mint address decimals) stated told = mint-declared before after so address decimals stated (mint-row before after address decimals told)
+    by (row.Srm mint) stated told = srm-declared before after so mint (srm-row before after mint told)
+    by (row.Msrm mint) stated told = msrm-declared before after so mint (msrm-row before after mint told)
+    by (row.Wallet address mint owner amount) stated told =
+        wallet-declared before after so address mint owner amount stated (wallet-row before after address mint owner amount told)
+    by (row.Market words) stated told = market-declared before after so words stated (market-row before after words told)
+    by (row.Orders market address) stated told = orders-declared before after so market address (orders-row before after market address told)
+    by (row.Instruction words) stated told =
+        subst IsDeclared (instruction-row number before after words told).is (record { declared = so.declared; taken = so.taken; backed = so.backed })
+    by (row.Swap words) stated told =
+        subst IsDeclared (swap-row number before after words told).is (record { declared = so.declared; taken = so.taken; backed = so.backed })
 
 -- what rows without a dump give
 pub plain-start : (limits : Limits) → AreLimits limits → (batch : Bool) (rows : List Fields) (draft : PlainDraft)
