@@ -1,7 +1,6 @@
 -- A script for batches is the same script for any other command; and one without a swap is a script for batches.
 use Rattle.std.proofs.Common.{◌≡◌, ◌∙◌, ◌+◌, ◌^◌, ◌<◌, ◌||◌, ◌⊎◌, ℕ, Bool, true, false, not, nat_le, List, [], ◌∷◌, ◌++◌, Result, Ok, Err, ap, arith, get_or, inl, inr, length, length-append, refl, subst, sym, ⊎_elim}
 use Rattle.std.proofs.lemmas.Grind.{common_steps}
-use Rattle.dex_types.specs.declared.addresses.Address.{Address}
 use Rattle.dex_types.specs.declared.terms.Program.{Program}
 use Rattle.dex_types.specs.Rows.{PlainRow}
 use Rattle.dex_rows.specs.Records.{rows_of}
@@ -15,7 +14,7 @@ use Rattle.dex_statement.specs.declared.faults.FaultKind.TheVariants.{UnknownLab
 use Rattle.dex_statement.specs.declared.statement.Statement.{Statement}
 use Rattle.dex_statement.specs.declared.statement.Statement.TheVariants as row
 use Rattle.dex_statement.specs.Faults.{◌>>=◌, found_or, unless}
-use Rattle.dex_statement.specs.Stated.{PlainInstruction, PlainMarketWords, PlainSwap}
+use Rattle.dex_statement.specs.Stated.{PlainSwap}
 use Rattle.dex_statement.specs.Statements.{statement_of}
 use Rattle.dex_statement.specs.Words.{Fields}
 use Rattle.dex_script_types.specs.PlainScript.{PlainScript}
@@ -27,7 +26,7 @@ use Rattle.dex_script.specs.Rows.{checked_name, checked_new, exceeds_market, exc
 use Rattle.dex_script.specs.Scripts.{AnswersBy, ReadsWithin, Refusal, begins_with_dump, behind, draft_after, fault_in, script_from, unless_found}
 use Rattle.dex_script.proofs.FaultLaws.{bind-ok, differ, no-error, ok-same}
 use Rattle.dex_script.proofs.ItemRows.{IsSwapRow, first_leg, second_leg, swap-row}
-use Rattle.dex_script.proofs.OrderLaws.{by-row, first-row, last_script, through}
+use Rattle.dex_script.proofs.OrderLaws.{by-row, first-row, last_script, none-found, through}
 
 -- a draft as it is for another command
 abbrev other_use : Bool → PlainDraft → PlainDraft
@@ -48,52 +47,6 @@ module _ (b : Bool) where
       → (r >>= other) ≡ other_left b (r >>= next)
   bind-other (Ok x) next other each = each x
   bind-other (Err kind) next other each = refl
-
--- ---- rows that are no swap
-
-module _ (b : Bool) (draft : PlainDraft) where
-  program-other : (program : Program) → with_program (other_use b draft) program ≡ other_left b (with_program draft program)
-  unfolding with_program
-  program-other program = unless-other b (not draft.is_first) _ _ _ refl
-
-  mint-other : (address : Address) (decimals : ℕ) → with_mint (other_use b draft) address decimals ≡ other_left b (with_mint draft address decimals)
-  unfolding with_mint checked_new
-  mint-other address decimals = bind-other b (checked_new draft (is_among address draft.taken) (nat_le draft.script.limits.mints (length draft.script.start.mints))) _ _ (λ _. refl)
-
-  srm-other : (mint : Address) → with_srm (other_use b draft) mint ≡ other_left b (with_srm draft mint)
-  unfolding with_srm checked_name
-  srm-other mint = bind-other b (checked_name draft mint draft.script.start.srm 6) _ _ (λ _. refl)
-
-  msrm-other : (mint : Address) → with_msrm (other_use b draft) mint ≡ other_left b (with_msrm draft mint)
-  unfolding with_msrm checked_name
-  msrm-other mint = bind-other b (checked_name draft mint draft.script.start.msrm 0) _ _ (λ _. refl)
-
-  wallet-other : (address mint owner : Address) (amount : ℕ)
-      → with_wallet (other_use b draft) address mint owner amount ≡ other_left b (with_wallet draft address mint owner amount)
-  unfolding with_wallet checked_new
-  wallet-other address mint owner amount =
-      bind-other b (found_or (mint_at mint draft.script.start.mints) UnknownLabel) _ _ (λ words.
-      bind-other b (checked_new draft (is_among address draft.taken) (nat_le draft.script.limits.wallets (length draft.script.start.wallets))) _ _ (λ _.
-      unless-other b (nat_le (2 ^ 64) (words.supply + amount)) _ _ _ refl))
-
-  market-other : (words : PlainMarketWords) → with_market (other_use b draft) words ≡ other_left b (with_market draft words)
-  unfolding with_market checked_new
-  market-other words =
-      let full = nat_le draft.script.limits.markets (length draft.script.start.markets) || exceeds_market words in
-      unless-other b (not (has_account words.coin draft.script.start.mints) || not (has_account words.pc draft.script.start.mints)) _ _ _
-      (bind-other b (checked_new draft (is_any_among (made_addresses words.address) draft.taken) full) _ _ (λ _. bind-other b (set_of words) _ _ (λ set. refl)))
-
-  orders-other : (market address : Address) → with_orders_row (other_use b draft) market address ≡ other_left b (with_orders_row draft market address)
-  unfolding with_orders_row checked_new
-  orders-other market address =
-      bind-other b (found_or (orders_at market draft.script.start.markets) UnknownLabel) _ _ (λ count.
-      bind-other b (checked_new draft (is_among address draft.taken) (nat_le draft.script.limits.orders count)) _ _ (λ _. refl))
-
-  instruction-other : (number : ℕ) (words : PlainInstruction)
-      → with_instruction (other_use b draft) number words ≡ other_left b (with_instruction draft number words)
-  unfolding with_instruction with_known
-  instruction-other number words =
-      unless-other b (is_unknown draft.script.start words.parties) _ _ _ (unless-other b (is_full draft number || exceeds_row words) _ _ _ refl)
 
 -- ---- no swap stands before, where none does in the end
 
@@ -131,15 +84,27 @@ IsSwapless number before after = (words : PlainSwap) → IsSwapRow number before
 module _ (b : Bool) (number : ℕ) (before after : PlainDraft) where
   statement-other : IsSwapless number before after → (statement : Statement) → with_statement before number statement ≡ Ok after
       → with_statement (other_use b before) number statement ≡ other_left b (with_statement before number statement)
-  statement-other none (row.Program program) is = program-other b before program
+  unfolding with_program with_mint with_srm with_msrm with_wallet with_market with_orders_row with_instruction with_known checked_new checked_name
+  statement-other none (row.Program program) is = unless-other b (not before.is_first) _ _ _ refl
   statement-other none (row.Clock now) is = refl
-  statement-other none (row.Mint address decimals) is = mint-other b before address decimals
-  statement-other none (row.Srm mint) is = srm-other b before mint
-  statement-other none (row.Msrm mint) is = msrm-other b before mint
-  statement-other none (row.Wallet address mint owner amount) is = wallet-other b before address mint owner amount
-  statement-other none (row.Market words) is = market-other b before words
-  statement-other none (row.Orders market address) is = orders-other b before market address
-  statement-other none (row.Instruction words) is = instruction-other b before number words
+  statement-other none (row.Mint address decimals) is =
+      bind-other b (checked_new before (is_among address before.taken) (nat_le before.script.limits.mints (length before.script.start.mints))) _ _ (λ _. refl)
+  statement-other none (row.Srm mint) is = bind-other b (checked_name before mint before.script.start.srm 6) _ _ (λ _. refl)
+  statement-other none (row.Msrm mint) is = bind-other b (checked_name before mint before.script.start.msrm 0) _ _ (λ _. refl)
+  statement-other none (row.Wallet address mint owner amount) is =
+      bind-other b (found_or (mint_at mint before.script.start.mints) UnknownLabel) _ _ (λ words.
+      bind-other b (checked_new before (is_among address before.taken) (nat_le before.script.limits.wallets (length before.script.start.wallets))) _ _ (λ _.
+      unless-other b (nat_le (2 ^ 64) (words.supply + amount)) _ _ _ refl))
+  statement-other none (row.Market words) is =
+      let mints = before.script.start.mints in
+      let full = nat_le before.script.limits.markets (length before.script.start.markets) || exceeds_market words in
+      unless-other b (not (has_account words.coin mints) || not (has_account words.pc mints)) _ _ _
+      (bind-other b (checked_new before (is_any_among (made_addresses words.address) before.taken) full) _ _ (λ _. bind-other b (set_of words) _ _ (λ set. refl)))
+  statement-other none (row.Orders market address) is =
+      bind-other b (found_or (orders_at market before.script.start.markets) UnknownLabel) _ _ (λ count.
+      bind-other b (checked_new before (is_among address before.taken) (nat_le before.script.limits.orders count)) _ _ (λ _. refl))
+  statement-other none (row.Instruction words) is =
+      unless-other b (is_unknown before.script.start words.parties) _ _ _ (unless-other b (is_full before number || exceeds_row words) _ _ _ refl)
   statement-other none (row.Swap words) is = absurd (none words (swap-row number before after words is))
 
   row-other : IsSwapless number before after → (fields : Fields) → with_row before number fields ≡ Ok after
@@ -194,18 +159,15 @@ from-rows b number draft rows script quiet is =
 
 -- ---- a script
 
-unless-none : (found : List Finding) (next other : Result PlainScript Refusal) (script : PlainScript) → (Ok script ≡ next → Ok script ≡ other)
-    → Ok script ≡ unless_found found next → Ok script ≡ unless_found found other
-unless-none [] next other script same is = same is
-unless-none (finding ∷ found) next other script same is = absurd (no-error _ script (sym is))
-
 from-dump : (limits : Limits) (batch b : Bool) (dump : PlainAnswer) (script : PlainScript) → (batch ≡ true) ⊎ HasNoSwap script.rows → Ok script ≡ behind limits batch dump
     → Ok script ≡ behind limits b dump
 from-dump limits batch b (Err fault) script quiet is = absurd (no-error _ script (sym is))
 from-dump limits batch b (Ok dump) script quiet is =
-    unless-none (findings dump.accounts) (script_from (behind_dump limits batch dump.accounts) (next_number dump.count) dump.behind)
-    (script_from (behind_dump limits b dump.accounts) (next_number dump.count) dump.behind) script
-    (from-rows b (next_number dump.count) (behind_dump limits batch dump.accounts) dump.behind script quiet) is
+    let draft = behind_dump limits batch dump.accounts in
+    let number = next_number dump.count in
+    let a = none-found (findings dump.accounts) (script_from draft number dump.behind) script is in
+    from-rows b number draft dump.behind script quiet a.1
+    ∙ ap (λ (fs : List Finding). unless_found fs (script_from (other_use b draft) number dump.behind)) (sym a.0)
 
 by-answer : (limits : Limits) (batch b begins : Bool) (rows : List Fields) (script : PlainScript) → (batch ≡ true) ⊎ HasNoSwap script.rows
     → AnswersBy limits batch begins rows (Ok script) → AnswersBy limits b begins rows (Ok script)

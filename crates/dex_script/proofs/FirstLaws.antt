@@ -1,10 +1,11 @@
 -- The first element that passes a test, by its place.
-use Rattle.std.proofs.Common.{◌≡◌, ◌<◌, ◌≤◌, ◌∙◌, ℕ, Bool, true, false, if◌then◌else◌, List, [], ◌∷◌, ◌++◌, Some, None, ap, arith, drop, get_or, length, map, refl, set, suc, zero, take}
+use Rattle.std.proofs.Common.{◌≡◌, ◌<◌, ◌≤◌, ◌∙◌, ℕ, Bool, true, false, if◌then◌else◌, List, [], ◌∷◌, ◌++◌, Some, None, ap, arith, drop, get_or, inl, inr, length, map, refl, set, suc, zero, take}
+use Rattle.std.proofs.lemmas.Bool.{cases_Bool}
 use Rattle.std.proofs.lemmas.Grind.{common_steps}
 use Rattle.std.proofs.lemmas.List.{append-nil, drop_all, take_all}
 use Rattle.std.proofs.lemmas.List.Quantifiers.{position-Some}
 use Rattle.std.proofs.lemmas.List.Sums.{fails_before_first}
-use Rattle.std.proofs.lemmas.List.Elements.{All-cons}
+use Rattle.std.proofs.lemmas.List.Elements.{All-cons, All-head, All-tail}
 use Rattle.std.specs.List.{All, position, position_or_len}
 use Rattle.dex_script_types.specs.Firsts.{first_of, with_first}
 
@@ -60,15 +61,29 @@ changed-none {X} {Y} test change f (x ∷ xs) none =
 
 -- ---- a change in a list of the same length
 
-length_either : {X : Type 0} (b : Bool) (xs ys : List X) (n : ℕ) → length xs ≡ n → length ys ≡ n → length (if b then xs else ys) ≡ n
-length_either true xs ys n here there = here
-length_either false xs ys n here there = there
-
 pub length-with_first : {X : Type 0} (test : X → Bool) (change : X → X) (xs : List X) → length (with_first test change xs) ≡ length xs
 length-with_first test change [] = refl
-length-with_first test change (x ∷ xs) =
-    length_either (test x) (change x ∷ xs) (x ∷ with_first test change xs) (length (x ∷ xs)) refl
-    (ap (λ (n : ℕ). suc n) (length-with_first test change xs))
+length-with_first test change (x ∷ xs) = elim (cases_Bool (test x)) [
+  | inl here ↦ rw here refl
+  | inr other ↦ rw other (ap suc (length-with_first test change xs))
+]
+
+-- a change that leaves what is told of each leaves what is told of all, and of the first that passes a test
+pub map-changed : {X Y : Type 0} (told : X → Y) (test : X → Bool) (change : X → X) → ((x : X) → told (change x) ≡ told x) → (xs : List X)
+    → map told (with_first test change xs) ≡ map told xs
+map-changed told test change same [] = refl
+map-changed {X} {Y} told test change same (x ∷ xs) = elim (cases_Bool (test x)) [
+  | inl here ↦ rw here (ap (λ (y : Y). y ∷ map told xs) (same x))
+  | inr other ↦ rw other (ap (λ (ys : List Y). told x ∷ ys) (map-changed told test change same xs))
+]
+
+pub first-changed : {X Y : Type 0} (seen : X → Bool) (told : X → Y) (test : X → Bool) (change : X → X) → ((x : X) → seen (change x) ≡ seen x)
+    → ((x : X) → told (change x) ≡ told x) → (xs : List X) → first_of seen told (with_first test change xs) ≡ first_of seen told xs
+first-changed seen told test change passes same [] = refl
+first-changed seen told test change passes same (x ∷ xs) = elim (cases_Bool (test x)) [
+  | inl here ↦ rw here (rw (passes x, same x) refl)
+  | inr other ↦ rw other (rw (first-changed seen told test change passes same xs) refl)
+]
 
 -- a buffer whose slice was written, by a list of the same length
 pub written-back : {X : Type 0} (count : ℕ) (old new : List X) → count ≡ length old → length new ≡ length old
@@ -83,17 +98,11 @@ pub all_either : {X : Type 0} (P : X → Type 0) (b : Bool) (xs ys : List X) →
 all_either P true xs ys here there = here
 all_either P false xs ys here there = there
 
-pub all_first : {X : Type 0} (P : X → Type 0) (x : X) (xs : List X) → All P (x ∷ xs) → P x
-all_first P x xs all = all zero x (omega arith)
-
-pub all_others : {X : Type 0} (P : X → Type 0) (x : X) (xs : List X) → All P (x ∷ xs) → All P xs
-all_others P x xs all = λ k d below. all (suc k) d (omega arith)
-
 -- a change keeps what holds of each
 pub all-changed : {X : Type 0} (P : X → Type 0) (test : X → Bool) (change : X → X) → ((x : X) → P x → P (change x)) → (xs : List X)
     → All P xs → All P (with_first test change xs)
 all-changed P test change keeps [] all = all
 all-changed P test change keeps (x ∷ xs) all =
     all_either P (test x) (change x ∷ xs) (x ∷ with_first test change xs)
-    (All-cons P (change x) xs (keeps x (all_first P x xs all)) (all_others P x xs all))
-    (All-cons P x (with_first test change xs) (all_first P x xs all) (all-changed P test change keeps xs (all_others P x xs all)))
+    (All-cons P (change x) xs (keeps x (All-head P x xs all)) (All-tail P x xs all))
+    (All-cons P x (with_first test change xs) (All-head P x xs all) (all-changed P test change keeps xs (All-tail P x xs all)))

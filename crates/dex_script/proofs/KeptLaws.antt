@@ -1,5 +1,5 @@
 -- What rows that are no instructions leave.
-use Rattle.std.proofs.Common.{◌≡◌, ◌∙◌, ◌∷◌, [], ℕ, ℤ, Bool, true, false, not, List, Result, Ok, arith, length-append, refl, subst, sym}
+use Rattle.std.proofs.Common.{◌≡◌, ◌∙◌, ◌∷◌, [], ℕ, ℤ, Bool, true, false, not, List, Result, Ok, ap, arith, length-append, refl, subst, sym}
 use Rattle.dex_types.specs.declared.addresses.Address.{Address}
 use Rattle.dex_types.specs.declared.terms.Program.{Program}
 use Rattle.dex_world.specs.declared.places.RowPlaces.{RowPlaces}
@@ -16,6 +16,7 @@ use Rattle.dex_statement.specs.declared.statement.Statement.TheVariants as row
 use Rattle.dex_script_types.specs.Places.{AreBeside, ArePlaced}
 use Rattle.dex_script.specs.Drafts.{PlainDraft}
 use Rattle.dex_script.specs.Names.{AreFew, IsReading}
+use Rattle.dex_script.specs.Pieces.{IsUnderway}
 use Rattle.dex_script.specs.Rows.{IsSetup, with_clock, with_program, with_statement}
 use Rattle.dex_script.proofs.FaultLaws.{differ, ok-same, unless-ok}
 use Rattle.dex_script.proofs.StartOrders.{length-grown}
@@ -32,20 +33,26 @@ pub record Kept (before after : PlainDraft) : Type 0 where
   pub start : before.is_late ≡ true → after.script.start ≡ before.script.start
   pub few : AreFew before.script.limits before.script.start → AreFew after.script.limits after.script.start
 
+-- a row that comes too late behind an instruction row keeps what it keeps
+abbrev IsEarly : PlainDraft → PlainDraft → Type 0
+IsEarly before after = Kept before after × (IsUnderway before → ⊥)
+
 declared : (draft : PlainDraft) (new : List Address) (start : PlainAccounts) (after : PlainDraft) → Declares draft new start after
-    → (AreFew draft.script.limits draft.script.start → AreFew draft.script.limits start) → Kept draft after
-declared draft new start after row few =
-    subst (Kept draft) row.leaves
-    (record { rows = refl; lanes = refl; items = refl; batch = refl; late = refl; limits = refl; start = λ late. absurd (differ (sym late ∙ row.early)); few = few })
+    → (AreFew draft.script.limits draft.script.start → AreFew draft.script.limits start) → IsEarly draft after
+declared draft new start after row few = (
+  subst (Kept draft) row.leaves
+      (record { rows = refl; lanes = refl; items = refl; batch = refl; late = refl; limits = refl; start = λ late. absurd (differ (sym late ∙ row.early)); few = few }),
+  λ under. differ (sym under.late ∙ row.early),
+)
 
 module _ (draft : PlainDraft) (after : PlainDraft) where
   -- a row that chooses the program or sets the clock leaves the accounts, and what is taken
   pub program-row : (program : Program) → with_program draft program ≡ Ok after
-      → record draft { script = record draft.script { program = program }; is_first = false } ≡ after
+      → (not draft.is_first ≡ false) × (record draft { script = record draft.script { program = program }; is_first = false } ≡ after)
   unfolding with_program
   program-row program is =
       let next = record draft { script = record draft.script { program = program }; is_first = false } in
-      ok-same {E = FaultKind} next after (unless-ok (not draft.is_first) (SetupRefused code.Program) (Ok next) after is).1
+      let a = unless-ok (not draft.is_first) (SetupRefused code.Program) (Ok next) after is in (a.0, ok-same {E = FaultKind} next after a.1)
 
   pub clock-row : (now : ℤ) → ◌≡◌ {A = Result PlainDraft FaultKind} (Ok (with_clock draft now)) (Ok after) → with_clock draft now ≡ after
   clock-row now is = ok-same (with_clock draft now) after is
@@ -53,13 +60,15 @@ module _ (draft : PlainDraft) (after : PlainDraft) where
   pub kept-clock : (now : ℤ) → ◌≡◌ {A = Result PlainDraft FaultKind} (Ok (with_clock draft now)) (Ok after) → Kept draft after
   kept-clock now is = subst (Kept draft) (clock-row now is) (record { rows = refl; lanes = refl; items = refl; batch = refl; late = refl; limits = refl; start = λ late. refl; few = λ few. few })
 
--- a row that declares accounts or chooses the program
+-- a row that declares accounts or chooses the program, which comes too late behind an instruction row
 pub kept-setup : (number : ℕ) (before after : PlainDraft) (statement : Statement) → IsSetup statement
-    → with_statement before number statement ≡ Ok after → Kept before after
+    → with_statement before number statement ≡ Ok after → IsEarly before after
 kept-setup number before after (row.Program program) setup is =
-    subst (Kept before) (program-row before after program is)
-    (record { rows = refl; lanes = refl; items = refl; batch = refl; late = refl; limits = refl; start = λ late. refl; few = λ few. few })
-kept-setup number before after (row.Clock now) setup is = absurd setup
+    let row = program-row before after program is in (
+      subst (Kept before) row.1
+          (record { rows = refl; lanes = refl; items = refl; batch = refl; late = refl; limits = refl; start = λ late. refl; few = λ few. few }),
+      λ under. differ (sym (ap not under.first) ∙ row.0),
+    )
 kept-setup number before after (row.Mint address decimals) setup is =
     declared before _ _ after (mint-row before after address decimals is).declares (λ few. record { within = few.within; markets = few.markets; wallets = few.wallets })
 kept-setup number before after (row.Srm mint) setup is =
@@ -82,8 +91,7 @@ kept-setup number before after (row.Orders market address) setup is =
       markets = omega (arith, few.markets, length-grown market (blank_account address) before.script.start.markets);
       wallets = few.wallets;
     })
-kept-setup number before after (row.Instruction words) setup is = absurd setup
-kept-setup number before after (row.Swap words) setup is = absurd setup
+kept-setup number before after other setup is = absurd setup
 
 -- ---- what a reader knows stays
 
@@ -92,10 +100,7 @@ none-placed : (start : PlainAccounts) (rows : List PlainRow) (places : List RowP
     → ArePlaced other rows places
 none-placed start [] [] other none are = tt
 none-placed start [] (place ∷ places) other none are = absurd are
-none-placed start (row ∷ rows) places other none are = absurd (some row rows none)
-  where
-    some : (row : PlainRow) (rows : List PlainRow) → ◌≡◌ {A = List PlainRow} (row ∷ rows) [] → ⊥
-    some row rows is = cc
+none-placed start (row ∷ rows) places other none are = absurd (cc)
 
 pub kept-reading : (before after : PlainDraft) (places : List RowPlaces) → Kept before after → IsReading before places → IsReading after places
 kept-reading before after places kept reading = record {

@@ -16,7 +16,6 @@ pub mod StatedLaws
 pub mod MadeMarkets
 pub mod StartAddresses
 pub mod StartMints
-pub mod DistinctOrders
 pub mod Started
 pub mod StartSupplies
 pub mod StartOrders

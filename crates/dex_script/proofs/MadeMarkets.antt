@@ -1,6 +1,7 @@
 -- What a market row asks for can be made, can trade, and stands for a market as it is made.
 use Rattle.std.proofs.Common.{◌≡◌, ◌∙◌, ◌<◌, ◌≤◌, ◌+◌, ◌*◌, ◌-◌, ◌/◌, ◌^◌, [], ◌==◌, ◌||◌, if◌then◌else◌, ℕ, Bool, true, false, List, Option, Some, None, Result, Ok, Err, ap, arith, length, lit<, nat_lt, refl, subst, sym}
-use Rattle.std.proofs.lemmas.Bool.{eqb-false, ltb-false}
+use Rattle.std.proofs.lemmas.Bool.{eqb-false}
+use Rattle.std.proofs.lemmas.Bool.Decides.{nat_tests}
 use Rattle.std.proofs.lemmas.List.{length-set}
 use Rattle.std.proofs.lemmas.List.Elements.{All-nil}
 use Rattle.std.proofs.lemmas.Option.{cond_some, none-some}
@@ -79,7 +80,7 @@ asked (Ok SettleFunds) ix is = absurd (none-some ix is)
 asked (Ok other) ix is = absurd (none-some ix is)
 
 -- what it says: lots of each token, and numbers that fit
-record IsAsked (ix : Ix) : Type 0 where
+pub record IsAsked (ix : Ix) : Type 0 where
   pub coin_lot : 1 ≤ (initial_terms ix).coin_lot
   pub pc_lot : 1 ≤ (initial_terms ix).pc_lot
   pub fits : FitWords (initial_terms ix)
@@ -109,31 +110,23 @@ says other is fits none = absurd is
 pub record IsSet (words : PlainMarketWords) (set : MarketSet) : Type 0 where
   pub ix : Ix
   pub is : market_set words ix ≡ set
-  pub made : IsMarketSet set
-  pub mints : is_same set.coin set.pc ≡ false
-  pub coin_lot : 1 ≤ (initial_terms set.ix).coin_lot
-  pub pc_lot : 1 ≤ (initial_terms set.ix).pc_lot
-  pub wide : HasAddresses set
-  pub fits : FitWords (initial_terms set.ix)
+  pub made : IsMarketSet (market_set words ix)
+  pub mints : is_same words.coin words.pc ≡ false
+  pub wide : HasAddresses (market_set words ix)
+  pub told : IsAsked ix
 
 module _ (words : PlainMarketWords) (stated : IsMarketStated words) (within : exceeds_market words ≡ false) where
   set-made : (ix : Ix) → IsInitialize ix → has_no_room words ≡ false → IsMarketSet (market_set words ix)
-  set-made ix is room =
-      let a = or-none ((words.bid_nodes == 0) || (words.ask_nodes == 0)) (words.events == 0) room in
-      let b = or-none (words.bid_nodes == 0) (words.ask_nodes == 0) a.0 in
-      let c = or-none (nat_lt 65536 words.bid_nodes || nat_lt 65536 words.ask_nodes || nat_lt 65535 words.events) (nat_lt 256 (length words.bytes)) within in
-      let d = or-none (nat_lt 65536 words.bid_nodes || nat_lt 65536 words.ask_nodes) (nat_lt 65535 words.events) c.0 in
-      let e = or-none (nat_lt 65536 words.bid_nodes) (nat_lt 65536 words.ask_nodes) d.0 in
-      record {
-        instruction = is;
-        some_bids = omega (arith, eqb-false words.bid_nodes 0 b.0);
-        few_bids = ltb-false 65536 words.bid_nodes e.0;
-        some_asks = omega (arith, eqb-false words.ask_nodes 0 b.1);
-        few_asks = ltb-false 65536 words.ask_nodes e.1;
-        some_events = omega (arith, eqb-false words.events 0 a.1);
-        few_events = ltb-false 65535 words.events d.1;
-        last_byte = stated.last_byte;
-      }
+  set-made ix is room = record {
+    instruction = is;
+    some_bids = grind (arith, nat_tests);
+    few_bids = grind (arith, nat_tests);
+    some_asks = grind (arith, nat_tests);
+    few_asks = grind (arith, nat_tests);
+    some_events = grind (arith, nat_tests);
+    few_events = grind (arith, nat_tests);
+    last_byte = stated.last_byte;
+  }
 
   pub set-is : (set : MarketSet) → set_of words ≡ Ok set → IsSet words set
   unfolding set_of
@@ -143,21 +136,16 @@ module _ (words : PlainMarketWords) (stated : IsMarketStated words) (within : ex
       let a = unless-ok (is_same words.coin words.pc) (SetupRefused code.OneMint) (found_or found (SetupRefused code.Data) >>= last) set is in
       let b = bind-ok (found_or found (SetupRefused code.Data)) last set a.1 in
       let c = unless-ok (has_no_room words) (SetupRefused code.Capacity) (Ok (market_set words b.0)) set b.2 in
-      let same = ok-same {E = FaultKind} (market_set words b.0) set c.1 in
       let read = asked (decoded words.bytes) b.0 (found-ok found (SetupRefused code.Data) b.0 b.1) in
       let fit = read-fits words.bytes b.0 stated.bytes read.0 in
-      let told = says b.0 read.1 fit.0 fit.1 in
-      let here : IsSet words (market_set words b.0) = record {
+      record {
         ix = b.0;
-        is = refl;
+        is = ok-same {E = FaultKind} (market_set words b.0) set c.1;
         made = set-made b.0 read.1 c.0;
         mints = a.0;
-        coin_lot = told.coin_lot;
-        pc_lot = told.pc_lot;
         wide = record { address = stated.address; coin = stated.coin; pc = stated.pc };
-        fits = told.fits;
-      } in
-      subst (IsSet words) same here
+        told = says b.0 read.1 fit.0 fit.1;
+      }
 
 -- ---- its accounts as they are made
 

@@ -1,7 +1,7 @@
 -- The first market of an address, by its place among the markets.
-use Rattle.std.proofs.Common.{◌≡◌, ◌<◌, ◌∙◌, ◌∷◌, [], ◌++◌, ℕ, Bool, if◌then◌else◌, List, Some, None, Result, Ok, Err, OnOk, ap, arith, get_or, length, map, refl, set, subst, sym}
+use Rattle.std.proofs.Common.{◌≡◌, ◌<◌, ◌∙◌, ◌∷◌, [], ◌++◌, ℕ, Bool, if◌then◌else◌, List, Some, None, ap, get_or, length, map, refl, set, subst, sym}
 use Rattle.std.specs.List.{position}
-use Rattle.std.proofs.lemmas.List.{get_or-map, length-map, map-id}
+use Rattle.std.proofs.lemmas.List.{map-id}
 use Rattle.dex_market.specs.MarketAccount.{IsMarket}
 use Rattle.dex_script.specs.Markets.{AreMarkets}
 use Rattle.dex_types.specs.declared.account_bytes.MarketAccounts.{MarketAccounts}
@@ -9,6 +9,7 @@ use Rattle.dex_types.specs.declared.addresses.Address.{Address}
 use Rattle.dex_types.specs.Accounts.{PlainAccount, PlainMarketAccounts, market_accounts_of}
 use Rattle.dex_types.specs.Addresses.{is_same}
 use Rattle.dex_dump.specs.Reading.{with_orders}
+use Rattle.dex_world.proofs.MappedLists.{All-unmap}
 use Rattle.dex_script_types.specs.Firsts.{with_first}
 use Rattle.dex_script.proofs.FirstLaws.{changed-at, changed-none, first-at, first-none, is-first, none-passes}
 use Rattle.dex_script.specs.Known.{orders_at}
@@ -17,7 +18,7 @@ abbrev pub has : Address → PlainMarketAccounts → Bool
 has address market = is_same address market.address
 
 -- a market with one more open-orders account
-abbrev with_one : PlainAccount → PlainMarketAccounts → PlainMarketAccounts
+abbrev pub with_one : PlainAccount → PlainMarketAccounts → PlainMarketAccounts
 with_one account market = record market { orders = market.orders ++ account ∷ [] }
 
 pub with_orders-first : (address : Address) (account : PlainAccount) (markets : List PlainMarketAccounts)
@@ -61,15 +62,8 @@ no-orders-added address account markets none =
     ∙ ap (with_first (has address) (with_one account)) (map-id markets)
     ∙ with_orders-first address account markets
 
--- what holds where a call is Ok
-pub on-ok : {A E p q : Type 0} (r : Result A E) → (p → q) → OnOk r p → OnOk r q
-on-ok (Ok x) f holds = f holds
-on-ok (Err e) f holds = tt
-
 pub market-is : (markets : List MarketAccounts) (place : ℕ) (market : MarketAccounts) → AreMarkets (map market_accounts_of markets)
     → place < length markets → market ≡ get_or markets place market → IsMarket market.market.items
 market-is markets place market are within here =
-    let plain = market_accounts_of market in
-    let e = get_or-map market_accounts_of markets place market plain within in
-    let one = are place plain (omega (arith, length-map markets market_accounts_of)) in
-    subst (λ (m : PlainMarketAccounts). IsMarket m.market) (e ∙ ap market_accounts_of (sym here)) one
+    subst (λ (m : MarketAccounts). IsMarket m.market.items) (sym here)
+    (All-unmap (λ (m : PlainMarketAccounts). IsMarket m.market) market_accounts_of markets are place market within)

@@ -1,6 +1,5 @@
 -- The first mint of an address, by its place among the mints.
-use Rattle.std.proofs.Common.{◌≡◌, ◌<◌, ◌+◌, ◌∙◌, ℕ, Bool, List, Some, None, ap, arith, get_or, length, map, refl, set, subst}
-use Rattle.std.proofs.lemmas.List.{get_or-map, length-map}
+use Rattle.std.proofs.Common.{◌≡◌, ◌<◌, ◌+◌, ◌∙◌, ℕ, Bool, List, Some, None, ap, get_or, length, map, refl, set}
 use Rattle.std.specs.List.{position}
 use Rattle.dex_types.specs.declared.account_bytes.Named.{Named}
 use Rattle.dex_types.specs.declared.addresses.Address.{Address}
@@ -10,6 +9,7 @@ use Rattle.dex_token.specs.MintAccount.{IsMint, mint_words}
 use Rattle.dex_fields.specs.Bytes.{number_in}
 use Rattle.dex_fields.specs.declared.mint.TheConstants.{IS_INITIALIZED, SUPPLY}
 use Rattle.dex_fields.proofs.Places.{number_in-other}
+use Rattle.dex_world.proofs.MappedLists.{All-unmap}
 use Rattle.dex_fields.proofs.Writing.{length-with_number}
 use Rattle.dex_script.proofs.FirstLaws.{all-changed, changed-at, changed-none, first-at, first-none, is-first, length-with_first, none-passes}
 use Rattle.dex_script.specs.Known.{mint_at, raised, with_supply}
@@ -53,10 +53,7 @@ none-raised address more mints none =
 
 pub mint-is : (mints : List Named) (place : ℕ) (d : Named) → AreMints (map named_of mints) → place < length mints
     → IsMint (get_or mints place d).bytes.items
-mint-is mints place d are within =
-    let e = get_or-map named_of mints place d (named_of d) within in
-    let one = are place (named_of d) (omega (arith, length-map mints named_of)) in
-    subst (λ (mint : PlainAccount). IsMint mint.bytes) e one
+mint-is mints place d are within = All-unmap (λ (mint : PlainAccount). IsMint mint.bytes) named_of mints are place d within
 
 -- more supply leaves a mint
 raised-is : (more : ℕ) (bytes : List ℕ) → IsMint bytes → IsMint (raised more bytes)

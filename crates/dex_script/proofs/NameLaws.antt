@@ -1,9 +1,10 @@
 -- The places that are kept for look-ups.
-use Rattle.std.proofs.Common.{◌≡◌, ◌∙◌, ◌+◌, ◌-◌, ◌<◌, ◌≤◌, ◌&&◌, ◌||◌, ℕ, zero, suc, Bool, true, false, not, cond, List, [], ◌∷◌, Option, Some, None, ap, arith, drop, get_or, is_some, length, map, refl, sym}
+use Rattle.std.proofs.Common.{◌≡◌, ◌∙◌, ◌+◌, ◌-◌, ◌<◌, ◌≤◌, ◌&&◌, ◌||◌, ℕ, Bool, true, false, not, cond, List, [], ◌∷◌, Option, Some, None, ap, arith, drop, get_or, is_some, length, map, refl, sym}
 use Rattle.std.specs.HashMap as hash
 use Rattle.std.specs.List.{position, position_from}
 use Rattle.std.proofs.lemmas.Bool.{and_from}
 use Rattle.std.proofs.lemmas.Iterator.Adapters.{position_from-zero}
+use Rattle.std.proofs.lemmas.List.{at_drop_more}
 use Rattle.dex_types.specs.declared.addresses.Address.{Address}
 use Rattle.dex_types.specs.Accounts.{PlainAccount, PlainAccounts, PlainMarketAccounts}
 use Rattle.dex_types.specs.Addresses.{is_same}
@@ -20,13 +21,6 @@ use Rattle.dex_script.specs.Rows.{is_unknown}
 
 -- ---- the first place, from the last item to the first
 
--- the item at an index, and those after it
-pub position-at : {X : Type 0} (test : X → Bool) (i k : ℕ) (xs : List X) (d : X) → k < length xs
-    → position_from test i (drop k xs) ≡ cond (test (get_or xs k d)) (Some i) (position_from test (i + 1) (drop (suc k) xs))
-position-at test i k [] d within = absurd (omega (arith, within))
-position-at test i zero (x ∷ xs) d within = refl
-position-at test i (suc k) (x ∷ xs) d within = position-at test i k xs d (omega (arith, within))
-
 pub position-map : {X Y : Type 0} (test : Y → Bool) (f : X → Y) (i : ℕ) (xs : List X)
     → position_from test i (map f xs) ≡ position_from (λ x. test (f x)) i xs
 position-map test f i [] = refl
@@ -40,13 +34,11 @@ pub put-first : {X : Type 0} (name : X → Address) (xs : List X) (place : ℕ) 
 put-first {X} name xs place address x before after some within behind is =
     let test : X → Bool = λ one. is_same address (name one) in
     let again : place - 1 + 1 ≡ place = omega (arith, some) in
-    let next : suc (place - 1) ≡ place = omega (arith, some) in
-    let at = position-at test (place - 1) (place - 1) xs x (omega (arith, some, within)) in
+    let at = at_drop_more (position_from test (place - 1)) xs (place - 1) x (omega (arith, some, within)) in
     let one : X = get_or xs (place - 1) x in
     is ∙ ap (cond (is_same (name one) address) (Some (place - 1))) behind
     ∙ ap (λ (same : Bool). cond same (Some (place - 1)) (position_from test place (drop place xs))) (is_same-sym (name one) address)
-    ∙ ap (λ (n : ℕ). cond (test one) (Some (place - 1)) (position_from test n (drop place xs))) (sym again)
-    ∙ ap (λ (n : ℕ). cond (test one) (Some (place - 1)) (position_from test (place - 1 + 1) (drop n xs))) (sym next)
+    ∙ ap (λ (n : ℕ). cond (test one) (Some (place - 1)) (position_from test n (drop n xs))) (sym again)
     ∙ sym at
 
 -- after none is the whole list
@@ -71,17 +63,22 @@ are-names names start markets wallets at markets_are wallets_are = record {
 
 -- ---- who finds each market and wallet where another does finds what an instruction row names where that one does
 
+pub here-same : (market market' wallet wallet' : Address → Option ℕ) (parties : PlainParties) → ((address : Address) → market address ≡ market' address)
+    → ((address : Address) → wallet address ≡ wallet' address) → are_here market wallet parties ≡ are_here market' wallet' parties
+here-same market market' wallet wallet' parties markets wallets =
+    rw (
+      markets parties.market,
+      is_found-same wallet wallet' wallets parties.coin,
+      is_found-same wallet wallet' wallets parties.pc,
+      is_found-same wallet wallet' wallets parties.discount,
+      is_found-same wallet wallet' wallets parties.referrer,
+    ) refl
+
 finds-same : (market market' wallet wallet' : Address → Option ℕ) (parties : PlainParties) (found : Option Stand)
     → ((address : Address) → market address ≡ market' address) → ((address : Address) → wallet address ≡ wallet' address)
     → FindsBy market wallet parties found → FindsBy market' wallet' parties found
 finds-same market market' wallet wallet' parties None markets wallets none =
-    rw (
-      sym (markets parties.market),
-      sym (is_found-same wallet wallet' wallets parties.coin),
-      sym (is_found-same wallet wallet' wallets parties.pc),
-      sym (is_found-same wallet wallet' wallets parties.discount),
-      sym (is_found-same wallet wallet' wallets parties.referrer),
-    ) none
+    sym (here-same market market' wallet wallet' parties markets wallets) ∙ none
 finds-same market market' wallet wallet' parties (Some at) markets wallets is = record {
   market = sym (markets parties.market) ∙ is.market;
   wallets =
@@ -135,3 +132,14 @@ module _ (start : PlainAccounts) (parties : PlainParties) where
 pub found-in : (start other : PlainAccounts) (words seen : PlainInstruction) (found told : Option Stand)
     → other ≡ start → seen ≡ words → found ≡ told → FindsAmong start seen.parties found → FindsAmong other words.parties told
 found-in start other words seen found told same is tells finds = rw (same, sym is, sym tells) finds
+
+-- and so what is known of these words
+pub known-in : (start other : PlainAccounts) (words seen : PlainInstruction) (found : Option Stand) (at : Stand)
+    → other ≡ start → seen ≡ words → found ≡ Some at → FindsAmong start seen.parties found → is_unknown other words.parties ≡ false
+known-in start other words seen found at same is tells finds =
+    known other words.parties at (found-in start other words seen found (Some at) same is tells finds)
+
+pub unknown-in : (start other : PlainAccounts) (words seen : PlainInstruction) (found : Option Stand)
+    → other ≡ start → seen ≡ words → found ≡ None → FindsAmong start seen.parties found → is_unknown other words.parties ≡ true
+unknown-in start other words seen found same is tells finds =
+    unknown other words.parties (found-in start other words seen found None same is tells finds)

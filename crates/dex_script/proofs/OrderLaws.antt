@@ -11,7 +11,7 @@ use Rattle.dex_types.specs.declared.limits.Limits.{Limits}
 use Rattle.dex_types.specs.Limits.{AreLimits}
 use Rattle.dex_state.specs.Accepted.{AreAccepted}
 use Rattle.dex_state.specs.Held.{HoldBytes}
-use Rattle.dex_dump.specs.Answers.{AnswersDump, PlainAnswer, next_number}
+use Rattle.dex_dump.specs.Answers.{AnswersDump, PlainAnswer, PlainDump, next_number}
 use Rattle.dex_dump.proofs.SoFarLaws.{dump-read}
 use Rattle.dex_audit.specs.Findings.{findings}
 use Rattle.dex_audit_rules.specs.declared.finding.Finding.{Finding}
@@ -71,6 +71,10 @@ known-row start number draft words known within =
 in-order : (script : PlainScript) → AreRows script → AreInOrder script.start script.rows
 in-order script are = record { each = are.each; rising = are.rising; legs = are.legs; two = are.two }
 
+rows-of : (script : PlainScript) → AreInOrder script.start script.rows → length (items_of script.rows) ≤ script.limits.items
+    → script.lanes ≡ lanes_of script.rows → AreRows script
+rows-of script order few lanes = record { few = few; each = order.each; rising = order.rising; legs = order.legs; two = order.two; lanes = lanes }
+
 -- a row of this number after the others
 pub push-new : (number : ℕ) (draft : PlainDraft) (one : PlainRow) → IsGood number draft → one.number ≡ number → IsRowOf draft.script.start one
     → AreInOrder draft.script.start (draft.script.rows ++ one ∷ [])
@@ -112,14 +116,8 @@ item-good number draft first others lane good free same order lanes single =
     let next : next_number number ≡ number + 1 = omega (arith, other, good.small) in
     let items : length (items_of (rows ++ more)) ≡ length (items_of rows) + 1 = items-more rows number first others good.below same in
     record {
-      rows = record {
-        few = omega (arith, items, good.items, space);
-        each = order.each;
-        rising = order.rising;
-        legs = order.legs;
-        two = order.two;
-        lanes = ap (λ (n : ℕ). max n (lane + 1)) good.rows.lanes ∙ sym (lanes-more rows more lane lanes);
-      };
+      rows = rows-of (with_item draft more lane).script order (omega (arith, items, good.items, space))
+          (ap (λ (n : ℕ). max n (lane + 1)) good.rows.lanes ∙ sym (lanes-more rows more lane lanes));
       below = All-append (λ (r : PlainRow). r.number < next_number number) rows more
           (below-more number (next_number number) rows (omega (arith, next)) good.below)
           (All-weaker (λ (r : PlainRow). r.number ≡ number) (λ (r : PlainRow). r.number < next_number number) (λ r is. omega (arith, next, is)) more same);
@@ -160,29 +158,16 @@ two-good number draft after words good row =
 -- no rows are good of any start
 empty-rows : (script : PlainScript) → script.rows ≡ [] → script.lanes ≡ 1 → AreRows script
 empty-rows script none one =
-    let order = subst (AreInOrder script.start) (sym none) (no-rows-in-order script.start) in
-    record {
-      few = subst (λ (rows : List PlainRow). length (items_of rows) ≤ script.limits.items) (sym none) (omega arith);
-      each = order.each;
-      rising = order.rising;
-      legs = order.legs;
-      two = order.two;
-      lanes = one ∙ sym (ap lanes_of none);
-    }
+    rows-of script (subst (AreInOrder script.start) (sym none) (no-rows-in-order script.start))
+    (subst (λ (rows : List PlainRow). length (items_of rows) ≤ script.limits.items) (sym none) (omega arith)) (one ∙ sym (ap lanes_of none))
 
 pub same-rows : (before after : PlainScript) → after.rows ≡ before.rows → after.lanes ≡ before.lanes → after.start ≡ before.start
     → after.limits ≡ before.limits → AreRows before → AreRows after
 same-rows before after rows lanes start limits are =
     let order = subst (λ (s : PlainAccounts). AreInOrder s after.rows) (sym start) (subst (AreInOrder before.start) (sym rows) (in-order before are)) in
-    record {
-      few = subst (λ (l : Limits). length (items_of after.rows) ≤ l.items) (sym limits)
-          (subst (λ (rs : List PlainRow). length (items_of rs) ≤ before.limits.items) (sym rows) are.few);
-      each = order.each;
-      rising = order.rising;
-      legs = order.legs;
-      two = order.two;
-      lanes = lanes ∙ are.lanes ∙ sym (ap lanes_of rows);
-    }
+    rows-of after order
+    (subst (λ (l : Limits). length (items_of after.rows) ≤ l.items) (sym limits)
+    (subst (λ (rs : List PlainRow). length (items_of rs) ≤ before.limits.items) (sym rows) are.few)) (lanes ∙ are.lanes ∙ sym (ap lanes_of rows))
 
 kept-good : (number : ℕ) (before after : PlainDraft) → IsGood number before → Kept before after → IsGood (next_number number) after
 kept-good number before after good kept = by before.is_late refl
@@ -207,18 +192,16 @@ kept-good number before after good kept = by before.is_late refl
 -- ---- all rows
 
 -- a row keeps the instruction rows, is one more, or is a swap
-by-statement : {P : Type 0} (number : ℕ) (before after : PlainDraft) → (Kept before after → P) → ((words : PlainInstruction) → IsOneRow number before after words → P)
-    → ((words : PlainSwap) → IsSwapRow number before after words → P) → (statement : Statement) → with_statement before number statement ≡ Ok after → P
-by-statement number before after kept one two (row.Clock now) is = kept (kept-clock before after now is)
-by-statement number before after kept one two (row.Instruction words) is = one words (instruction-row number before after words is)
-by-statement number before after kept one two (row.Swap words) is = two words (swap-row number before after words is)
-by-statement number before after kept one two setup is = kept (kept-setup number before after setup tt is)
-
 pub by-row : {P : Type 0} (number : ℕ) (before after : PlainDraft) → (Kept before after → P) → ((words : PlainInstruction) → IsOneRow number before after words → P)
     → ((words : PlainSwap) → IsSwapRow number before after words → P) → (fields : Fields) → with_row before number fields ≡ Ok after → P
 unfolding with_row
-by-row number before after kept one two fields is =
-    let a = bind-ok (statement_of fields) (with_statement before number) after is in by-statement number before after kept one two a.0 a.2
+by-row {P} number before after kept one two fields is = let a = bind-ok (statement_of fields) (with_statement before number) after is in by a.0 a.2
+  where
+    by : (statement : Statement) → with_statement before number statement ≡ Ok after → P
+    by (row.Clock now) told = kept (kept-clock before after now told)
+    by (row.Instruction words) told = one words (instruction-row number before after words told)
+    by (row.Swap words) told = two words (swap-row number before after words told)
+    by setup told = kept (kept-setup number before after setup tt told).0
 
 fault-ok : {A : Type 0} (number : ℕ) (r : Result A FaultKind) (x : A) → fault_in number r ≡ Ok x → r ≡ Ok x
 fault-ok {A} number (Ok y) x is = ap (λ (z : A). Ok z) (ok-same y x is)
@@ -340,37 +323,33 @@ pub none-lower : (number : ℕ) (before last : PlainDraft) (rows : List Fields) 
 none-lower number before last rows small from is =
     (through (RunFrom number) (runs-from number small) number before last rows (omega arith, from) is).1
 
--- what a dump and the rows after it give
-pub record StartsWith (limits : Limits) (batch : Bool) (script : PlainScript) : Type 0 where
-  pub limits_are : script.limits ≡ limits
-  pub rows : AreRows script
-  pub single : batch ≡ true → HasNoSwap script.rows
-  pub accepted : AreAccepted script.limits script.start
-  pub held : HoldBytes script.start
-  pub none : findings script.start ≡ []
-
-none-found : {A : Type 0} (found : List Finding) (next : Result A Refusal) (x : A) → Ok x ≡ unless_found found next → (found ≡ []) × (Ok x ≡ next)
+pub none-found : {A : Type 0} (found : List Finding) (next : Result A Refusal) (x : A) → Ok x ≡ unless_found found next → (found ≡ []) × (Ok x ≡ next)
 none-found [] next x is = (refl, is)
 none-found (finding ∷ found) next x is = absurd (no-error _ x (sym is))
 
-pub from-dump : (limits : Limits) → AreLimits limits → (batch : Bool) (rows : List Fields) (dump : PlainAnswer) (script : PlainScript)
-    → AnswersDump limits rows dump → Ok script ≡ behind limits batch dump → StartsWith limits batch script
-from-dump limits are batch rows (Err fault) script told is = absurd (no-error _ script (sym is))
-from-dump limits are batch rows (Ok dump) script told is =
+-- what a dump and the rows after it give: the dump has no fault and no findings
+from-dump : (limits : Limits) (batch : Bool) (dump : PlainAnswer) (script : PlainScript) → Ok script ≡ behind limits batch dump
+    → (read : PlainDump) × (dump ≡ Ok read) × (findings read.accounts ≡ []) × Gives (behind_dump limits batch read.accounts) script
+from-dump limits batch (Err fault) script is = absurd (no-error _ script (sym is))
+from-dump limits batch (Ok dump) script is =
     let draft = behind_dump limits batch dump.accounts in
-    let next = script_from draft (next_number dump.count) dump.behind in
-    let a = none-found (findings dump.accounts) next script is in
-    let b = from-rows (next_number dump.count) draft dump.behind script (first-good (next_number dump.count) draft refl refl refl (omega arith)) a.1 in
-    let same : script.start ≡ dump.accounts = b.start refl in
-    let read = dump-read limits are rows dump told in
-    record {
-      rows = b.rows;
-      single = b.single;
-      limits_are = b.limits;
-      accepted = subst (λ (l : Limits). AreAccepted l script.start) (sym b.limits) (subst (AreAccepted limits) (sym same) read.accepted);
-      held = subst HoldBytes (sym same) read.held;
-      none = subst (λ (accounts : PlainAccounts). findings accounts ≡ []) (sym same) a.0;
-    }
+    let number = next_number dump.count in
+    let a = none-found (findings dump.accounts) (script_from draft number dump.behind) script is in
+    (dump, refl, a.0, from-rows number draft dump.behind script (first-good number draft refl refl refl (omega arith)) a.1)
+
+-- accounts that are accepted and have no findings
+pub record AreAudited (limits : Limits) (accounts : PlainAccounts) : Type 0 where
+  pub accepted : AreAccepted limits accounts
+  pub held : HoldBytes accounts
+  pub none : findings accounts ≡ []
+
+pub dump-audited : (limits : Limits) → AreLimits limits → (batch : Bool) (rows : List Fields) (dump : PlainAnswer) (script : PlainScript)
+    → AnswersDump limits rows dump → Ok script ≡ behind limits batch dump → AreAudited script.limits script.start
+dump-audited limits are batch rows dump script told is =
+    let a = from-dump limits batch dump script is in
+    let read = dump-read limits are rows a.0 (subst (AnswersDump limits rows) a.1 told) in
+    let audited : AreAudited limits a.0.accounts = record { accepted = read.accepted; held = read.held; none = a.2 } in
+    subst (λ (l : Limits). AreAudited l script.start) (sym a.3.limits) (subst (AreAudited limits) (sym (a.3.start refl)) audited)
 
 -- what holds of every script within limits
 record IsRead (limits : Limits) (batch : Bool) (script : PlainScript) : Type 0 where
@@ -378,17 +357,10 @@ record IsRead (limits : Limits) (batch : Bool) (script : PlainScript) : Type 0 w
   single : batch ≡ true → HasNoSwap script.rows
   limits_are : script.limits ≡ limits
 
-behind-read : (limits : Limits) (batch : Bool) (dump : PlainAnswer) (script : PlainScript) → Ok script ≡ behind limits batch dump → IsRead limits batch script
-behind-read limits batch (Err fault) script is = absurd (no-error _ script (sym is))
-behind-read limits batch (Ok dump) script is =
-    let draft = behind_dump limits batch dump.accounts in
-    let a = none-found (findings dump.accounts) (script_from draft (next_number dump.count) dump.behind) script is in
-    let gives = from-rows (next_number dump.count) draft dump.behind script (first-good (next_number dump.count) draft refl refl refl (omega arith)) a.1 in
-    record { rows = gives.rows; single = gives.single; limits_are = gives.limits }
-
 by-answer : (limits : Limits) (batch begins : Bool) (rows : List Fields) (script : PlainScript) → AnswersBy limits batch begins rows (Ok script)
     → IsRead limits batch script
-by-answer limits batch true rows script told = behind-read limits batch told.0 script told.2
+by-answer limits batch true rows script told =
+    let gives = (from-dump limits batch told.0 script told.2).3 in record { rows = gives.rows; single = gives.single; limits_are = gives.limits }
 by-answer limits batch false rows script is =
     let none = no_rows limits batch in
     let gives = from-rows 1 none rows script (first-good 1 none refl refl refl (omega arith)) is in
@@ -404,7 +376,7 @@ pub read-apart : (limits : Limits) (text : List ℕ) (script : PlainScript) → 
 read-apart limits text script reads = (by-answer limits true (begins_with_dump (rows_of text)) (rows_of text) script reads).single refl
 
 pub read-dump : (limits : Limits) → AreLimits limits → (batch : Bool) (text : List ℕ) (script : PlainScript)
-    → begins_with_dump (rows_of text) ≡ true → ReadsWithin limits batch text script → StartsWith limits batch script
+    → begins_with_dump (rows_of text) ≡ true → ReadsWithin limits batch text script → AreAudited script.limits script.start
 read-dump limits are batch text script begins reads =
     let told = subst (λ (b : Bool). AnswersBy limits batch b (rows_of text) (Ok script)) begins reads in
-    from-dump limits are batch (rows_of text) told.0 script told.1 told.2
+    dump-audited limits are batch (rows_of text) told.0 script told.1 told.2

@@ -1,78 +1,40 @@
 -- Rows that are read after the bare markets and wallets of a script, and added to it, are read after the script.
-use Rattle.std.proofs.Common.{◌≡◌, ◌∙◌, ◌+◌, ◌-◌, ◌^◌, ◌≤◌, ◌==◌, ℕ, ℤ, Bool, true, false, not, nat_le, List, [], ◌∷◌, ◌++◌, Option, Result, Ok, Err, ap, append_assoc, append-nil, arith, map, max, refl, subst, sym}
+use Rattle.std.proofs.Common.{◌≡◌, ◌∙◌, ◌+◌, ◌-◌, ◌^◌, ◌≤◌, ◌==◌, ℕ, ℤ, Bool, true, false, not, nat_le, List, [], ◌∷◌, ◌++◌, Result, Ok, Err, ap, append_assoc, append-nil, arith, map, max, refl, subst, sym}
 use Rattle.std.specs.List.{AllZip}
 use Rattle.std.proofs.lemmas.Bool.{lt-leb}
 use Rattle.std.proofs.lemmas.Iterator.Adapters.{position_from-zero}
-use Rattle.std.proofs.lemmas.List.{length-map}
-use Rattle.dex_types.specs.declared.addresses.Address.{Address}
 use Rattle.dex_world.specs.declared.places.RowPlaces.{RowPlaces}
 use Rattle.dex_types.specs.Accounts.{PlainAccount, PlainAccounts, PlainMarketAccounts}
 use Rattle.dex_types.specs.Addresses.{is_same}
 use Rattle.dex_types.specs.Rows.{PlainRow}
 use Rattle.dex_dump.specs.Answers.{next_number}
 use Rattle.dex_statement.specs.declared.faults.FaultKind.{FaultKind}
-use Rattle.dex_statement.specs.declared.faults.FaultKind.TheVariants.{SetupRefused}
-use Rattle.dex_statement.specs.declared.faults.SetupCode.TheVariants as code
 use Rattle.dex_statement.specs.declared.statement.Statement.{Statement}
 use Rattle.dex_statement.specs.declared.statement.Statement.TheVariants as row
 use Rattle.dex_statement.specs.Faults.{◌>>=◌}
 use Rattle.dex_statement.specs.Stated.{PlainInstruction, PlainParties, PlainSwap}
 use Rattle.dex_statement.specs.Statements.{statement_of}
 use Rattle.dex_statement.specs.Words.{Fields}
-use Rattle.dex_script_types.specs.Found.{is_found}
 use Rattle.dex_script_types.specs.Places.{ArePlaced, IsBeside, IsPlaced}
-use Rattle.dex_script_types.proofs.FoundLaws.{is_found-same, wallets-same}
+use Rattle.dex_script_types.proofs.FoundLaws.{wallets-same}
 use Rattle.dex_script.specs.Drafts.{PlainDraft}
-use Rattle.dex_script.specs.Names.{AreFew, IsReading, are_here, market_among, wallet_among}
+use Rattle.dex_script.specs.Names.{IsReading, market_among, wallet_among}
 use Rattle.dex_script.specs.Pieces.{AreAlike, HaveSamePlaces, IsUnderway, bare, bare_market, bare_wallet, beside, joined, number_after}
-use Rattle.dex_script.specs.Rows.{IsSetup, exceeds_row, instruction_row, is_bad_swap, is_full, is_unknown, with_clock, with_instruction, with_item, with_known, with_legs, with_program, with_row, with_statement, with_swap, with_two}
+use Rattle.dex_script.specs.Rows.{exceeds_row, instruction_row, is_bad_swap, is_full, is_unknown, with_clock, with_instruction, with_item, with_known, with_legs, with_row, with_statement, with_swap, with_two}
 use Rattle.dex_script.specs.Scripts.{Refusal, draft_after, fault_in}
-use Rattle.dex_script.proofs.FaultLaws.{bind-ok, differ, ok-same, or-none, unless-ok}
+use Rattle.dex_script.proofs.FaultLaws.{bind-ok, differ, ok-same, or-none}
 use Rattle.dex_script.proofs.ItemRows.{first_leg, instruction-row, second_leg, swap-row}
-use Rattle.dex_script.proofs.NameLaws.{position-map, unknown-by}
+use Rattle.dex_script.proofs.KeptLaws.{kept-setup}
+use Rattle.dex_script.proofs.NameLaws.{here-same, position-map, unknown-by}
 use Rattle.dex_script.proofs.OrderLaws.{by-row, first-row, through}
-use Rattle.dex_script.proofs.RowParts.{market-row, mint-row, msrm-row, orders-row, srm-row, wallet-row}
 
 -- ---- what is known among the one accounts is known among the others
 
-module _ (one other : PlainAccounts) (same : HaveSamePlaces one other) where
-  role-same : (role : Option Address) → is_found (wallet_among one) role ≡ is_found (wallet_among other) role
-  role-same role = is_found-same (wallet_among one) (wallet_among other) same.wallets role
-
-  here-same : (parties : PlainParties)
-      → are_here (market_among one) (wallet_among one) parties ≡ are_here (market_among other) (wallet_among other) parties
-  here-same parties =
-      rw (
-        same.markets parties.market,
-        role-same parties.coin,
-        role-same parties.pc,
-        role-same parties.discount,
-        role-same parties.referrer,
-      ) refl
-
-  pub known-there : (parties : PlainParties) → is_unknown one parties ≡ false → is_unknown other parties ≡ false
-  known-there parties is =
-      unknown-by other parties ∙ ap not (sym (here-same parties)) ∙ sym (unknown-by one parties) ∙ is
-
--- ---- no setup row is without a fault behind an instruction row
-
-pub no-setup : (number : ℕ) (before after : PlainDraft) (statement : Statement) → IsUnderway before → IsSetup statement
-    → with_statement before number statement ≡ Ok after → ⊥
-unfolding with_program
-no-setup number before after (row.Program program) under setup is =
-    let next = record before { script = record before.script { program = program }; is_first = false } in
-    let first = (unless-ok (not before.is_first) (SetupRefused code.Program) (Ok next) after is).0 in
-    differ (sym (ap not under.first) ∙ first)
-no-setup number before after (row.Clock now) under setup is = absurd setup
-no-setup number before after (row.Mint address decimals) under setup is = differ (sym under.late ∙ (mint-row before after address decimals is).declares.early)
-no-setup number before after (row.Srm mint) under setup is = differ (sym under.late ∙ (srm-row before after mint is).1.early)
-no-setup number before after (row.Msrm mint) under setup is = differ (sym under.late ∙ (msrm-row before after mint is).1.early)
-no-setup number before after (row.Wallet address mint owner amount) under setup is =
-    differ (sym under.late ∙ (wallet-row before after address mint owner amount is).declares.early)
-no-setup number before after (row.Market words) under setup is = differ (sym under.late ∙ (market-row before after words is).declares.early)
-no-setup number before after (row.Orders market address) under setup is = differ (sym under.late ∙ (orders-row before after market address is).declares.early)
-no-setup number before after (row.Instruction words) under setup is = absurd setup
-no-setup number before after (row.Swap words) under setup is = absurd setup
+known-there : (one other : PlainAccounts) → HaveSamePlaces one other → (parties : PlainParties) → is_unknown one parties ≡ false
+    → is_unknown other parties ≡ false
+known-there one other same parties is =
+    let here = here-same (market_among one) (market_among other) (wallet_among one) (wallet_among other) parties same.markets same.wallets in
+    unknown-by other parties ∙ ap not (sym here) ∙ sym (unknown-by one parties) ∙ is
 
 -- ---- rows without a fault
 
@@ -102,21 +64,16 @@ module _ (draft : PlainDraft) (under : IsUnderway draft) where
     is_late = late;
   }
 
+  same-built : (clock : ℤ) (rows all : List PlainRow) (lanes most items sum : ℕ) (first late : Bool) → rows ≡ all → lanes ≡ most → items ≡ sum
+      → first ≡ draft.is_first → late ≡ draft.is_late → built clock rows lanes items first late ≡ built clock all most sum draft.is_first draft.is_late
+  same-built clock rows all lanes most items sum first late a b c d e = rw (a, b, c, d, e) refl
+
   joined-item : (piece : PlainDraft) (rows : List PlainRow) (lane : ℕ)
       → with_item (joined draft piece) rows lane ≡ joined draft (with_item piece rows lane)
   joined-item piece rows lane =
-      let script = draft.script in
-      let more = piece.script in
+      let lanes : max (max draft.script.lanes piece.script.lanes) (lane + 1) ≡ max draft.script.lanes (max piece.script.lanes (lane + 1)) = omega arith in
       let sum : draft.items + piece.items + 1 ≡ draft.items + (piece.items + 1) = omega arith in
-      ap (λ (rs : List PlainRow). built piece.clock rs (max (max script.lanes more.lanes) (lane + 1)) (draft.items + piece.items + 1) false true)
-      (append_assoc script.rows more.rows rows)
-      ∙ ap (λ (n : ℕ). built piece.clock (script.rows ++ (more.rows ++ rows)) n (draft.items + piece.items + 1) false true) (omega arith)
-      ∙ ap (λ (n : ℕ). built piece.clock (script.rows ++ (more.rows ++ rows)) (max script.lanes (max more.lanes (lane + 1))) n false true)
-      sum
-      ∙ ap (λ (b : Bool). built piece.clock (script.rows ++ (more.rows ++ rows)) (max script.lanes (max more.lanes (lane + 1))) (draft.items + (piece.items + 1)) b true)
-      (sym under.first)
-      ∙ ap (λ (b : Bool). built piece.clock (script.rows ++ (more.rows ++ rows)) (max script.lanes (max more.lanes (lane + 1))) (draft.items + (piece.items + 1)) draft.is_first b)
-      (sym under.late)
+      same-built piece.clock _ _ _ _ _ _ false true (append_assoc draft.script.rows piece.script.rows rows) lanes sum (sym under.first) (sym under.late)
 
   joined-clock : (piece : PlainDraft) (now : ℤ) → with_clock (joined draft piece) now ≡ joined draft (with_clock piece now)
   joined-clock piece now =
@@ -127,12 +84,16 @@ module _ (draft : PlainDraft) (under : IsUnderway draft) where
   joined-none : (piece : PlainDraft) → piece.script.rows ≡ [] → piece.script.lanes ≡ 0 → piece.items ≡ 0 → piece.clock ≡ draft.clock
       → joined draft piece ≡ draft
   joined-none piece rows lanes items clock =
-      rw (rows, lanes, items, clock)
-      (ap (λ (rs : List PlainRow). built draft.clock rs (max draft.script.lanes 0) (draft.items + 0) draft.is_first draft.is_late) (append-nil draft.script.rows)
-      ∙ ap (λ (n : ℕ). built draft.clock draft.script.rows n (draft.items + 0) draft.is_first draft.is_late) (omega arith)
-      ∙ ap (λ (n : ℕ). built draft.clock draft.script.rows draft.script.lanes n draft.is_first draft.is_late) (omega arith))
+      let most : max draft.script.lanes 0 ≡ draft.script.lanes = omega arith in
+      let sum : draft.items + 0 ≡ draft.items = omega arith in
+      rw (rows, lanes, items, clock) (same-built draft.clock _ _ _ _ _ _ draft.is_first draft.is_late (append-nil draft.script.rows) most sum refl refl)
 
 -- ---- one more row of a piece
+
+alike-next : (draft piece next : PlainDraft) → AreAlike draft piece → IsUnderway next → next.batch ≡ piece.batch → next.script.limits ≡ piece.script.limits
+    → HaveSamePlaces next.script.start draft.script.start → AreAlike draft next
+alike-next draft piece next alike under batch limits places =
+    record { draft_underway = alike.draft_underway; piece_underway = under; batch = batch ∙ alike.batch; limits = limits ∙ alike.limits; places = places }
 
 -- it is read after the script too, and the next is like it
 record Steps (draft : PlainDraft) (next : PlainDraft) (left : Result PlainDraft FaultKind) : Type 0 where
@@ -155,13 +116,7 @@ module _ (draft piece : PlainDraft) (alike : AreAlike draft piece) (number : ℕ
       subst (λ (d : PlainDraft). Steps draft d left) is
       (record {
         is = told ∙ ap (λ (d : PlainDraft). Ok d) (joined-item draft alike.draft_underway piece rows lane);
-        alike = record {
-          draft_underway = alike.draft_underway;
-          piece_underway = record { late = refl; first = refl };
-          batch = alike.batch;
-          limits = alike.limits;
-          places = alike.places;
-        };
+        alike = alike-next draft piece (with_item piece rows lane) alike (record { late = refl; first = refl }) refl refl alike.places;
       })
 
   there : (words : PlainInstruction) → is_unknown piece.script.start words.parties ≡ false → is_unknown draft.script.start words.parties ≡ false
@@ -173,13 +128,7 @@ module _ (draft piece : PlainDraft) (alike : AreAlike draft piece) (number : ℕ
       subst (λ (d : PlainDraft). Steps draft d (Ok (with_clock (joined draft piece) now))) (ok-same (with_clock piece now) next is)
       (record {
         is = ap (λ (d : PlainDraft). Ok d) (joined-clock draft alike.draft_underway piece now);
-        alike = record {
-          draft_underway = alike.draft_underway;
-          piece_underway = record { late = alike.piece_underway.late; first = refl };
-          batch = alike.batch;
-          limits = alike.limits;
-          places = alike.places;
-        };
+        alike = alike-next draft piece (with_clock piece now) alike (record { late = alike.piece_underway.late; first = refl }) refl refl alike.places;
       })
   steps (row.Instruction words) is room =
       let one = instruction-row number piece next words is in
@@ -190,7 +139,7 @@ module _ (draft piece : PlainDraft) (alike : AreAlike draft piece) (number : ℕ
       by-item _ words.lane _ two.is
       (swap-ok number (joined draft piece) words (there (first_leg words) two.first_known) (there (second_leg words) two.second_known)
       (room-there two.room (more-items _ words.lane two.is room)) two.first_within two.second_within two.good (sym alike.batch ∙ two.apart))
-  steps setup is room = absurd (no-setup number piece next setup alike.piece_underway tt is)
+  steps setup is room = absurd ((kept-setup number piece next setup tt is).1 alike.piece_underway)
 
   row-steps : (fields : Fields) → with_row piece number fields ≡ Ok next → draft.items + next.items ≤ draft.script.limits.items
       → Steps draft next (with_row (joined draft piece) number fields)
@@ -246,16 +195,12 @@ alike-self draft under = record {
 
 alike-beside : (draft other : PlainDraft) (clock : ℤ) → AreAlike draft other → AreAlike draft (beside other clock)
 alike-beside draft other clock alike =
-    let bare = bare-same other.script.start in record {
-      draft_underway = alike.draft_underway;
-      piece_underway = record { late = refl; first = refl };
-      batch = alike.batch;
-      limits = alike.limits;
-      places = record {
-        markets = λ address. bare.markets address ∙ alike.places.markets address;
-        wallets = λ address. bare.wallets address ∙ alike.places.wallets address;
-      };
-    }
+    let bare = bare-same other.script.start in
+    alike-next draft other (beside other clock) alike (record { late = refl; first = refl }) refl refl
+    (record {
+      markets = λ address. bare.markets address ∙ alike.places.markets address;
+      wallets = λ address. bare.wallets address ∙ alike.places.wallets address;
+    })
 
 -- rows that are read beside a script, or beside one like it, are read after it, where their clock is right and there is
 -- room
@@ -278,26 +223,23 @@ module _ (first before after : PlainDraft) (stays : Stays first before) (number 
   stays-item : (rows : List PlainRow) (lane : ℕ) → with_item before rows lane ≡ after → Stays first after
   stays-item rows lane is = subst (Stays first) is (record { under = record { late = refl; first = refl }; same = λ clock. stays.same clock })
 
-  stays-statement : (statement : Statement) → with_statement before number statement ≡ Ok after → Stays first after
-  stays-statement (row.Clock now) is =
-      subst (Stays first) (ok-same (with_clock before now) after is)
-      (record { under = record { late = stays.under.late; first = refl }; same = λ clock. stays.same clock })
-  stays-statement (row.Instruction words) is = stays-item _ words.lane (instruction-row number before after words is).is
-  stays-statement (row.Swap words) is = stays-item _ words.lane (swap-row number before after words is).is
-  stays-statement setup is = absurd (no-setup number before after setup stays.under tt is)
-
   stays-row : (fields : Fields) → with_row before number fields ≡ Ok after → Stays first after
   unfolding with_row
-  stays-row fields is = let a = bind-ok (statement_of fields) (with_statement before number) after is in stays-statement a.0 a.2
+  stays-row fields is = let a = bind-ok (statement_of fields) (with_statement before number) after is in by a.0 a.2
+    where
+      by : (statement : Statement) → with_statement before number statement ≡ Ok after → Stays first after
+      by (row.Clock now) told =
+          subst (Stays first) (ok-same (with_clock before now) after told)
+          (record { under = record { late = stays.under.late; first = refl }; same = λ clock. stays.same clock })
+      by (row.Instruction words) told = stays-item _ words.lane (instruction-row number before after words told).is
+      by (row.Swap words) told = stays-item _ words.lane (swap-row number before after words told).is
+      by setup told = absurd ((kept-setup number before after setup tt told).1 stays.under)
 
 pub stays-behind : (first : PlainDraft) (number : ℕ) (last : PlainDraft) (rows : List Fields) → IsUnderway first → draft_after first number rows ≡ Ok last
     → Stays first last
 stays-behind first number last rows under is =
     through (λ _ (d : PlainDraft). Stays first d) (λ n before after fields stays one. stays-row first before after stays n fields one) number first last rows
     (record { under = under; same = λ clock. refl }) is
-
-pub stays-joined : (first draft piece : PlainDraft) → Stays first draft → Stays first (joined draft piece)
-stays-joined first draft piece stays = record { under = record { late = stays.under.late; first = stays.under.first }; same = λ clock. stays.same clock }
 
 -- ---- rows behind rows
 
@@ -333,8 +275,6 @@ number-both number (row ∷ rows) more = number-both (next_number number) rows m
 module _ (one other : PlainAccounts) (same : HaveSamePlaces one other) where
   pub placed-there : (rows : List PlainRow) (places : List RowPlaces) → ArePlaced one rows places → ArePlaced other rows places
   placed-there [] [] are = tt
-  placed-there [] (place ∷ places) are = absurd are
-  placed-there (row ∷ rows) [] are = absurd are
   placed-there (row ∷ rows) (place ∷ places) (is, are) = (
     record {
       market = sym (same.markets row.market) ∙ is.market;
@@ -344,13 +284,13 @@ module _ (one other : PlainAccounts) (same : HaveSamePlaces one other) where
     },
     placed-there rows places are,
   )
+  placed-there _ _ are = absurd are
 
 zipped-both : {A B : Type 0} (R : A → B → Type 0) (xs more : List A) (ys others : List B) → AllZip R xs ys → AllZip R more others
     → AllZip R (xs ++ more) (ys ++ others)
 zipped-both R [] more [] others are also = also
-zipped-both R [] more (y ∷ ys) others are also = absurd are
-zipped-both R (x ∷ xs) more [] others are also = absurd are
 zipped-both R (x ∷ xs) more (y ∷ ys) others (is, are) also = (is, zipped-both R xs more ys others are also)
+zipped-both R _ more _ others are also = absurd are
 
 pub joined-reading : (draft piece : PlainDraft) (places others : List RowPlaces) → AreAlike draft piece → IsReading draft places → IsReading piece others
     → IsReading (joined draft piece) (places ++ others)
@@ -360,16 +300,4 @@ joined-reading draft piece places others alike reading also = record {
   beside = zipped-both IsBeside draft.script.rows piece.script.rows places others reading.beside also.beside;
   quiet = λ early. absurd (differ (sym alike.draft_underway.late ∙ early));
   few = reading.few;
-}
-
-pub beside-reading : (draft : PlainDraft) (clock : ℤ) → AreFew draft.script.limits draft.script.start → IsReading (beside draft clock) []
-beside-reading draft clock few = record {
-  placed = tt;
-  beside = tt;
-  quiet = λ early. refl;
-  few = record {
-    within = few.within;
-    markets = omega (arith, few.markets, length-map draft.script.start.markets bare_market);
-    wallets = omega (arith, few.wallets, length-map draft.script.start.wallets bare_wallet);
-  };
 }

@@ -1,9 +1,8 @@
 -- What a text answers, from what its rows give.
-use Rattle.std.proofs.Common.{◌≡◌, ◌∙◌, ℕ, Bool, true, false, List, [], ◌∷◌, Result, Ok, Err, ap, refl, subst, sym}
+use Rattle.std.proofs.Common.{◌≡◌, ◌∙◌, ℕ, Bool, true, false, List, [], Result, Ok, Err, ap, subst, sym}
 use Rattle.dex_rows.specs.Records.{rows_of}
 use Rattle.dex_types.specs.declared.limits.Limits.{Limits}
 use Rattle.dex_statement.specs.Faults.{◌>>=◌}
-use Rattle.dex_dump.specs.declared.faults.DumpFault.{DumpFault}
 use Rattle.dex_dump.specs.Answers.{AnswersDump, PlainDump, next_number}
 use Rattle.dex_audit.specs.Findings.{findings}
 use Rattle.dex_audit_rules.specs.declared.finding.Finding.{Finding}
@@ -12,7 +11,6 @@ use Rattle.dex_script.specs.declared.fault.ScriptError.{ScriptError}
 use Rattle.dex_script.specs.declared.fault.ScriptError.TheVariants as script
 use Rattle.dex_script.specs.Drafts.{PlainDraft, behind_dump, no_rows}
 use Rattle.dex_script.specs.Scripts.{Answers, AnswersBy, IsRefusedWithin, Refusal, begins_with_dump, draft_after, unless_found}
-use Rattle.dex_script.specs.Scripts.Refusal.{InAudit, InDump}
 use Rattle.dex_script.specs.Telling.{TellsDraft, TellsError, TellsRefusal, TellsText}
 
 -- the script of the last draft
@@ -43,26 +41,10 @@ answers-plain limits batch text plain answer is = subst (λ (b : Bool). AnswersB
 
 -- ---- a text that begins with a dump
 
-module _ (limits : Limits) (batch : Bool) (text : List ℕ) (begins : begins_with_dump (rows_of text) ≡ true) where
-  by-dump : (answer : Result PlainScript Refusal) → AnswersBy limits batch true (rows_of text) answer → Answers limits batch text answer
-  by-dump answer is = subst (λ (b : Bool). AnswersBy limits batch b (rows_of text) answer) (sym begins) is
-
-  pub dump-refused : (fault : DumpFault) → AnswersDump limits (rows_of text) (Err fault) → IsRefusedWithin limits batch text (InDump fault)
-  dump-refused fault told = by-dump (Err (InDump fault)) (Err fault, told, refl)
-
-  audited : (found : List Finding) (next : Result PlainScript Refusal) → (found ≡ [] → ⊥) → Err (InAudit found) ≡ unless_found found next
-  audited [] next some = absurd (some refl)
-  audited (finding ∷ found) next some = refl
-
-  pub dump-audited : (dump : PlainDump) (found : List Finding) → AnswersDump limits (rows_of text) (Ok dump) → findings dump.accounts ≡ found
-      → (found ≡ [] → ⊥) → IsRefusedWithin limits batch text (InAudit found)
-  dump-audited dump found told is some =
-      let next = last_script (draft_after (behind_dump limits batch dump.accounts) (next_number dump.count) dump.behind) in
-      by-dump (Err (InAudit found)) (Ok dump, told, audited found next some ∙ ap (λ (fs : List Finding). unless_found fs next) (sym is))
-
-  pub answers-behind : (dump : PlainDump) → AnswersDump limits (rows_of text) (Ok dump) → findings dump.accounts ≡ []
-      → (answer : Result PlainScript Refusal)
-      → answer ≡ last_script (draft_after (behind_dump limits batch dump.accounts) (next_number dump.count) dump.behind) → Answers limits batch text answer
-  answers-behind dump told none answer is =
-      let next = last_script (draft_after (behind_dump limits batch dump.accounts) (next_number dump.count) dump.behind) in
-      by-dump answer (Ok dump, told, is ∙ ap (λ (fs : List Finding). unless_found fs next) (sym none))
+pub answers-behind : (limits : Limits) (batch : Bool) (text : List ℕ) → begins_with_dump (rows_of text) ≡ true → (dump : PlainDump)
+    → AnswersDump limits (rows_of text) (Ok dump) → findings dump.accounts ≡ [] → (answer : Result PlainScript Refusal)
+    → answer ≡ last_script (draft_after (behind_dump limits batch dump.accounts) (next_number dump.count) dump.behind) → Answers limits batch text answer
+answers-behind limits batch text begins dump told none answer is =
+    let next = last_script (draft_after (behind_dump limits batch dump.accounts) (next_number dump.count) dump.behind) in
+    subst (λ (b : Bool). AnswersBy limits batch b (rows_of text) answer) (sym begins)
+    (Ok dump, told, is ∙ ap (λ (fs : List Finding). unless_found fs next) (sym none))

@@ -1,5 +1,5 @@
 -- Every address of the accounts so far is taken, and none is taken twice.
-use Rattle.std.proofs.Common.{◌≡◌, ◌∙◌, ◌≤◌, ◌+◌, ◌∷◌, ◌++◌, ◌==◌, [], ℕ, List, true, false, ap, arith, inl, inr, length, map, refl, get_or}
+use Rattle.std.proofs.Common.{◌≡◌, ◌∙◌, ◌≤◌, ◌+◌, ◌∷◌, ◌++◌, ◌==◌, [], ℕ, List, Option, true, false, ap, arith, inl, inr, length, map, refl, get_or}
 use Rattle.std.specs.List.{flat_map, list_any}
 use Rattle.std.proofs.lemmas.Bool.{cases_Bool, eqb-false, false≢true, or_from, or_parts}
 use Rattle.std.proofs.lemmas.List.{map-append}
@@ -67,16 +67,8 @@ wallets-add start mints wallet same address =
     let next = record start { mints = mints; wallets = start.wallets ++ wallet ∷ [] } in
     omega (arith, parts address start, parts address next, pushed address start.wallets wallet, ap (times address) same)
 
-pub names-add : (start next : PlainAccounts) → next.mints ≡ start.mints → next.wallets ≡ start.wallets → next.markets ≡ start.markets → AddsOnly start [] next
-names-add start next mints wallets markets address =
-    omega (
-      arith,
-      parts address start,
-      parts address next,
-      ap (λ (xs : List PlainAccount). times address (map address_of xs)) mints,
-      ap (λ (xs : List PlainAccount). times address (map address_of xs)) wallets,
-      ap (in_markets address) markets,
-    )
+pub names-add : (start : PlainAccounts) (srm msrm : Option Address) → AddsOnly start [] (record start { srm = srm; msrm = msrm })
+names-add start srm msrm address = omega arith
 
 -- a market without open-orders accounts
 pub market-adds : (start : PlainAccounts) (market : PlainMarketAccounts) → market.orders ≡ [] → (new : List Address)

@@ -1,5 +1,5 @@
 -- What a script starts with: accounts that are accepted, those of sound markets, and whose mints are conserved.
-use Rattle.std.proofs.Common.{◌≡◌, [], ℕ, List, Bool, true, false, Ok, ap, arith, subst, sym}
+use Rattle.std.proofs.Common.{◌≡◌, [], ℕ, List, Bool, true, false, Ok, arith, subst, sym}
 use Rattle.std.specs.List.{All}
 use Rattle.std.proofs.lemmas.List.Elements.{All-nil}
 use Rattle.dex_types.specs.Accounts.{PlainAccount, PlainAccounts}
@@ -26,12 +26,11 @@ use Rattle.dex_script.specs.Scripts.{AnswersBy, ReadsWithin, Refusal, begins_wit
 use Rattle.dex_script.proofs.FaultLaws.{bind-ok, ok-same}
 use Rattle.dex_script.proofs.KeptLaws.{clock-row, program-row}
 use Rattle.dex_script.proofs.ItemRows.{instruction-row, swap-row}
-use Rattle.dex_script.proofs.OrderLaws.{from-dump, last_script, through}
+use Rattle.dex_script.proofs.OrderLaws.{dump-audited, last_script, through}
 use Rattle.dex_script.proofs.RowParts.{market-row, mint-row, msrm-row, orders-row, srm-row, wallet-row}
 use Rattle.dex_script.proofs.StartRows.{IsDeclared, market-declared, mint-declared, msrm-declared, orders-declared, srm-declared, wallet-declared}
 use Rattle.dex_script.proofs.StartSupplies.{IsBacked, conserved}
-use Rattle.dex_script.proofs.StartAddresses.{AreTaken}
-use Rattle.dex_script.proofs.Started.{AreDeclared, IsMade, IsWalletOf, declared-start}
+use Rattle.dex_script.proofs.Started.{IsMade, IsWalletOf, declared-start}
 use Rattle.dex_script.proofs.StatedLaws.{IsStated, row-stated}
 
 nothing-declared : (limits : Limits) → AreLimits limits → (batch : Bool) → IsDeclared (no_rows limits batch)
@@ -53,45 +52,27 @@ nothing-declared limits are batch = record {
   backed = All-nil (IsBacked []);
 }
 
--- a row that leaves the accounts and what is taken
-same-declared : (before after : PlainDraft) → IsDeclared before → before.script.start ≡ after.script.start → before.taken ≡ after.taken
-    → before.script.limits ≡ after.script.limits → IsDeclared after
-same-declared before after is start taken limits = record {
-  declared =
-      subst (λ (l : Limits). AreDeclared l after.script.start) limits (subst (AreDeclared before.script.limits) start is.declared);
-  taken = subst (AreTaken after.script.start) taken (subst (λ (s : PlainAccounts). AreTaken s before.taken) start is.taken);
-  backed = subst (λ (s : PlainAccounts). All (IsBacked s.wallets) s.mints) start is.backed;
-}
-
-by-statement : (number : ℕ) (before after : PlainDraft) (statement : Statement) → IsDeclared before → IsStated statement
-    → with_statement before number statement ≡ Ok after → IsDeclared after
-by-statement number before after (row.Program program) so stated is =
-    same-declared before after so (ap (λ (d : PlainDraft). d.script.start) (program-row before after program is)) (ap (λ (d : PlainDraft). d.taken) (program-row before after program is))
-    (ap (λ (d : PlainDraft). d.script.limits) (program-row before after program is))
-by-statement number before after (row.Clock now) so stated is =
-    same-declared before after so (ap (λ (d : PlainDraft). d.script.start) (clock-row before after now is)) (ap (λ (d : PlainDraft). d.taken) (clock-row before after now is))
-    (ap (λ (d : PlainDraft). d.script.limits) (clock-row before after now is))
-by-statement number before after (row.Mint address decimals) so stated is = mint-declared before after so address decimals stated (mint-row before after address decimals is)
-by-statement number before after (row.Srm mint) so stated is = srm-declared before after so mint (srm-row before after mint is)
-by-statement number before after (row.Msrm mint) so stated is = msrm-declared before after so mint (msrm-row before after mint is)
-by-statement number before after (row.Wallet address mint owner amount) so stated is =
-    wallet-declared before after so address mint owner amount stated (wallet-row before after address mint owner amount is)
-by-statement number before after (row.Market words) so stated is = market-declared before after so words stated (market-row before after words is)
-by-statement number before after (row.Orders market address) so stated is = orders-declared before after so market address (orders-row before after market address is)
-by-statement number before after (row.Instruction words) so stated is =
-    let item = instruction-row number before after words is in
-    same-declared before after so (ap (λ (d : PlainDraft). d.script.start) item.is) (ap (λ (d : PlainDraft). d.taken) item.is)
-    (ap (λ (d : PlainDraft). d.script.limits) item.is)
-by-statement number before after (row.Swap words) so stated is =
-    let item = swap-row number before after words is in
-    same-declared before after so (ap (λ (d : PlainDraft). d.script.start) item.is) (ap (λ (d : PlainDraft). d.taken) item.is)
-    (ap (λ (d : PlainDraft). d.script.limits) item.is)
-
 by-row : (number : ℕ) (before after : PlainDraft) (fields : Fields) → IsDeclared before → with_row before number fields ≡ Ok after → IsDeclared after
 unfolding with_row
 by-row number before after fields so is =
-    let a = bind-ok (statement_of fields) (with_statement before number) after is in
-    by-statement number before after a.0 so (row-stated fields a.0 a.1) a.2
+    let a = bind-ok (statement_of fields) (with_statement before number) after is in by a.0 (row-stated fields a.0 a.1) a.2
+  where
+    by : (statement : Statement) → IsStated statement → with_statement before number statement ≡ Ok after → IsDeclared after
+    by (row.Program program) stated told =
+        subst IsDeclared (program-row before after program told).1 (record { declared = so.declared; taken = so.taken; backed = so.backed })
+    by (row.Clock now) stated told =
+        subst IsDeclared (clock-row before after now told) (record { declared = so.declared; taken = so.taken; backed = so.backed })
+    by (row.Mint address decimals) stated told = mint-declared before after so address decimals stated (mint-row before after address decimals told)
+    by (row.Srm mint) stated told = srm-declared before after so mint (srm-row before after mint told)
+    by (row.Msrm mint) stated told = msrm-declared before after so mint (msrm-row before after mint told)
+    by (row.Wallet address mint owner amount) stated told =
+        wallet-declared before after so address mint owner amount stated (wallet-row before after address mint owner amount told)
+    by (row.Market words) stated told = market-declared before after so words stated (market-row before after words told)
+    by (row.Orders market address) stated told = orders-declared before after so market address (orders-row before after market address told)
+    by (row.Instruction words) stated told =
+        subst IsDeclared (instruction-row number before after words told).is (record { declared = so.declared; taken = so.taken; backed = so.backed })
+    by (row.Swap words) stated told =
+        subst IsDeclared (swap-row number before after words told).is (record { declared = so.declared; taken = so.taken; backed = so.backed })
 
 -- what rows without a dump give
 pub plain-start : (limits : Limits) → AreLimits limits → (batch : Bool) (rows : List Fields) (draft : PlainDraft)
@@ -134,8 +115,8 @@ module _ (are-sound : AuditedAreSound) (are-conserved : AuditedAreConserved) (li
 by-answer : AuditedAreSound → AuditedAreConserved → (limits : Limits) → AreLimits limits → (batch begins : Bool) (rows : List Fields)
     (script : PlainScript) → AnswersBy limits batch begins rows (Ok script) → IsStart script.limits script.start
 by-answer are-sound are-conserved limits are batch true rows script told =
-    let starts = from-dump limits are batch rows told.0 script told.1 told.2 in
-    audited are-sound are-conserved script.limits script.start starts.accepted starts.held starts.none
+    let so = dump-audited limits are batch rows told.0 script told.1 told.2 in
+    audited are-sound are-conserved script.limits script.start so.accepted so.held so.none
 by-answer are-sound are-conserved limits are batch false rows script is = from-rows limits are batch rows script is
 
 pub starts-sound : AuditedAreSound → AuditedAreConserved → (limits : Limits) (batch : Bool) (text : List ℕ) (script : PlainScript)

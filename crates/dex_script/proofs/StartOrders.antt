@@ -1,5 +1,5 @@
 -- One more open-orders account of a market.
-use Rattle.std.proofs.Common.{◌≡◌, ◌∙◌, ◌<◌, ◌∷◌, ◌++◌, [], ℕ, suc, List, Some, ap, arith, inl, inr, length, length-append, map, refl}
+use Rattle.std.proofs.Common.{◌≡◌, ◌∙◌, ◌<◌, ◌∷◌, ◌++◌, [], ℕ, List, Some, ap, arith, inl, inr, length, length-append, map, refl, subst, sym}
 use Rattle.std.specs.List.{All}
 use Rattle.std.proofs.lemmas.Bool.{cases_Bool}
 use Rattle.std.proofs.lemmas.List.{map-append}
@@ -14,33 +14,21 @@ use Rattle.dex_types.specs.declared.limits.Limits.{Limits}
 use Rattle.dex_state.specs.Accepted.{HasFew}
 use Rattle.dex_dump.specs.Reading.{with_orders}
 use Rattle.dex_script.specs.Known.{orders_at}
+use Rattle.dex_script.proofs.FirstLaws.{all-changed, length-with_first}
+use Rattle.dex_script.proofs.MarketLaws.{has, with_one, with_orders-first}
 use Rattle.dex_script.proofs.Started.{IsMade}
 
--- the market with one more account
-abbrev pub with_account : PlainAccount → PlainMarketAccounts → PlainMarketAccounts
-with_account account market = record market { orders = market.orders ++ account ∷ [] }
-
--- what each market keeps with it, all keep
+-- what each market keeps with one more account, all keep
 pub each-grown : (P : PlainMarketAccounts → Type 0) (name : Address) (account : PlainAccount)
-    → ((market : PlainMarketAccounts) → P market → P (with_account account market))
+    → ((market : PlainMarketAccounts) → P market → P (with_one account market))
     → (markets : List PlainMarketAccounts) → All P markets → All P (with_orders name account markets)
-each-grown P name account grown [] h = h
-each-grown P name account grown (market ∷ markets) h = elim (cases_Bool (is_same name market.address)) [
-  | inl here ↦
-      All-same P (with_orders name account (market ∷ markets)) (with_account account market ∷ markets) (rw here refl)
-      (All-cons P (with_account account market) markets (grown market (All-head P market markets h)) (All-tail P market markets h))
-  | inr other ↦
-      All-same P (with_orders name account (market ∷ markets)) (market ∷ with_orders name account markets) (rw other refl)
-      (All-cons P market (with_orders name account markets) (All-head P market markets h) (each-grown P name account grown markets (All-tail P market markets h)))
-]
+each-grown P name account grown markets h =
+    subst (All P) (with_orders-first name account markets) (all-changed P (has name) (with_one account) grown markets h)
 
 pub length-grown : (name : Address) (account : PlainAccount) (markets : List PlainMarketAccounts)
     → length (with_orders name account markets) ≡ length markets
-length-grown name account [] = refl
-length-grown name account (market ∷ markets) = elim (cases_Bool (is_same name market.address)) [
-  | inl here ↦ rw here refl
-  | inr other ↦ rw other (ap suc (length-grown name account markets))
-]
+length-grown name account markets =
+    sym (ap length (with_orders-first name account markets)) ∙ length-with_first (has name) (with_one account) markets
 
 -- the first market of the address has room
 pub few-grown : (limits : Limits) (name : Address) (account : PlainAccount) (count : ℕ) (markets : List PlainMarketAccounts) → orders_at name markets ≡ Some count
@@ -49,8 +37,8 @@ few-grown limits name account count [] found few h = h
 few-grown limits name account count (market ∷ markets) found few h = elim (cases_Bool (is_same name market.address)) [
   | inl here ↦
       let size : length market.orders ≡ count = same_Some (length market.orders) count (rw here at found) in
-      All-same (HasFew limits) (with_orders name account (market ∷ markets)) (with_account account market ∷ markets) (rw here refl)
-      (All-cons (HasFew limits) (with_account account market) markets (omega (arith, length-append market.orders (account ∷ []), size)) (All-tail (HasFew limits) market markets h))
+      All-same (HasFew limits) (with_orders name account (market ∷ markets)) (with_one account market ∷ markets) (rw here refl)
+      (All-cons (HasFew limits) (with_one account market) markets (omega (arith, length-append market.orders (account ∷ []), size)) (All-tail (HasFew limits) market markets h))
   | inr other ↦
       let later : orders_at name markets ≡ Some count = rw other at found in
       All-same (HasFew limits) (with_orders name account (market ∷ markets)) (market ∷ with_orders name account markets) (rw other refl)
@@ -59,7 +47,7 @@ few-grown limits name account count (market ∷ markets) found few h = elim (cas
 ]
 
 -- a made market with one more blank account is one
-pub made-grown : (address : Address) (market : PlainMarketAccounts) → IsMade market → IsMade (with_account (blank_account address) market)
+pub made-grown : (address : Address) (market : PlainMarketAccounts) → IsMade market → IsMade (with_one (blank_account address) market)
 made-grown address market made =
     let bare = made_accounts made.set in
     let more : map blank_account (made.addresses ++ address ∷ []) ≡ map blank_account made.addresses ++ blank_account address ∷ [] =
@@ -71,6 +59,6 @@ made-grown address market made =
       trade = made.trade;
       is =
           ap (λ (os : List PlainAccount). record bare { orders = os }) more
-          ∙ ap (with_account (blank_account address)) made.is;
+          ∙ ap (with_one (blank_account address)) made.is;
       stands = made.stands;
     }

@@ -24,15 +24,15 @@ use Rattle.dex_accounts.specs.Decoded.{AreSound}
 use Rattle.dex_accounts.specs.StandsFor.{StandsFor}
 use Rattle.dex_accounts.proofs.Decoded.{AreSound-of}
 use Rattle.dex_state.specs.Accepted.{AreAccepted, AreApart as NamesApart, HasFew, HasMints, IsMintOf}
+use Rattle.dex_audit.proofs.OnceLaws.{accounts-distinct}
 use Rattle.dex_types.specs.declared.limits.Limits.{Limits}
 use Rattle.dex_types.specs.Limits.{AreLimits}
 use Rattle.dex_state.specs.Conserved.{IsConserved}
 use Rattle.dex_script_types.specs.Facts.{IsStart}
 use Rattle.dex_script_types.specs.Known.{has_account}
 use Rattle.dex_script.specs.Mints.{AreMints}
-use Rattle.dex_script.proofs.DistinctOrders.{orders-distinct}
 use Rattle.dex_script.proofs.StartAddresses.{AreTaken}
-use Rattle.dex_script.proofs.StartMints.{HasDecimals, declared-there, names-apart}
+use Rattle.dex_script.proofs.StartMints.{HasDecimals, decimals_of, declared-there, names-apart}
 
 -- a market's accounts are as they are made, with blank open-orders accounts
 pub record IsMade (accounts : PlainMarketAccounts) : Type 0 where
@@ -115,7 +115,7 @@ made-sound accounts made distinct =
 
 named : (start : PlainAccounts) (decimals : ℕ) (name : Option Address) → IfSome name (HasDecimals start.mints decimals) → IfSome name (IsMintOf start)
 named start decimals None h = tt
-named start decimals (Some address) h = declared-there start.mints address h.words h.found
+named start decimals (Some address) h = declared-there decimals_of start.mints address decimals h
 
 apart : (mints : List PlainAccount) (srm msrm : Option Address) → IfSome srm (HasDecimals mints 6) → IfSome msrm (HasDecimals mints 0) → NamesApart srm msrm
 apart mints None msrm first second = tt
@@ -146,7 +146,7 @@ pub declared-start : (limits : Limits) (start : PlainAccounts) (taken : List Add
     → All (IsConserved start) start.mints → IsStart limits start
 declared-start limits start taken are addresses supplies =
     let accepted = declared-accepted limits start taken are addresses in
-    let distinct = orders-distinct start accepted.once in
+    let distinct = accounts-distinct start accepted in
     record {
       accepted = accepted;
       sound = λ k d lt. made-sound (get_or start.markets k d) (are.markets k d lt) (distinct k d lt);

@@ -104,28 +104,6 @@ module _ (fields : Fields) (are : ArePrintable fields) where
   wide : (place : ℕ) (address : Address) → address_of (field_at fields place) ≡ Some address → length address.0 ≡ 32
   wide place address is = address-size (field_at fields place) address (are place) is
 
-  mint-stated : Gives IsStated (mint_of fields)
-  unfolding mint_of
-  mint-stated =
-      gives-past IsStated _ FieldCount _ (
-      gives-found IsStated (number_of (2 ^ 8) (field_at fields 2)) BadNumber _ (λ decimals h.
-      gives-found IsStated (address_of (field_at fields 1)) BadLabel _ (λ address h1.
-      gives-ok IsStated (row.Mint address decimals) (number-fits (2 ^ 8) (field_at fields 2) decimals h))))
-
-  wallet-stated : Gives IsStated (wallet_of fields)
-  unfolding wallet_of
-  wallet-stated =
-      gives-past IsStated _ FieldCount _ (
-      gives-found IsStated (number_of (2 ^ 64) (field_at fields 4)) BadNumber _ (λ amount h.
-      gives-found IsStated (address_of (field_at fields 1)) BadLabel _ (λ address h1.
-      gives-found IsStated (address_of (field_at fields 2)) BadLabel _ (λ mint h2.
-      gives-found IsStated (address_of (field_at fields 3)) BadLabel _ (λ owner h3.
-      gives-ok IsStated (row.Wallet address mint owner amount) (record {
-        mint_size = wide 2 mint h2;
-        owner_size = wide 3 owner h3;
-        fits = number-fits (2 ^ 64) (field_at fields 4) amount h;
-      }))))))
-
   market-stated : Gives IsMarketStated (market_of fields)
   unfolding market_of
   market-stated =
@@ -147,31 +125,33 @@ module _ (fields : Fields) (are : ArePrintable fields) where
         bytes = base64_of-bytes (field_at fields 8) bytes (printable-bytes (field_at fields 8) (are 8)) h8;
       }))))))))))
 
-  program-stated : Gives IsStated (program_of fields)
-  unfolding program_of
-  program-stated =
-      gives-past IsStated _ FieldCount _ (gives-found IsStated _ UnknownRow _ (λ program h. gives-ok IsStated (row.Program program) tt))
-
-  clock-stated : Gives IsStated (clock_of fields)
-  unfolding clock_of
-  clock-stated = gives-past IsStated _ FieldCount _ (gives-found IsStated _ BadNumber _ (λ now h. gives-ok IsStated (row.Clock now) tt))
-
-  orders-stated : Gives IsStated (orders_of fields)
-  unfolding orders_of
-  orders-stated =
+  form-stated : (kind : Form) → Gives IsStated (stated kind fields)
+  unfolding program_of clock_of mint_of wallet_of orders_of
+  form-stated form.Program = gives-past IsStated _ FieldCount _ (gives-found IsStated _ UnknownRow _ (λ program h. gives-ok IsStated (row.Program program) tt))
+  form-stated form.Clock = gives-past IsStated _ FieldCount _ (gives-found IsStated _ BadNumber _ (λ now h. gives-ok IsStated (row.Clock now) tt))
+  form-stated form.Mint =
+      gives-past IsStated _ FieldCount _ (
+      gives-found IsStated (number_of (2 ^ 8) (field_at fields 2)) BadNumber _ (λ decimals h.
+      gives-found IsStated (address_of (field_at fields 1)) BadLabel _ (λ address h1.
+      gives-ok IsStated (row.Mint address decimals) (number-fits (2 ^ 8) (field_at fields 2) decimals h))))
+  form-stated form.Srm = gives-bind IsStated (discount_of fields) _ (λ mint h. gives-ok IsStated (row.Srm mint) tt)
+  form-stated form.Msrm = gives-bind IsStated (discount_of fields) _ (λ mint h. gives-ok IsStated (row.Msrm mint) tt)
+  form-stated form.Wallet =
+      gives-past IsStated _ FieldCount _ (
+      gives-found IsStated (number_of (2 ^ 64) (field_at fields 4)) BadNumber _ (λ amount h.
+      gives-found IsStated (address_of (field_at fields 1)) BadLabel _ (λ address h1.
+      gives-found IsStated (address_of (field_at fields 2)) BadLabel _ (λ mint h2.
+      gives-found IsStated (address_of (field_at fields 3)) BadLabel _ (λ owner h3.
+      gives-ok IsStated (row.Wallet address mint owner amount) (record {
+        mint_size = wide 2 mint h2;
+        owner_size = wide 3 owner h3;
+        fits = number-fits (2 ^ 64) (field_at fields 4) amount h;
+      }))))))
+  form-stated form.Orders =
       gives-past IsStated _ FieldCount _ (
       gives-found IsStated (address_of (field_at fields 1)) BadLabel _ (λ market h1.
       gives-found IsStated (address_of (field_at fields 2)) BadLabel _ (λ address h2.
       gives-ok IsStated (row.Orders market address) tt)))
-
-  form-stated : (kind : Form) → Gives IsStated (stated kind fields)
-  form-stated form.Program = program-stated
-  form-stated form.Clock = clock-stated
-  form-stated form.Mint = mint-stated
-  form-stated form.Srm = gives-bind IsStated (discount_of fields) _ (λ mint h. gives-ok IsStated (row.Srm mint) tt)
-  form-stated form.Msrm = gives-bind IsStated (discount_of fields) _ (λ mint h. gives-ok IsStated (row.Msrm mint) tt)
-  form-stated form.Wallet = wallet-stated
-  form-stated form.Orders = orders-stated
   form-stated form.Market =
       gives-bind IsStated (market_of fields) _ (λ words h. gives-ok IsStated (row.Market words) (market-stated words h))
   form-stated form.Bytes = gives-bind IsStated (bytes_row fields) _ (λ words h. gives-ok IsStated (row.Instruction words) tt)

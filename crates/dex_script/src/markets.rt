@@ -115,27 +115,12 @@ fn has_no_room(words: &MarketWords) -> bool
 fn market_ix(bytes: &[u8]) -> Option<Ix>
     ensures { result ≡ spec.market_ix (decoded bytes.now) }
 {
-    match decode(bytes) {
-        Ok(
-            Ix::InitializeMarket {
-                coin_lot,
-                pc_lot,
-                fee_rate_bps,
-                nonce,
-                dust,
-            },
-        ) => {
-            if fee_rate_bps < 100 {
-                Some(Ix::InitializeMarket {
-                    coin_lot,
-                    pc_lot,
-                    fee_rate_bps,
-                    nonce,
-                    dust,
-                })
-            } else {
-                None
-            }
+    let Ok(ix) = decode(bytes) else {
+        return None;
+    };
+    match ix {
+        Ix::InitializeMarket { fee_rate_bps, .. } => {
+            if fee_rate_bps < 100 { Some(ix) } else { None }
         }
         _ => None,
     }

@@ -6,7 +6,6 @@ ghost use Rattle.dex_state.specs.Accepted.{AreAccepted};
 ghost use Rattle.dex_types.specs.Limits.{AreLimits};
 ghost use Rattle.dex_types.specs.declared.limits.TheConstants.{STANDARD as standard};
 ghost use Rattle.dex_dump.specs.Answers.{next_number};
-ghost use Rattle.dex_statement.specs.Faults.{code_of, kind_number};
 ghost use Rattle.dex_rows.specs.Records.{rows_of};
 ghost use Rattle.dex_script_types.specs.Facts.{HasNoSwap};
 ghost use Rattle.dex_script.specs.Rows.{with_row};
@@ -30,7 +29,7 @@ use dex_audit::{
 use dex_dump::{DumpError, DumpRead, is_first_row};
 use dex_rows::records::{Fields, Rows};
 use dex_script_types::Script;
-use dex_statement::{FaultKind, InstructionWords, RowError};
+use dex_statement::{InstructionWords, RowError};
 use dex_types::{Limits, NoMemory, STANDARD};
 use std::alloc::Global;
 
@@ -330,18 +329,12 @@ fn add_row(
 {
     match reader.add_row(alloc, number, row, words) {
         Ok(()) => Ok(()),
-        Err(RowError::Fault(kind)) => Err(row_error(number, kind)),
+        Err(RowError::Fault(kind)) => Err(ScriptError::Row {
+            row: number,
+            kind: kind.number(),
+            code: kind.code(),
+        }),
         Err(RowError::NoMemory) => Err(ScriptError::NoMemory),
-    }
-}
-
-fn row_error(row: u32, kind: FaultKind) -> ScriptError
-    ensures { result ≡ ScriptError.Row row (kind_number kind) (code_of kind) }
-{
-    ScriptError::Row {
-        row,
-        kind: kind.number(),
-        code: kind.code(),
     }
 }
 

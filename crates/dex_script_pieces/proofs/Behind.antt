@@ -4,6 +4,7 @@ use Rattle.std.specs.List.{AllZip}
 use Rattle.std.proofs.lemmas.Grind.{flat_map-append}
 use Rattle.std.proofs.lemmas.List.{take-append-drop}
 use Rattle.std.proofs.lemmas.List.Elements.{All-cons, All-head, All-nil, All-tail}
+use Rattle.std.proofs.lemmas.Result.{IfOk-at_ok}
 use Rattle.dex_statement.specs.Faults.{◌>>=◌}
 use Rattle.dex_statement.specs.Words.{Fields}
 use Rattle.dex_script.specs.declared.fault.ScriptError.{ScriptError}
@@ -34,9 +35,6 @@ refused-both error draft number rows more told =
 
 -- ---- a reader beside a script
 
-pub stays-first : (draft : PlainDraft) → IsUnderway draft → Stays draft draft
-stays-first draft under = record { under = under; same = λ clock. refl }
-
 pub stays-more : (first before after : PlainDraft) (number : ℕ) (rows : List Fields) → Stays first before → draft_after before number rows ≡ Ok after
     → Stays first after
 stays-more first before after number rows stays is =
@@ -56,29 +54,22 @@ told-ok : (reader : Result PlainDraft ScriptError) (meant : Result PlainDraft Re
 told-ok (Ok read) meant A told a = (told, a)
 told-ok (Err error) meant A told a = tt
 
--- what a piece told when it was read, where it is known what its reader was before
-told-by : (reader : PlainDraft) (before after : Piece) → before.reader ≡ Ok reader → ReadsPiece before after
-    → TellsDraft after.reader (draft_after reader before.number before.rows)
-told-by reader before after is reads =
-    subst (λ (r : Result PlainDraft ScriptError). IfOk r (λ (from : PlainDraft). TellsDraft after.reader (draft_after from before.number before.rows))) is reads.told
-
 has-read : (draft : PlainDraft) (before after : Piece) → IsBeside draft before → ReadsPiece before after → HasRead draft after
 has-read draft before after is reads =
     rw (reads.clock, reads.number, reads.rows)
     (told-ok after.reader (draft_after (beside draft before.clock) before.number before.rows) (after.after ≡ number_after before.number before.rows)
-    (told-by (beside draft before.clock) before after is reads) reads.behind)
+    (IfOk-at_ok (λ (from : PlainDraft). TellsDraft after.reader (draft_after from before.number before.rows)) is reads.told) reads.behind)
 
 -- pieces were read
 pub pieces-read : (draft : PlainDraft) (before after : List Piece) → All (IsBeside draft) before → AllZip ReadsPiece before after
     → All (HasRead draft) after × (rows_of after ≡ rows_of before)
 pieces-read draft [] [] are read = (All-nil (HasRead draft), refl)
-pieces-read draft [] (a ∷ after) are read = absurd read
-pieces-read draft (b ∷ before) [] are read = absurd read
 pieces-read draft (b ∷ before) (a ∷ after) are (first, read) =
     let rest = pieces-read draft before after (All-tail (IsBeside draft) b before are) read in (
       All-cons (HasRead draft) a after (has-read draft b a (All-head (IsBeside draft) b before are) first) rest.0,
       ap (λ (rows : List Fields). rows ++ rows_of after) first.rows ∙ ap (λ (rows : List Fields). b.rows ++ rows) rest.1,
     )
+pieces-read draft _ _ are read = absurd read
 
 -- what a piece has that was read without a fault
 pub read-of : (draft : PlainDraft) (piece : Piece) (read : PlainDraft) → HasRead draft piece → piece.reader ≡ Ok read

@@ -1,5 +1,5 @@
 -- Markets that were made.
-use Rattle.std.proofs.Common.{◌≡◌, ◌∙◌, List, [], ◌∷◌, Result, Ok, Err, IfOk, ap, map, refl, subst, sym}
+use Rattle.std.proofs.Common.{◌≡◌, ◌∙◌, List, [], ◌∷◌, Result, Ok, Err, IfOk, ap, map, refl, subst}
 use Rattle.std.specs.List.{AllZip}
 use Rattle.dex_types.specs.declared.terms.NoMemory.{NoMemory}
 use Rattle.dex_types.specs.Accounts.{PlainMarketAccounts}
@@ -12,37 +12,19 @@ Told = Result PlainMarketAccounts NoMemory
 abbrev oks : List PlainMarketAccounts → List Told
 oks markets = map (λ (market : PlainMarketAccounts). Ok market) markets
 
-same-first : {A : Type 0} (x y : A) (xs ys : List A) → x ∷ xs ≡ y ∷ ys → x ≡ y
-same-first x y xs ys is = cc
-
-same-others : {A : Type 0} (x y : A) (xs ys : List A) → x ∷ xs ≡ y ∷ ys → xs ≡ ys
-same-others x y xs ys is = cc
-
-none-more : {A : Type 0} (x : A) (xs : List A) → x ∷ xs ≡ [] → ⊥
-none-more x xs is = cc
-
-same-ok : (one other : PlainMarketAccounts) (r : Told) → r ≡ Ok one → r ≡ Ok other → one ≡ other
-same-ok one other r here there = cc
-
 -- where every job has made its market, these are the markets
 pub all-made : (markets : List PlainMarketAccounts) (before after : List Making) (made : List PlainMarketAccounts) → in_jobs before ≡ oks markets
     → AllZip MakesMarket before after → oks made ≡ in_jobs after → made ≡ markets
 all-made [] [] [] [] had ran is = refl
-all-made [] [] [] (m ∷ made) had ran is = absurd (none-more (Ok m) (oks made) is)
-all-made [] [] (a ∷ after) made had ran is = absurd ran
-all-made [] (b ∷ before) after made had ran is = absurd (none-more b.market (in_jobs before) had)
-all-made (m ∷ markets) [] after made had ran is = absurd (none-more (Ok m) (oks markets) (sym had))
-all-made (m ∷ markets) (b ∷ before) [] made had ran is = absurd ran
-all-made (m ∷ markets) (b ∷ before) (a ∷ after) [] had ran is = absurd (none-more a.market (in_jobs after) (sym is))
 all-made (m ∷ markets) (b ∷ before) (a ∷ after) (n ∷ made) had (first, others) is =
-    let here : b.market ≡ Ok m = same-first b.market (Ok m) (in_jobs before) (oks markets) had in
-    let there : b.market ≡ Ok n =
-    subst (λ (r : Told). IfOk r (λ (market : PlainMarketAccounts). b.market ≡ Ok market))
-    (sym (same-first (Ok n) a.market (oks made) (in_jobs after) is)) first in
-    ap (λ (market : PlainMarketAccounts). market ∷ made) (same-ok n m b.market there here)
-    ∙ ap (λ (rest : List PlainMarketAccounts). m ∷ rest)
-    (all-made markets before after made (same-others b.market (Ok m) (in_jobs before) (oks markets) had) others
-    (same-others (Ok n) a.market (oks made) (in_jobs after) is))
+    let told : a.market ≡ Ok n = cc in
+    let there : b.market ≡ Ok n = subst (λ (r : Told). IfOk r (λ (market : PlainMarketAccounts). b.market ≡ Ok market)) told first in
+    let had_others : in_jobs before ≡ oks markets = cc in
+    let are_others : oks made ≡ in_jobs after = cc in
+    let rest = all-made markets before after made had_others others are_others in cc
+all-made _ [] (a ∷ after) _ had ran is = absurd ran
+all-made _ (b ∷ before) [] _ had ran is = absurd ran
+all-made _ _ _ _ had ran is = absurd (cc)
 
 -- what jobs made, where it is known which markets they had and what they left
 pub if-made : {V : Type 0} (result : Result V NoMemory) (items : V → List PlainMarketAccounts) (markets : List PlainMarketAccounts)

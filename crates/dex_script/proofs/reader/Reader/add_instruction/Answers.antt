@@ -1,9 +1,8 @@
-use Rattle.std.proofs.Common.{◌≡◌, ◌∙◌, Some, None, ap, refl, sym}
+use Rattle.std.proofs.Common.{◌≡◌, ◌∙◌, Some, ap, refl, sym}
 use Rattle.dex_script.specs.Drafts.{PlainDraft}
-use Rattle.dex_script.specs.Names.{FindsAmong, StandAt}
 use Rattle.dex_script.specs.Rows.{with_instruction}
 use Rattle.dex_script.specs.Telling.{draft_of, start_of}
-use Rattle.dex_script.proofs.NameLaws.{found-in, known, unknown}
+use Rattle.dex_script.proofs.NameLaws.{found-in, known-in, unknown-in}
 use Rattle.dex_script.proofs.reader.Reader.add_instruction.Goals as goal
 
 pub add_known-requires-clause-at : goal.add_known-requires-clause-at
@@ -18,15 +17,12 @@ unfolding with_instruction
 returns-in-Some c =
     let start = c.args.self.now.script.start in
     let same : draft_of c.self.inside.draft ≡ c.args.self.now = c.self.view_is ∙ c.in_ok-at.ensures.same in
-    let found : StandAt start c.args.words.now.parties c.in-Some.at =
-    found-in start start c.args.words.now _ _ (Some c.in-Some.at) refl
-    c.words.view_is c.in-Some.is c.in_ok-at.ensures.places in
-    rw (known start c.args.words.now.parties c.in-Some.at found, sym same) c.add_known.ensures.row
+    let found = known-in start start c.args.words.now _ _ c.in-Some.at refl c.words.view_is c.in-Some.is c.in_ok-at.ensures.places in
+    rw (found, sym same) c.add_known.ensures.row
 
 pub returns-in-None : goal.returns-in-None
 unfolding with_instruction
 returns-in-None c =
     let start = c.args.self.now.script.start in
-    let none : FindsAmong start c.args.words.now.parties None =
-    found-in start start c.args.words.now _ _ None refl c.words.view_is c.in-None.is c.in_ok-at.ensures.places in
-    (rw (unknown start c.args.words.now.parties none) refl, c.in_ok-at.ensures.same)
+    let none = unknown-in start start c.args.words.now _ _ refl c.words.view_is c.in-None.is c.in_ok-at.ensures.places in
+    (rw none refl, c.in_ok-at.ensures.same)

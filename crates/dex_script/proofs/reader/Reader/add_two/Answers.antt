@@ -1,9 +1,8 @@
-use Rattle.std.proofs.Common.{◌≡◌, ◌∙◌, Some, None, ap, refl, sym}
+use Rattle.std.proofs.Common.{◌≡◌, ◌∙◌, Some, ap, refl, sym}
 use Rattle.dex_script.specs.Drafts.{PlainDraft}
-use Rattle.dex_script.specs.Names.{FindsAmong, StandAt}
 use Rattle.dex_script.specs.Rows.{with_two}
 use Rattle.dex_script.specs.Telling.{draft_of}
-use Rattle.dex_script.proofs.NameLaws.{found-in, known, unknown}
+use Rattle.dex_script.proofs.NameLaws.{found-in, known-in, unknown-in}
 use Rattle.dex_script.proofs.reader.Reader.add_two.Goals as goal
 
 pub add_legs-requires-clause-first : goal.add_legs-requires-clause-first
@@ -25,26 +24,18 @@ pub returns-in_default : goal.returns-in_default
 unfolding with_two
 returns-in_default c =
     let start = c.args.self.now.script.start in
-    let none : FindsAmong start c.args.first.now.parties None =
-    found-in start start c.args.first.now _ _ None refl
-    c.first.view_is c.in_default.is c.in_ok-first_at.ensures.places in
-    (rw (unknown start c.args.first.now.parties none) refl, c.in_ok-first_at.ensures.same)
+    let first = unknown-in start start c.args.first.now _ _ refl c.first.view_is c.in_default.is c.in_ok-first_at.ensures.places in
+    (rw first refl, c.in_ok-first_at.ensures.same)
 
 pub returns-in_default-2 : goal.returns-in_default-2
 unfolding with_two
 returns-in_default-2 c =
     let start = c.args.self.now.script.start in
     let same : c.places_of.new.self ≡ c.args.self.now = c.in_ok-first_at.ensures.same in
-    let found : StandAt start c.args.first.now.parties c.in-Some.first_at =
-    found-in start start c.args.first.now _ _ (Some c.in-Some.first_at) refl
-    c.first.view_is c.in-Some.is c.in_ok-first_at.ensures.places in
-    let none : FindsAmong start c.args.second.now.parties None =
-    found-in _ start c.args.second.now _ _ None (ap (λ (d : PlainDraft). d.script.start) (sym same))
-    c.second.view_is c.in_default-2.is
-    c.in_ok-second_at.ensures.places in (
-      rw (known start c.args.first.now.parties c.in-Some.first_at found, unknown start c.args.second.now.parties none) refl,
-      c.in_ok-second_at.ensures.same ∙ same,
-    )
+    let first = known-in start start c.args.first.now _ _ c.in-Some.first_at refl c.first.view_is c.in-Some.is c.in_ok-first_at.ensures.places in
+    let second = unknown-in _ start c.args.second.now _ _ (ap (λ (d : PlainDraft). d.script.start) (sym same)) c.second.view_is c.in_default-2.is
+    c.in_ok-second_at.ensures.places in
+    (rw (first, second) refl, c.in_ok-second_at.ensures.same ∙ same)
 
 pub returns : goal.returns
 unfolding with_two
@@ -52,15 +43,7 @@ returns c =
     let start = c.args.self.now.script.start in
     let same : c.places_of.new.self ≡ c.args.self.now = c.in_ok-first_at.ensures.same in
     let both : draft_of c.self.inside.draft ≡ c.args.self.now = c.self.view_is ∙ c.in_ok-second_at.ensures.same ∙ same in
-    let first : StandAt start c.args.first.now.parties c.in-Some.first_at =
-    found-in start start c.args.first.now _ _ (Some c.in-Some.first_at) refl
-    c.first.view_is c.in-Some.is c.in_ok-first_at.ensures.places in
-    let second : StandAt start c.args.second.now.parties c.in-Some-2.second_at =
-    found-in _ start c.args.second.now _ _ (Some c.in-Some-2.second_at) (ap (λ (d : PlainDraft). d.script.start) (sym same))
-    c.second.view_is c.in-Some-2.is
-    c.in_ok-second_at.ensures.places in
-    rw (
-      known start c.args.first.now.parties c.in-Some.first_at first,
-      known start c.args.second.now.parties c.in-Some-2.second_at second,
-      sym both,
-    ) c.add_legs.ensures.row
+    let first = known-in start start c.args.first.now _ _ c.in-Some.first_at refl c.first.view_is c.in-Some.is c.in_ok-first_at.ensures.places in
+    let second = known-in _ start c.args.second.now _ _ c.in-Some-2.second_at (ap (λ (d : PlainDraft). d.script.start) (sym same)) c.second.view_is
+    c.in-Some-2.is c.in_ok-second_at.ensures.places in
+    rw (first, second, sym both) c.add_legs.ensures.row
