@@ -14,21 +14,21 @@ use Rattle.dex_world.proofs.KeptMoves.{moves-kept}
 use Rattle.dex_world.proofs.OnceLaws.{each-any}
 use Rattle.dex_turns.specs.Submitted.{written_by}
 use Rattle.dex_turns.specs.Turns.{AreRising}
-use Rattle.dex_turns.proofs.Rising.{AreOnce, rising-once}
+use Rattle.dex_turns.proofs.Rising.{not-among}
 
 abbrev address_in : CellState → Address
 address_in cell = cell.address
 
 -- ---- by address
 
-apart-cells : (cells : List CellState) → AreOnce (map address_in cells) → AreApart cells
-apart-cells [] once = tt
-apart-cells (cell ∷ cells) once = (is_among-any cell.address cells ∙ once.0, apart-cells cells once.1)
+apart-cells : (cells : List CellState) → AreRising (map address_in cells) → AreApart cells
+apart-cells [] rising = tt
+apart-cells (cell ∷ cells) rising = (is_among-any cell.address cells ∙ not-among cell.address (map address_in cells) rising.0, apart-cells cells rising.1)
 
--- the cells are of wallets of the script, each with room for an entry, and no two of one
+-- the cells are of wallets of the script, each with room for an entry, by rising address
 pub record HasHands (script : PlainScript) (cells : List CellState) : Type 0 where
   pub ready : All (IsReady script) cells
-  pub once : AreOnce (map address_in cells)
+  pub rising : AreRising (map address_in cells)
 
 -- the cells of all wallets of an item are in hand, in their order
 pub hands-are : (script : PlainScript) (named : List Address) (cells : List CellState) → AreInHand script named [] cells → map address_in cells ≡ named
@@ -36,19 +36,9 @@ hands-are script named cells hand = sym (append-nil (map address_in cells)) ∙ 
 
 pub has-hands : (script : PlainScript) (named : List Address) (cells : List CellState) → AreInHand script named [] cells → AreRising named → HasHands script cells
 has-hands script named cells hand rising =
-    record { ready = hand.ready; once = subst AreOnce (sym (hands-are script named cells hand)) (rising-once named rising) }
+    record { ready = hand.ready; rising = subst AreRising (sym (hands-are script named cells hand)) rising }
 
 -- ---- what is seen of one of them
-
-mint-stays : (cell : CellState) → IsWalletCell cell → (wallet_words cell.bytes).mint ≡ (wallet_words cell.start).mint
-mint-stays cell is =
-    ap (λ (bytes : List ℕ). (wallet_words bytes).mint) is.others
-    ∙ ap (λ (words : WalletWords). words.mint) (wallet_words-with_amount cell.start (balance_of cell.bytes) (ap balance_of (sym is.others)))
-
-owner-stays : (cell : CellState) → IsWalletCell cell → (wallet_words cell.bytes).owner ≡ (wallet_words cell.start).owner
-owner-stays cell is =
-    ap (λ (bytes : List ℕ). (wallet_words bytes).owner) is.others
-    ∙ ap (λ (words : WalletWords). words.owner) (wallet_words-with_amount cell.start (balance_of cell.bytes) (ap balance_of (sym is.others)))
 
 abbrev IsOf : WalletSeen → PlainAccount → Type 0
 IsOf seen wallet =
@@ -56,8 +46,8 @@ IsOf seen wallet =
 
 seen-so : (cell : CellState) → IsWalletCell cell → IsOf (seen_of cell) (record { address = cell.address; bytes = cell.start })
 seen-so cell is =
-    ap (λ (a : Address). record (seen_of cell) { mint = a }) (mint-stays cell is)
-    ∙ ap (λ (a : Address). record (seen_of cell) { mint = (wallet_words cell.start).mint; owner = a }) (owner-stays cell is)
+    ap (λ (words : WalletWords). record (seen_of cell) { mint = words.mint; owner = words.owner })
+    (ap wallet_words is.others ∙ wallet_words-with_amount cell.start (balance_of cell.bytes) (ap balance_of (sym is.others)))
 
 stands : (P : PlainAccount → Type 0) (earlier later : List PlainAccount) (wallet : PlainAccount) → P wallet → Any P (earlier ++ wallet ∷ later)
 stands P [] later wallet is = any-here P wallet later is
@@ -88,7 +78,7 @@ module _ (script : PlainScript) (row : PlainRow) (cells : List CellState) (hand 
 
   pub has-wallets : (places : WalletPlaces) → ArePlacesAmong cells row places → HasWallets row places cells
   has-wallets places at = record {
-    apart = apart-cells cells hand.once;
+    apart = apart-cells cells hand.rising;
     kept = All-weaker (IsReady script) IsWalletCell (λ cell ready. ready.kept) cells hand.ready;
     spare = All-weaker (IsReady script) (λ (cell : CellState). names row cell.address ≡ true → HasSpare cell) (λ cell ready named. ready.spare) cells hand.ready;
     at = at;
