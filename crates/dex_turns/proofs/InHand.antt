@@ -1,8 +1,8 @@
 -- The cells in hand, when they are those of all wallets that a row names: what it sees, and what it leaves.
-use Rattle.std.proofs.Common.{◌≡◌, ℕ, true, List, [], ◌∷◌, ◌++◌, length, map, Option, Some, None, refl, sym, ap, ◌∙◌, subst, arith}
+use Rattle.std.proofs.Common.{◌≡◌, ℕ, true, List, [], ◌∷◌, length, map, Option, Some, None, refl, sym, ap, ◌∙◌, subst, arith}
 use Rattle.dex_world.proofs.Common.{Address, All-head, All-tail, All-weaker, AllZip, Call, Movement, PlainAccount, PlainRow, Reply, Seen, Sees, Transfers, WalletSeen, WalletState, asked_of, cond-true, cond_both, entry_by, filter, is_same, list_any, movement_of, names, places-movements, role_at, row_wallets, seen_by, wallet_acted, wallet_at, wallet_entry_by, wallet_moved}
-use Rattle.dex_turns.proofs.Common.{All-unmap, AreInHand, CellState, HasEntry, IsReady, IsSight, IsWalletCell, IsWalletSeen, MovesEach, PlainScript, Stamped, WalletWords, any-here, any-there, balance_of, entries_in, entry_made, made_of, wallet_state_of, wallet_words, wallet_words-with_amount, world_with}
-use Rattle.std.specs.List.{All, Any}
+use Rattle.dex_turns.proofs.Common.{All-unmap, AreInHand, CellState, HasEntry, IsReady, IsSight, IsWalletCell, IsWalletSeen, MovesEach, PlainScript, Stamped, WalletWords, balance_of, entries_in, entry_made, made_of, wallet_state_of, wallet_words, wallet_words-with_amount, world_with}
+use Rattle.std.specs.List.{All}
 use Rattle.std.proofs.lemmas.List.{append-nil}
 use Rattle.dex_history.proofs.WalletLaws.{movements-named}
 use Rattle.dex_wallet.specs.CellState.{HasSpare, seen_of}
@@ -49,14 +49,9 @@ seen-so cell is =
     ap (λ (words : WalletWords). record (seen_of cell) { mint = words.mint; owner = words.owner })
     (ap wallet_words is.others ∙ wallet_words-with_amount cell.start (balance_of cell.bytes) (ap balance_of (sym is.others)))
 
-stands : (P : PlainAccount → Type 0) (earlier later : List PlainAccount) (wallet : PlainAccount) → P wallet → Any P (earlier ++ wallet ∷ later)
-stands P [] later wallet is = any-here P wallet later is
-stands P (one ∷ earlier) later wallet is = any-there P one (earlier ++ wallet ∷ later) (stands P earlier later wallet is)
-
 cell-sight : (script : PlainScript) (cell : CellState) → IsReady script cell → IsWalletSeen script.start.wallets (Some (seen_of cell))
 cell-sight script cell ready =
-    subst (Any (IsOf (seen_of cell))) (sym ready.start.is)
-    (stands (IsOf (seen_of cell)) ready.start.earlier ready.start.later (record { address = cell.address; bytes = cell.start }) (seen-so cell ready.kept))
+    let any = ready.start in (any.0, any.1, any.2, any.3, subst (IsOf (seen_of cell)) (sym any.4) (seen-so cell ready.kept))
 
 at-sight : (script : PlainScript) (address : Address) (list : List CellState) → All (IsReady script) list → IsWalletSeen script.start.wallets (wallet_at address (map wallet_state_of list))
 at-sight script address [] ready = tt

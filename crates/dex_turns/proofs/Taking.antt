@@ -1,11 +1,11 @@
 -- The turn of an item's next wallet: what is known when it is taken, and when it is left.
-use Rattle.std.proofs.Common.{◌≡◌, ℕ, suc, ◌+◌, ◌-◌, ◌<◌, ◌==◌, true, false, List, [], ◌∷◌, ◌++◌, drop, length, map, set, take, get_or, Some, None, refl, sym, ap, ◌∙◌, subst, arith}
+use Rattle.std.proofs.Common.{◌≡◌, ℕ, ◌+◌, ◌-◌, ◌<◌, ◌==◌, true, false, List, [], ◌∷◌, ◌++◌, drop, length, map, set, take, get_or, Some, None, refl, sym, ap, ◌∙◌, subst, arith}
 use Rattle.dex_world.proofs.Common.{Address, All-head, All-push, AllZip-long, PlainAccount, WalletEntry, cond-true, eq-eqb, get_or-map, is_same, is_same-refl, length-map, list_any, or_left}
 use Rattle.dex_world.proofs.MappedLists.{same-get, three-long, zip-at}
 use Rattle.dex_world.specs.Places.{ArePlacesOf}
 use Rattle.dex_turns.proofs.Common.{AreInHand, AreReady, BankState, CellState, HasEntry, HasLeft, HaveGrown, Idle, IsBank, IsPlace, IsReady, IsWalletGate, MayDraw, MayLeave, OneGrows, Stamped, TrailState, WalletOrigin, added, entries_by, left_by, of_lane, rows_of_wallet, wallet_addresses, wallet_entries}
-use Rattle.std.proofs.Math.Seq.{drop-cons, take-length}
-use Rattle.std.proofs.lemmas.List.{drop-drop, length-append, take-append-drop}
+use Rattle.std.proofs.Math.Seq.{take-length}
+use Rattle.std.proofs.lemmas.List.{drop-drop, length-append}
 use Rattle.std.proofs.lemmas.Bool.Decides.{nat_tests}
 use Rattle.std.proofs.lemmas.Option.{none-some}
 use Rattle.dex_gate.specs.declared.stage.Stage.TheVariants.{Out}
@@ -205,13 +205,7 @@ module _ {bank : BankState} {named : List Address} {lane : ℕ} {hands : List Ce
         record {
           kept = is_out.kept.cell;
           spare = spare-wallet (left_by trail) is_out.kept lane few;
-          start = record {
-            earlier = take place starts;
-            later = drop (suc place) starts;
-            is =
-                sym (take-append-drop place starts)
-                ∙ ap (λ (behind : List PlainAccount). take place starts ++ behind) (drop-cons starts place any_start within ∙ ap (λ (x : PlainAccount). x ∷ drop (suc place) starts) (sym same));
-          };
+          start = (place, start, within, same-get starts place start any_start within, sym same);
         }
 
     module _ {cell : CellState} {more : List CellState} (cell_is : cell ≡ trail.before) (pushed : more ≡ hands ++ cell ∷ []) where

@@ -1,7 +1,7 @@
 -- An item while it has turns: those of its markets, and those of the first of its wallets, whose cells are in hand.
 use Rattle.std.specs.Prelude.{ℕ, ◌≡◌, ◌<◌, ◌==◌, true, false, List, [], ◌∷◌, ◌++◌, Option, Some, None, All}
 use Rattle.std.specs.Prelude.{drop, if◌then◌else◌, length, map, slice_index_or, slice_set}
-use Rattle.std.specs.List.{AllZip, list_any}
+use Rattle.std.specs.List.{AllZip, Any, list_any}
 use Rattle.dex_types.specs.declared.addresses.Address.{Address}
 use Rattle.dex_types.specs.declared.movements.WalletEntry.{WalletEntry}
 use Rattle.dex_world.specs.declared.places.RowWallets.{RowWallets}
@@ -197,17 +197,12 @@ first_in (place ∷ places) = if place == 65535 then None else Some place
 abbrev pub left_of : List Address → List CellState → List Address
 left_of named cells = drop (length cells) named
 
--- a wallet of the start is this one
-pub record IsOfStart (wallets : List PlainAccount) (cell : CellState) : Type 0 where
-  pub earlier : List PlainAccount
-  pub later : List PlainAccount
-  pub is : wallets ≡ earlier ++ record { address = cell.address; bytes = cell.start } ∷ later
-
 -- the cell is that of a wallet of the script, with room for an entry
 pub record IsReady (script : PlainScript) (cell : CellState) : Type 0 where
   pub kept : IsWalletCell cell
   pub spare : HasSpare cell
-  pub start : IsOfStart script.start.wallets cell
+  pub start : Any (λ (account : PlainAccount). account ≡ record { address = cell.address; bytes = cell.start })
+      script.start.wallets
 
 -- the cells are those of the first of these wallets, and these are the others' addresses
 pub record AreInHand (script : PlainScript) (named : List Address) (others : List Address) (cells : List CellState)

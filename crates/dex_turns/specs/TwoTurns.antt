@@ -15,12 +15,3 @@ pub record HaveTaken (one two : MarketGate) (place next : ℕ)
   pub market : turns.markets.first.last ≤ turns.stamp.number
   pub market_next : turns.markets.second.last ≤ turns.stamp.number
   pub stamp : last ≤ turns.stamp.number
-
--- these turns, the other market's first
-abbrev pub exchanged : TwoTurns → TwoTurns
-exchanged turns = record {
-  markets = record { first = turns.markets.second; second = turns.markets.first };
-  first = turns.second;
-  second = turns.first;
-  stamp = turns.stamp;
-}
