@@ -1,5 +1,5 @@
 -- Histories that grow.
-use Rattle.std.proofs.Common.{◌≡◌, ◌≢◌, ℕ, ◌≤◌, Bool, true, false, cond, eqb, List, [], ◌∷◌, ◌++◌, length, sym, refl, ap, ◌∙◌, subst, arith, append_assoc, append-nil, length-append, eq-eqb, ne_eqb, eqb-true}
+use Rattle.std.proofs.Common.{◌≡◌, ◌≢◌, ℕ, Bool, true, false, cond, eqb, List, [], ◌∷◌, ◌++◌, length, sym, refl, ap, ◌∙◌, subst, arith, append_assoc, append-nil, length-append, eq-eqb, ne_eqb, eqb-true}
 use Rattle.std.proofs.lemmas.List.Prefix.{front_rest}
 use Rattle.std.proofs.lemmas.List.Elements.{filter-append}
 use Rattle.dex_gate.specs.History.{added, Extends, of_lane, AddsOne}
@@ -13,9 +13,6 @@ module _ {E : Type 0} where
 
   pub extends_through : (a b c : List E) → Extends a b → Extends b c → Extends a c
   extends_through a b c f g = extends_by a (added a b ++ added b c) c (sym g ∙ (ap (λ l. l ++ added b c) (sym f) ∙ append_assoc a (added a b) (added b c)))
-
-  pub length-extends : (a b : List E) → Extends a b → length a ≤ length b
-  length-extends a b f = omega (arith, length-append a (added a b), ap length f)
 
   -- what is added grows with the list
   pub added-append : (a b rest : List E) → Extends a b → added a (b ++ rest) ≡ added a b ++ rest
@@ -57,11 +54,3 @@ module _ {E : Type 0} where
       added_is = o.1;
       lane_is_n = lane_is n o.0 (eqb (lane o.0) n) refl (subst (λ l. of_lane lane n l ≡ l) o.1 h.2);
     }
-
-    -- one entry of the lane after a list is what a turn may add
-    pub AddsOne-append : (before : List E) (e : E) → AddsOne lane (lane e) before (before ++ e ∷ [])
-    AddsOne-append before e = let rest : added before (before ++ e ∷ []) ≡ e ∷ [] = front_rest (before ++ e ∷ []) before (e ∷ []) refl in (
-      extends_by before (e ∷ []) (before ++ e ∷ []) refl,
-      omega (arith, length-append before (e ∷ [])),
-      subst (λ l. of_lane lane (lane e) l ≡ l) (sym rest) (of_lane-here (lane e) e refl),
-    )

@@ -6,7 +6,7 @@ use native.Mathlib.Decide.{ℕ_discrete}
 use lib.ListN.{get_elem?}
 use lib.Seq.{set-get_or}
 use Rattle.std.proofs.lemmas.List.Sums.{sum_by-cons, sum_by-append}
-use Rattle.std.proofs.lemmas.List.Elements.{All-append}
+use Rattle.std.proofs.lemmas.List.Elements.{All-append, All-head, All-nil}
 use Rattle.atomic_table.specs.Table.{State, Me, step, keeps, takes, gives, Allows, Splits, Joins, opening}
 use Rattle.atomic_table.proofs.Lists.{at_set, set_here, set_else, set_again, at_snoc, at_longer}
 use Rattle.dex_gate.specs.declared.board.Card.{Card}
@@ -14,11 +14,11 @@ use Rattle.dex_gate.specs.declared.board.View.{View}
 use Rattle.dex_gate.specs.declared.stage.Stage.{Stage}
 use Rattle.dex_gate.specs.declared.stage.Stage.TheVariants.{Idle, Waiting, Out}
 use Rattle.dex_gate.specs.History.{added, Extends, of_lane, AddsOne}
-use Rattle.dex_gate.specs.Rule.{same, within, has_ticket, has_that, IsOut, IsServed, claim, claims, room, tickets, times, NoneOut, IsTrueCard, IsTrueView, IsTrueValue, IsSeenWhole, Kept, IsEnd, first_view}
+use Rattle.dex_gate.specs.Rule.{same, within, has_ticket, has_that, IsOut, IsServed, claim, claims, room, tickets, times, NoneOut, IsTrueCard, IsTrueView, IsTrueValue, Kept, IsEnd, first_view}
 use Rattle.dex_gate.specs.Steps.{lone, handing, handed, new_card, joined, spent, after_turn, Draws, Shows, Looks, PassesOn}
 use Rattle.dex_gate.proofs.Seating.{value_or}
 use Rattle.dex_gate.proofs.Sums.{sum_by-set_at, at-le-sum_by, two-le-sum_by, sum_by-le-at}
-use Rattle.dex_gate.proofs.Lists.{at_there, at_behind, at_only, All-none, All-one, All-first}
+use Rattle.dex_gate.proofs.Lists.{at_there, at_only, All-one}
 use Rattle.dex_gate.proofs.Numbers.{same_same, within_more, within_less, within_first, within_none, within-le-one, within_in, within_yes, same_not}
 use Rattle.dex_gate.proofs.Histories.{extends_self, added-append, extends-append, of_lane-here, of_lane-else, of_lane-append, one_entry}
 
@@ -66,10 +66,6 @@ module _ {V E O : Type 0} (entries : V → List E) (lane : E → ℕ) (origin : 
   few_tickets : (s : St) (r : Rule s) → sum_by tickets s.views ≤ 16
   few_tickets s r = let below = sum_by-le-at tickets room s.views (λ j v at. tickets-le-room v (r.each_view j v at).carded) in omega (arith, below, r.all_room, r.few)
 
-  -- a change of another view leaves the card that has seen the whole history
-  whole_else : (history : List E) (views : List (View E O)) (id : ℕ) (w : View E O) (l : IsSeenWhole history views) → l.place ≢ id → IsSeenWhole history (set views id w)
-  whole_else history views id w l ne = record { place = l.place; view = l.view; card_place = l.card_place; card = l.card; stands = set_else views id l.place w ne ∙ l.stands; has = l.has; whole = l.whole }
-
   -- a step by which one view changes, with its cards' numbers as before, and no entry is added
   moves : (s : St) (r : Rule s) (words' : List ℕ) (homes' : List (mathlib.Core.Option.Option (Option V))) (id : ℕ) (v w : View E O) → get_elem? s.views id ≡ some v
       → words' ≡ (length r.history + sum_by tickets (set s.views id w)) ∷ length r.history ∷ []
@@ -86,17 +82,6 @@ module _ {V E O : Type 0} (entries : V → List E) (lane : E → ℕ) (origin : 
     words = words;
     each_ticket = each_ticket;
     each_number = λ k. let e : claims k w ≡ claims k v = ap (sum_by (claim k)) cards in omega (arith, sum_by-set_at (claims k) s.views id v w at, r.each_number k);
-    seen_whole = dite (ℕ_discrete r.seen_whole.place id)
-        (λ e. let l = r.seen_whole in let same : l.view ≡ v = some-injective l.view v (sym l.stands ∙ (ap (get_elem? s.views) e ∙ at)) in record {
-          place = id;
-          view = w;
-          card_place = l.card_place;
-          card = l.card;
-          stands = at_there s.views id v w at;
-          has = ap (λ cs. get_elem? cs l.card_place) (cards ∙ ap (λ (z : View E O). z.cards) (sym same)) ∙ l.has;
-          whole = l.whole;
-        })
-        (λ ne. whole_else r.history s.views id w r.seen_whole ne);
     all_room = let e : room w ≡ room v = ap (sum_by (λ (c : Card E O). 1 + (c.until - c.next))) cards in omega (arith, sum_by-set_at room s.views id v w at, r.all_room);
     each_view = λ j u is. ⊎_elim (λ (t : (j ≡ id) × (w ≡ u)). subst (IsTrue r.history) t.1 here) (λ (t : (j ≢ id) × (get_elem? s.views j ≡ some u)). r.each_view j u t.1) (at_set s.views id j w u is);
     home = home;
@@ -140,9 +125,8 @@ module _ {V E O : Type 0} (entries : V → List E) (lane : E → ℕ) (origin : 
 
   -- a turn that is out is the one that is served
   out_served : (history : List E) (ticket : ℕ) (st : Stage E) → IsOut st → IsServed history ticket st → (ticket ≡ length history) × (has_that st ticket (length history) ≡ 1)
-  out_served history ticket Idle out ok = absurd out
-  out_served history ticket Waiting out ok = absurd out
   out_served history ticket (Out held) out ok = (ok.0, ap (λ k. same k (length history)) ok.0 ∙ same_same (length history))
+  out_served history ticket _ out ok = absurd out
 
   -- whose ticket is served, and has no turn out, is the only one
   none_out : (s : St) (r : Rule s) (id : ℕ) (v : View E O) → get_elem? s.views id ≡ some v → ¬ IsOut v.stage → times (length r.history) v ≡ 1 → NoneOut s.views
@@ -165,7 +149,7 @@ module _ {V E O : Type 0} (entries : V → List E) (lane : E → ℕ) (origin : 
       let x : V = h.0 in
       let w : View E O = lone c t (Out (entries x)) in
       let true = r.each_view id v at in
-      let good : IsGood r.history c = All-first (IsGood r.history) c [] true.cards in
+      let good : IsGood r.history c = All-head (IsGood r.history) c [] true.cards in
       let as_many : sum_by tickets (set s.views id w) ≡ sum_by tickets s.views = omega (arith, sum_by-set_at tickets s.views id v w at) in (
         w,
         takes 0 (Some x),
@@ -238,7 +222,7 @@ module _ {V E O : Type 0} (entries : V → List E) (lane : E → ℕ) (origin : 
       let true = r.each_view id v at in
       let is : t ≡ S = true.served.0 in
       let held_is : held ≡ H = true.served.1 in
-      let good : IsGood H c = All-first (IsGood H) c [] true.cards in
+      let good : IsGood H c = All-head (IsGood H) c [] true.cards in
       let one = one_entry lane c.number H after (subst (λ (l : List E). AddsOne lane c.number l after) held_is adds) in
       let e : E = one.entry in
       let longer : length after ≡ S + 1 = omega (arith, ap length one.after_is, length-append H (e ∷ [])) in
@@ -276,7 +260,6 @@ module _ {V E O : Type 0} (entries : V → List E) (lane : E → ℕ) (origin : 
           begins = subst (Extends (entries opened)) (sym one.after_is) (extends-append (entries opened) H (e ∷ []) r.begins);
           lanes = subst (All (λ y. lane y < passes)) (sym (ap (added (entries opened)) one.after_is ∙ added-append (entries opened) H (e ∷ []) r.begins))
               (All-append (λ y. lane y < passes) (added (entries opened) H) (e ∷ []) r.lanes (All-one (λ y. lane y < passes) e (subst (λ (k : ℕ). k < passes) (sym one.lane_is_n) below)));
-          seen_whole = record { place = id; view = w; card_place = 0; card = after_turn c held after; stands = at_there s.views id v w at; has = (λ _. some (after_turn c held after)); whole = refl };
           words = (λ i. set (r.words i) 1 ((found i + 1) % 18446744073709551616)) ∙ (λ i. (S + fewer i) ∷ fits i ∷ []) ∙ (let first : S + (n + 1) ≡ length after + n = omega (arith, longer) in λ i. first i ∷ sym longer i ∷ []);
           each_ticket = λ k. omega (arith, sum_by-set_at (times k) s.views id v w at, r.each_ticket k, within_less S n k, ap (λ z. within S (S + z) k) fewer, ap (λ z. same z k) is, ap (λ z. within z (z + n) k) longer);
           each_number = λ k. omega (arith, sum_by-set_at (claims k) s.views id v w at, r.each_number k);
@@ -295,9 +278,8 @@ module _ {V E O : Type 0} (entries : V → List E) (lane : E → ℕ) (origin : 
       )
     where
       not_out : (history after : List E) (ticket : ℕ) (st : Stage E) → ¬ IsOut st → IsServed after ticket st
-      not_out history after ticket Idle not = tt
-      not_out history after ticket Waiting not = tt
       not_out history after ticket (Out held) not = absurd (not tt)
+      not_out history after ticket _ not = tt
 
   pub splits : (id ticket : ℕ) (c : Card E O) (stage : Stage E) → c.next < c.until
       → Splits Rule id (lone c ticket stage) (handing (lone c ticket stage)) (handed (lone c ticket stage))
@@ -307,7 +289,7 @@ module _ {V E O : Type 0} (entries : V → List E) (lane : E → ℕ) (origin : 
       let u : View E O = handed v in
       let both : List (View E O) = set s.views id w ++ u ∷ [] in
       let true = r.each_view id v at in
-      let good : IsGood r.history c = All-first (IsGood r.history) c [] true.cards in
+      let good : IsGood r.history c = All-head (IsGood r.history) c [] true.cards in
       let sums : (f : View E O → ℕ) → f w + f u ≡ f v → sum_by f both ≡ sum_by f s.views = λ f e.
       omega (arith, e, sum_by-set_at f s.views id v w at, sum_by-append f (set s.views id w) (u ∷ []), sum_by-cons f u []) in
       let as_many : sum_by tickets both ≡ sum_by tickets s.views = sums tickets (omega arith) in record {
@@ -318,25 +300,6 @@ module _ {V E O : Type 0} (entries : V → List E) (lane : E → ℕ) (origin : 
         lanes = r.lanes;
         words = r.words ∙ ap (λ (k : ℕ). (length r.history + k) ∷ length r.history ∷ []) (sym as_many);
         each_ticket = λ t. sums (times t) (omega arith) ∙ (r.each_ticket t ∙ ap (λ (z : ℕ). within (length r.history) (length r.history + z) t) (sym as_many));
-        seen_whole = dite (ℕ_discrete r.seen_whole.place id)
-            (λ e. let l = r.seen_whole in let same : l.view ≡ v = some-injective l.view v (sym l.stands ∙ (ap (get_elem? s.views) e ∙ at)) in record {
-              place = id;
-              view = w;
-              card_place = 0;
-              card = record c { next = c.next + 1 };
-              stands = at_longer (set s.views id w) (u ∷ []) id w (at_there s.views id v w at);
-              has = (λ _. some (record c { next = c.next + 1 }));
-              whole = ap (λ (z : Card E O). z.seen) (at_only c l.card_place l.card (ap (λ (z : View E O). get_elem? z.cards l.card_place) (sym same) ∙ l.has)) ∙ l.whole;
-            })
-            (λ ne. let l = whole_else r.history s.views id w r.seen_whole ne in record {
-              place = l.place;
-              view = l.view;
-              card_place = l.card_place;
-              card = l.card;
-              stands = at_longer (set s.views id w) (u ∷ []) l.place l.view l.stands;
-              has = l.has;
-              whole = l.whole;
-            });
         each_number = λ k. sums (claims k) (omega (arith, within_first c.next c.until k more, within_none c.until k)) ∙ r.each_number k;
         all_room = sums room (omega arith) ∙ r.all_room;
         each_view = λ j z is. ⊎_elim
@@ -369,7 +332,6 @@ module _ {V E O : Type 0} (entries : V → List E) (lane : E → ℕ) (origin : 
       }
 
   pub joins : (id : ℕ) (v : View E O) (other : ℕ) (w : View E O) → v.stage ≡ Idle → w.stage ≡ Idle → Joins Rule id v other w (joined v w) spent
-  unfolding whole_else
   joins id v other w idle_v idle_w s r at apart there =
       let both : View E O = joined v w in
       let first : List (View E O) = set s.views id both in
@@ -390,31 +352,10 @@ module _ {V E O : Type 0} (entries : V → List E) (lane : E → ℕ) (origin : 
         words = r.words ∙ ap (λ (k : ℕ). (length r.history + k) ∷ length r.history ∷ []) (sym as_many);
         each_ticket = λ t. let not_w : times t w ≡ 0 = ap (λ z. has_that z w.ticket t) idle_w in sums (times t) (omega (arith, not_w))
             ∙ (r.each_ticket t ∙ ap (λ (z : ℕ). within (length r.history) (length r.history + z) t) (sym as_many));
-        seen_whole = dite (ℕ_discrete r.seen_whole.place id)
-            (λ e. let l = r.seen_whole in let same : l.view ≡ v = some-injective l.view v (sym l.stands ∙ (ap (get_elem? s.views) e ∙ at)) in record {
-              place = id;
-              view = both;
-              card_place = length w.cards + l.card_place;
-              card = l.card;
-              stands = set_else first other id spent (λ is. apart (sym is)) ∙ at_there s.views id v both at;
-              has = at_behind w.cards v.cards l.card_place l.card (ap (λ (z : View E O). get_elem? z.cards l.card_place) (sym same) ∙ l.has);
-              whole = l.whole;
-            })
-            (λ not_id. dite (ℕ_discrete r.seen_whole.place other)
-            (λ e. let l = r.seen_whole in let same : l.view ≡ w = some-injective l.view w (sym l.stands ∙ (ap (get_elem? s.views) e ∙ was)) in record {
-              place = id;
-              view = both;
-              card_place = l.card_place;
-              card = l.card;
-              stands = set_else first other id spent (λ is. apart (sym is)) ∙ at_there s.views id v both at;
-              has = at_longer w.cards v.cards l.card_place l.card (ap (λ (z : View E O). get_elem? z.cards l.card_place) (sym same) ∙ l.has);
-              whole = l.whole;
-            })
-            (λ not_other. whole_else r.history first other spent (whole_else r.history s.views id both r.seen_whole not_id) not_other));
         each_number = λ k. sums (claims k) (omega (arith, sum_by-append (claim k) w.cards v.cards)) ∙ r.each_number k;
         all_room = sums room (omega (arith, sum_by-append (λ (c : Card E O). 1 + (c.until - c.next)) w.cards v.cards)) ∙ r.all_room;
         each_view = λ j z is. ⊎_elim
-            (λ (p : (j ≡ other) × (spent ≡ z)). subst (IsTrue r.history) p.1 record { cards = All-none (IsGood r.history); served = tt; carded = omega arith })
+            (λ (p : (j ≡ other) × (spent ≡ z)). subst (IsTrue r.history) p.1 record { cards = All-nil (IsGood r.history); served = tt; carded = omega arith })
             (λ (q : (j ≢ other) × (get_elem? first j ≡ some z)). ⊎_elim
             (λ (p : (j ≡ id) × (both ≡ z)). subst (IsTrue r.history) p.1 record {
               cards = All-append (IsGood r.history) w.cards v.cards true_w.cards true_v.cards;
@@ -437,9 +378,8 @@ module _ {V E O : Type 0} (entries : V → List E) (lane : E → ℕ) (origin : 
   some_claim (c ∷ cs) h = (c.number, omega (arith, same_same c.number, sum_by-cons (claim c.number) c cs))
 
   out_ticket : (st : Stage E) → IsOut st → has_ticket st ≡ 1
-  out_ticket Idle out = absurd out
-  out_ticket Waiting out = absurd out
   out_ticket (Out held) out = refl
+  out_ticket _ out = absurd out
 
   -- once one idle view claims all numbers, no view is out
   all_back : (s : St) (r : Rule s) (id : ℕ) (v : View E O) → get_elem? s.views id ≡ some v → v.stage ≡ Idle → ((k : ℕ) → k < passes → 0 < claims k v) → NoneOut s.views
@@ -495,12 +435,11 @@ module _ {V E O : Type 0} (entries : V → List E) (lane : E → ℕ) (origin : 
         few = few;
         bounded = omega arith;
         begins = extends_self l;
-        lanes = subst (All (λ e. lane e < passes)) (sym none_added) (All-none (λ e. lane e < passes));
+        lanes = subst (All (λ e. lane e < passes)) (sym none_added) (All-nil (λ e. lane e < passes));
         words = let drawn : n ≡ length l + 0 = omega arith in λ i. drawn i ∷ same_n i ∷ [];
         each_ticket = λ t. omega arith;
         each_number = λ k. omega arith;
         all_room = omega arith;
-        seen_whole = record { place = 0; view = first; card_place = 0; card = first_card; stands = (λ _. some first); has = (λ _. some first_card); whole = refl };
         each_view = λ j v at. subst (IsTrue l) (at_only first j v at) record {
           cards = All-one (IsGood l) first_card record {
             same_origin = refl;

@@ -9,7 +9,7 @@ use Rattle.dex_gate.specs.declared.stage.Stage.TheVariants.{Idle, Waiting, Out}
 use Rattle.dex_gate.specs.GateView.{GateView}
 use Rattle.dex_gate.specs.PassView.{PassView, next_pass}
 use Rattle.dex_gate.specs.Steps.{lone, handing, handed, new_card, Shows}
-use Rattle.dex_gate.specs.Seats.{gate_view, shown, pass_view, shown_card, posed, IsPass, IsSeatOf, Takes}
+use Rattle.dex_gate.specs.Seats.{gate_view, shown, pass_view, posed, IsPass, Takes}
 
 same_some : {A : Type 0} (x y : A) → Some x ≡ Some y → x ≡ y
 same_some x y e = ap (λ o. unwrap_or o x) e
@@ -34,25 +34,6 @@ module _ {V E O : Type 0} where
         gate_so = gated;
         table_so = ap (λ (y : GateView E O). y.table) gated;
       }
-
-  -- the seat of a pass, whose gate is known
-  pub seat_of : (z : TableId) (m : Me (Option V) (View E O)) (ticket : ℕ) (p : PassView E O) → IsPass ticket m → pass_view z m.0 ≡ p → IsSeatOf p z m
-  seat_of z m ticket p ok is g gate =
-      let s = sits z m ticket p.stage p g ok is gate refl in
-      let card : s.card ≡ shown_card g p = λ i. record {
-        number = (s.shown_so i).number;
-        next = (s.shown_so i).next;
-        until = (s.shown_so i).until;
-        origin = (s.gate_so i).origin;
-        opening = (s.gate_so i).opening;
-        seen = (s.shown_so i).seen;
-        mine = (s.shown_so i).mine;
-      } in (
-        s.table_so,
-        ap (λ (y : Me (Option V) (View E O)). y.0.cards) s.posed_so ∙ ap (λ (c : Card E O). c ∷ []) card,
-        ap (λ (y : Me (Option V) (View E O)). y.0.stage) s.posed_so,
-        ap (λ (y : Me (Option V) (View E O)). y.1) s.posed_so,
-      )
 
   -- a seat that is posed so is that of a pass
   pub is_pass : (m : Me (Option V) (View E O)) (c : Card E O) (ticket : ℕ) (stage : Stage E) → m ≡ posed c ticket stage → IsPass ticket m

@@ -68,16 +68,6 @@ module _ {E O : Type 0} where
   abbrev pub NoneOut : List (View E O) → Type 0
   NoneOut views = (j : ℕ) (v : View E O) → get_elem? views j ≡ some v → ¬ IsOut v.stage
 
-  -- some card has seen the whole history
-  pub record IsSeenWhole (history : List E) (views : List (View E O)) : Type 0 where
-    pub place : ℕ
-    pub view : View E O
-    pub card_place : ℕ
-    pub card : Card E O
-    pub stands : get_elem? views place ≡ some view
-    pub has : get_elem? view.cards card_place ≡ some card
-    pub whole : card.seen ≡ history
-
   -- what was seen is a beginning of the history; of the entries past the opening list, those of the card's number are
   -- its own, and no entry has a number that is not handed out
   pub record IsTrueCard (lane : E → ℕ) (start : O) (opening history : List E) (c : Card E O) : Type 0 where
@@ -107,10 +97,9 @@ module _ {V E O : Type 0} (entries : V → List E) (origin : V → O) (opened : 
   IsTrueValue history x = (entries x ≡ history) × (origin x ≡ origin opened)
 
 module _ {V E O : Type 0} (entries : V → List E) (lane : E → ℕ) (origin : V → O) (opened : V) (passes : ℕ) where
-  -- There is one history, which the opening list begins, and which some card has seen whole. As many turns were passed
-  -- on as it has entries, and the tickets that are out are the numbers from there to the next ticket, each once. The
-  -- numbers of passes are those below the count, each once. The value is at home, with the whole history, unless a turn
-  -- is out
+  -- There is one history, which the opening list begins. As many turns were passed on as it has entries, and the tickets
+  -- that are out are the numbers from there to the next ticket, each once. The numbers of passes are those below the
+  -- count, each once. The value is at home, with the whole history, unless a turn is out
   pub record Kept (s : State (Option V) (View E O)) : Type 0 where
     pub history : List E
     pub few : passes ≤ PASSES
@@ -121,7 +110,6 @@ module _ {V E O : Type 0} (entries : V → List E) (lane : E → ℕ) (origin : 
     pub each_ticket : (t : ℕ) → sum_by (times t) s.views ≡ within (length history) (length history + sum_by tickets s.views) t
     pub each_number : (k : ℕ) → sum_by (claims k) s.views ≡ within 0 passes k
     pub all_room : sum_by room s.views ≡ passes
-    pub seen_whole : IsSeenWhole history s.views
     pub each_view : (j : ℕ) (v : View E O) → get_elem? s.views j ≡ some v → IsTrueView lane (origin opened) (entries opened) history v
     pub home : NoneOut s.views → (x : V) × (get_elem? s.homes 0 ≡ some (some (Some x))) × IsTrueValue entries origin opened history x
 

@@ -1,6 +1,6 @@
 -- A row that acts on its market and on the cells in hand, or is held back there, and what is recorded of it.
-use Rattle.std.proofs.Common.{◌≡◌, ℕ, ◌&&◌, not, Bool, true, false, List, [], ◌∷◌, arith, is_some, Result, Ok, Err, refl, sym, ap, ◌∙◌, subst, ⊎_elim}
-use Rattle.dex_world.proofs.Common.{AllZip, cases_Bool, decoded, false≢true, row_of, All-cons, All-nil, Call, Market, PlainRow, Seen, Sees, Step, asked_of, idle-step, is_done, is_held, is_refusal, is_refused, is_take, request_of, row_step, row_wallets, seen_by, step-refused, why}
+use Rattle.std.proofs.Common.{◌≡◌, ℕ, ◌&&◌, not, Bool, true, false, List, [], ◌∷◌, arith, is_some, Result, Ok, Err, refl, sym, ap, ◌∙◌, subst}
+use Rattle.dex_world.proofs.Common.{All-cons, All-nil, AllZip, Call, Market, PlainRow, Seen, Sees, Step, asked_of, decoded, false≢true, idle-step, is_done, is_held, is_refusal, is_refused, is_take, request_of, row_of, row_step, row_wallets, seen_by, step-refused, why}
 use Rattle.dex_turns.proofs.Common.{AreAllOrNone, AreInHand, BankMarketState, CellState, HasCall, HasEntry, IsAsOthers, IsSight, MarketCellState, PlainScript, Stamped, call_made, terms_of, world_with}
 use Rattle.dex_types.specs.declared.instructions.BadData.{BadData}
 use Rattle.dex_types.specs.declared.instructions.Ix.{Ix}
@@ -23,6 +23,7 @@ use Rattle.dex_journals.specs.Journals.{IsBankMarket, market_more}
 use Rattle.dex_turns.specs.declared.stamped_record.StampedRecord.{StampedRecord}
 use Rattle.dex_turns.specs.Turns.{IsTold}
 use Rattle.dex_turns.proofs.InHand.{HasHands, cells-named, have-entries, moves-each, sight}
+use Rattle.std.proofs.lemmas.Bool.{true_from_ne_false}
 
 -- ---- what is recorded of its call
 
@@ -104,10 +105,8 @@ pub take-or-refused : (script : PlainScript) (row : PlainRow) → IsLeg row → 
     → IsTakeOrRefused (terms_of script) row market cells
 take-or-refused script row leg market cells isnt =
     let seen : Seen = seen_by row (world_with script cells) in
-    let refused : Bool = is_some (why (request_of row) seen (market_at market)) in
-    ⊎_elim (λ (some : refused ≡ true). some)
-    (λ (none : refused ≡ false). absurd (false≢true (sym isnt ∙ take-of (decoded row.bytes) (request_of row) seen (market_at market) leg.take none)))
-    (cases_Bool refused)
+    true_from_ne_false (is_some (why (request_of row) seen (market_at market))) (λ none.
+    false≢true (sym isnt ∙ take-of (decoded row.bytes) (request_of row) seen (market_at market) leg.take none))
 
 -- two calls of which each waits where the other is refused and it is not
 pub all-or-none : (one two : Stamped Call) (waits next refused other : Bool) → is_held one.item ≡ waits → is_held two.item ≡ next → is_refused one.item ≡ refused

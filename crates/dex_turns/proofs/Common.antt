@@ -2,7 +2,7 @@
 pub use Rattle.dex_accounts.specs.Decoded.{market_in}
 pub use Rattle.dex_act.specs.Wallets.{made_of, wallet_state_of}
 pub use Rattle.dex_cell.specs.CellState.{MarketCellState}
-pub use Rattle.dex_world.proofs.MappedLists.{All-unmap, any-here, any-there, filter-of, filter-swap, list_any-map}
+pub use Rattle.dex_world.proofs.MappedLists.{All-unmap, filter-swap}
 pub use Rattle.dex_world.specs.Lists.{AllThree}
 pub use Rattle.dex_world.specs.RowsOf.{rows_of_market, rows_of_wallet}
 pub use Rattle.dex_gate.specs.AwayView.{AwayView}

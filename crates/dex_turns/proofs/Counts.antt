@@ -1,25 +1,21 @@
 -- How many calls a lane has made on a market and on a wallet, before one of its rows.
-use Rattle.std.proofs.Common.{◌≡◌, ℕ, ◌+◌, ◌<◌, ◌==◌, Bool, true, false, cond, List, [], ◌∷◌, ◌++◌, length, map, take, refl, sym, ap, ◌∙◌, subst, arith, ⊎_elim}
+use Rattle.std.proofs.Common.{◌≡◌, ℕ, ◌+◌, ◌<◌, ◌==◌, Bool, true, false, cond, List, [], ◌∷◌, ◌++◌, length, map, take, refl, sym, ap, ◌∙◌, arith, ⊎_elim}
 use Rattle.dex_world.proofs.Common.{Address, All-head, All-tail, Asked, Call, Movement, PlainRow, asked-once, asked_of, asked_wallets, cases_Bool, cond-false, cond-true, filter, filter-append, is_same, is_same-sym, length-map, list_any, names, rows_of_lane}
-use Rattle.dex_turns.proofs.Common.{IsLane, MovesEach, PlainScript, Stamped, calls_on, entries_in, entries_on, entry_made, filter-of, filter-swap, items_of-stamped, rows_of_market, rows_of_wallet, stamped}
+use Rattle.dex_turns.proofs.Common.{IsLane, MovesEach, PlainScript, Stamped, calls_on, entries_in, entries_on, entry_made, filter-swap, items_of-stamped, rows_of_market, rows_of_wallet, stamped}
 use Rattle.std.specs.List.{All}
-use Rattle.std.proofs.lemmas.List.{length-append}
+use Rattle.std.proofs.lemmas.List.{length-append, nil_from_length}
 use Rattle.dex_history.specs.Journal.{front}
 use Rattle.dex_history.proofs.AddressOrder.{times}
+use Rattle.dex_world.proofs.MappedLists.{length-filter_map}
 use Rattle.dex_world.proofs.OnceLaws.{times-any}
 
 -- ---- filters
 
-module _ {A : Type 0} where
-  -- one element more that passes, in the midst
-  pub filter-fewer : (q : A → Bool) (front : List A) (x : A) (later : List A) → q x ≡ true → length (filter q front) < length (filter q (front ++ x ∷ later))
-  filter-fewer q front x later passes =
-      let here : filter q (x ∷ later) ≡ x ∷ filter q later = cond-true _ _ _ passes in
-      omega (arith, ap length (filter-append q front (x ∷ later)), length-append (filter q front) (filter q (x ∷ later)), ap length here)
-
--- what passes among what elements are mapped to
-length-filter_map : {A B : Type 0} (q : B → Bool) (f : A → B) (xs : List A) → length (filter q (map f xs)) ≡ length (filter (λ (x : A). q (f x)) xs)
-length-filter_map {A} q f xs = ap length (sym (filter-of f q xs)) ∙ length-map (filter (λ (x : A). q (f x)) xs) f
+-- an element that passes, in the midst
+some-left : {A : Type 0} (q : A → Bool) (front : List A) (x : A) (later : List A) → q x ≡ true → 0 < length (filter q (front ++ x ∷ later))
+some-left q front x later passes =
+    let here : filter q (x ∷ later) ≡ x ∷ filter q later = cond-true _ _ _ passes in
+    omega (arith, ap length (filter-append q front (x ∷ later)), length-append (filter q front) (filter q (x ∷ later)), ap length here)
 
 -- as many items with stamps pass as without
 pub length-stamped : {A : Type 0} (p : A → Bool) (items : List A) (stamps : List ℕ) → length stamps ≡ length items
@@ -52,6 +48,12 @@ asks address asked = list_any (is_same address) (asked_wallets asked)
 pub entries-one : (address : Address) (call : Stamped Call) → MovesEach call.item
     → length (entries_in address call) ≡ cond (asks address call.item.asked) 1 0
 entries-one address call moves = entries-times address call moves ∙ times-any address (asked_wallets call.item.asked) (asked-once call.item.asked)
+
+-- none of a wallet that its row does not name
+pub none-in : (row : PlainRow) (call : Stamped Call) → call.item.asked ≡ asked_of row → MovesEach call.item → (address : Address) → names row address ≡ false
+    → entries_in address call ≡ []
+none-in row call asked moves address not =
+    nil_from_length (entries_in address call) (entries-one address call moves ∙ ap (λ (b : Bool). cond b 1 0) (ap (asks address) asked ∙ not))
 
 -- and of several
 length-entries : (address : Address) (calls : List (Stamped Call)) → All (λ (call : Stamped Call). MovesEach call.item) calls
@@ -87,17 +89,6 @@ pub record IsAhead (rows : List PlainRow) (done : ℕ) (row : PlainRow) : Type 0
   pub later : List PlainRow
   pub is : rows ≡ take done rows ++ (between ++ row ∷ later)
 
--- the rows of a lane that pass a test are more than those that are done
-fewer : (lane : ℕ) (q : PlainRow → Bool) (rows done rest : List PlainRow) → rows_of_lane lane rows ≡ done ++ rest → 0 < length (filter q rest)
-    → length (filter q done) < length (filter (λ (r : PlainRow). r.lane == lane) (filter q rows))
-fewer lane q rows done rest are some =
-    subst (λ (l : List PlainRow). length (filter q done) < length l) (sym (filter-swap (λ (r : PlainRow). r.lane == lane) q rows))
-    (subst (λ (l : List PlainRow). length (filter q done) < length (filter q l)) (sym are)
-    (omega (arith, some, ap length (filter-append q done rest), length-append (filter q done) (filter q rest))))
-
-some-left : (q : PlainRow → Bool) (between : List PlainRow) (row : PlainRow) (later : List PlainRow) → q row ≡ true → 0 < length (filter q (between ++ row ∷ later))
-some-left q between row later passes = omega (arith, filter-fewer q between row later passes)
-
 module _ (script : PlainScript) (lane : ℕ) (row : PlainRow) (calls : List (Stamped Call)) (is : IsLane script lane calls)
     (ahead : IsAhead (rows_of_lane lane script.rows) (length calls) row) (address : Address) where
   abbrev done : List PlainRow
@@ -106,16 +97,18 @@ module _ (script : PlainScript) (lane : ℕ) (row : PlainRow) (calls : List (Sta
   abbrev rest : List PlainRow
   rest = ahead.between ++ row ∷ ahead.later
 
+  -- where it passes a test, the lane's rows that pass it are more than those of them that are done
+  more : (q : PlainRow → Bool) (made : ℕ) → made ≡ length (filter q done) → q row ≡ true → made < length (filter (λ (r : PlainRow). r.lane == lane) (filter q script.rows))
+  more q made count passes =
+      let parts : length (filter (λ (r : PlainRow). r.lane == lane) (filter q script.rows)) ≡ length (filter q done) + length (filter q rest) =
+      ap length (filter-swap (λ (r : PlainRow). r.lane == lane) q script.rows)
+      ∙ ap (λ (l : List PlainRow). length (filter q l)) ahead.is
+      ∙ ap length (filter-append q done rest)
+      ∙ length-append (filter q done) (filter q rest) in
+      omega (arith, count, parts, some-left q ahead.between row ahead.later passes)
+
   pub calls-left : is_same row.market address ≡ true → length (calls_on address calls) < length (rows_of_market lane address script.rows)
-  calls-left on =
-      let q : PlainRow → Bool = λ r. is_same r.market address in
-      subst (λ (n : ℕ). n < length (rows_of_market lane address script.rows))
-      (sym (calls-pass (λ (asked : Asked). is_same asked.market address) calls done is.asks))
-      (fewer lane q script.rows done rest ahead.is (some-left q ahead.between row ahead.later on))
+  calls-left = more (λ (r : PlainRow). is_same r.market address) _ (calls-pass (λ (asked : Asked). is_same asked.market address) calls done is.asks)
 
   pub entries-left : names row address ≡ true → length (entries_on address calls) < length (rows_of_wallet lane address script.rows)
-  entries-left named =
-      let q : PlainRow → Bool = λ r. names r address in
-      subst (λ (n : ℕ). n < length (rows_of_wallet lane address script.rows))
-      (sym (length-entries address calls is.moves ∙ calls-pass (asks address) calls done is.asks))
-      (fewer lane q script.rows done rest ahead.is (some-left q ahead.between row ahead.later named))
+  entries-left = more (λ (r : PlainRow). names r address) _ (length-entries address calls is.moves ∙ calls-pass (asks address) calls done is.asks)

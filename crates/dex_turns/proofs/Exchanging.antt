@@ -11,12 +11,18 @@ use Rattle.std.proofs.lemmas.List.Elements.{All-set}
 use Rattle.dex_turns.specs.Turns.{AreIdle, HoldsTurn, IsAboveMarkets, IsBelow, IsHomeAt, IsOutAt}
 use Rattle.dex_turns.specs.declared.two_turns.TwoTurns.{TwoTurns}
 use Rattle.dex_turns.specs.Submitted.{Where}
-use Rattle.dex_turns.specs.TwoTurns.{HaveTaken, exchanged}
+use Rattle.dex_turns.specs.TwoTurns.{HaveTaken}
 use Rattle.dex_turns.specs.Seats.{MarketPass}
 use Rattle.dex_turns.proofs.TwoPlaces.{set-swap}
 
 pub exchanged-taken : (one two : MarketGate) (place next : ℕ) (before after : List MarketPass) (last : ℕ) (turns : TwoTurns) → (place ≡ next → ⊥)
-    → HaveTaken two one next place before after last turns → HaveTaken one two place next before after last (exchanged turns)
+    → HaveTaken two one next place before after last turns
+    → HaveTaken one two place next before after last (record {
+      markets = record { first = turns.markets.second; second = turns.markets.first };
+      first = turns.second;
+      second = turns.first;
+      stamp = turns.stamp;
+    })
 exchanged-taken one two place next before after last turns apart taken = record {
   out = record {
     out = taken.out.out_next;

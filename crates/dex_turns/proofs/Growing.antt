@@ -1,17 +1,16 @@
 -- Passes in declared order, one of which takes a turn.
-use Rattle.std.proofs.Common.{◌≡◌, ℕ, zero, suc, ◌<◌, ◌≤◌, Bool, true, false, ◌||◌, List, [], ◌∷◌, ◌++◌, length, map, set, get_or, Some, refl, sym, ap, ◌∙◌, subst, arith, ⊎_elim}
-use Rattle.dex_world.proofs.Common.{Address, All-tail, AllZip, PlainAccount, cases_Bool, false≢true, get_or-map, is_same, is_same-refl, is_same-sym, length-map, list_any, or_right}
+use Rattle.std.proofs.Common.{◌≡◌, ℕ, zero, suc, ◌<◌, ◌≤◌, Bool, true, false, ◌||◌, List, [], ◌∷◌, ◌++◌, length, map, set, get_or, Some, refl, sym, ap, ◌∙◌, subst, arith}
+use Rattle.dex_world.proofs.Common.{Address, All-tail, AllZip, PlainAccount, false≢true, get_or-map, is_same, is_same-refl, is_same-sym, length-map, list_any, or_right}
 use Rattle.dex_world.proofs.MappedLists.{three-at, three-long, zip-weaker}
 use Rattle.dex_script_types.proofs.Apart.{AreDistinct}
-use Rattle.std.proofs.lemmas.List.{get_or-set_same, length-set}
+use Rattle.std.proofs.lemmas.List.{append-nil, get_or-set_same, length-set}
 use Rattle.dex_turns.proofs.Common.{AllThree, GateView, IsPass, MayDraw, OneGrows, PassView, PlainScript, Where}
 use Rattle.std.specs.List.{All}
-use Rattle.dex_turns.proofs.Rising.{IsAbove, rising-once}
+use Rattle.dex_turns.proofs.Rising.{IsAbove, not-among}
 use Rattle.dex_turns.specs.Bank.{WalletGate}
 use Rattle.dex_turns.specs.Seats.{WalletPass}
 use Rattle.dex_turns.specs.Turns.{AreRising}
-use Rattle.dex_turns.specs.Submitted.{HasMade}
-use Rattle.dex_turns.specs.Submitted.{HasWritten, Written}
+use Rattle.dex_turns.specs.Submitted.{HasMade, HasWritten, WhereEither, Written, grown}
 
 -- ---- by place
 
@@ -28,13 +27,6 @@ pub three-same : {A P : Type 0} (xs : List A) (ps : List P) → length ps ≡ le
 three-same [] [] long = tt
 three-same (x ∷ xs) (p ∷ ps) long = (refl, three-same xs ps (omega (arith, long)))
 three-same _ _ long = absurd (omega (arith, long))
-
--- what holds of each before and of how it grew holds of each after
-pub three-after : {A P : Type 0} (R : A → P → P → Type 0) (Old New : A → P → Type 0) → ((x : A) (p q : P) → Old x p → R x p q → New x q) → (xs : List A) (ps qs : List P)
-    → AllZip Old xs ps → AllThree R xs ps qs → AllZip New xs qs
-three-after R Old New step [] [] [] old all = tt
-three-after R Old New step (x ∷ xs) (p ∷ ps) (q ∷ qs) old all = (step x p q old.0 all.0, three-after R Old New step xs ps qs old.1 all.1)
-three-after R Old New step _ _ _ old all = absurd all
 
 module _ {A P : Type 0} (key : A → Address) (R S : A → P → P → Type 0) (address : Address)
     (others : (x : A) → is_same (key x) address ≡ false → (p q : P) → R x p q → S x p q) where
@@ -85,7 +77,7 @@ module _ (address : Address) (others : List Address) where
       → ((d : PlainAccount) → (get_or starts place d).address ≡ address) → ((d : WalletPass) → out.number ≡ (get_or passes place d).number)
       → AllZip (MayDraw script lane others) starts (set passes place out)
   drawn-ready script lane (start ∷ starts) (pass ∷ passes) zero out each rising within here same =
-      let none : list_any (is_same start.address) others ≡ false = ap (λ (a : Address). list_any (is_same a) others) (here start) ∙ (rising-once (address ∷ others) rising).0 in (
+      let none : list_any (is_same start.address) others ≡ false = ap (λ (a : Address). list_any (is_same a) others) (here start) ∙ not-among address others rising.0 in (
         record {
           number = same pass ∙ each.0.number;
           idle = λ among. absurd (false≢true (sym none ∙ among));
@@ -134,42 +126,53 @@ still-out others written starts before mid place out address none within here gr
 -- ---- passes of any kind
 
 module _ {E O : Type 0} where
-  -- a pass that made more, and one that made nothing
-  pub pass-more : (lane : ℕ) (old new more : List E) (Legal : List E → Type 0) (p q : PassView E O) → IsPass lane old p → HasMade new Legal p q → more ≡ old ++ new
-      → IsPass lane more q
-  pass-more lane old new more Legal p q is has longer = record {
-    number = ap (λ (x : PassView E O). x.number) has.pass ∙ is.number;
-    none_left = subst (λ (x : PassView E O). x.until ≤ x.next) (sym has.pass) is.none_left;
-    idle = ap (λ (x : PassView E O). x.stage) has.pass ∙ is.idle;
-    mine = ap (λ (x : PassView E O). x.mine) has.pass ∙ ap (λ (l : List E). l ++ new) is.mine ∙ sym longer;
-  }
+  -- a pass that made nothing is as it was
+  stays : (all : List E) (p q : PassView E O) → all ≡ [] → q ≡ p → q ≡ grown p q.seen all
+  stays all p q none same =
+      subst (λ (x : PassView E O). x ≡ grown p x.seen all) (sym same)
+      (ap (λ (l : List E). record p { mine = l }) (sym (append-nil p.mine) ∙ ap (λ (l : List E). p.mine ++ l) (sym none)))
 
-  pub pass-same : (lane : ℕ) (old more : List E) (p q : PassView E O) → IsPass lane old p → q ≡ p → more ≡ old → IsPass lane more q
-  pass-same lane old more p q is same longer = subst (IsPass lane more) (sym same) (subst (λ (l : List E). IsPass lane l p) (sym longer) is)
+  module _ (Legal : List E → Type 0) (p q : PassView E O) where
+    made-so : (new all : List E) → all ≡ new → HasMade new Legal p q → q ≡ grown p q.seen all
+    made-so new all is has = subst (λ (l : List E). q ≡ grown p q.seen l) (sym is) has.pass
 
-  module _ (b : Bool) (new : List E) (Legal : List E → Type 0) (p q : PassView E O) where
-    -- a pass that made more where the test passes
-    pub pass-where : (lane : ℕ) (old more : List E) → (b ≡ true → more ≡ old ++ new) → (b ≡ false → more ≡ old) → IsPass lane old p
-        → Where b (HasMade new Legal p q) (q ≡ p) → IsPass lane more q
-    pass-where lane old more longer still is grows =
-        ⊎_elim (λ (on : b ≡ true). pass-more lane old new more Legal p q is (where-on b (HasMade new Legal p q) (q ≡ p) on grows) (longer on))
-        (λ (off : b ≡ false). pass-same lane old more p q is (where-off b (HasMade new Legal p q) (q ≡ p) off grows) (still off)) (cases_Bool b)
+    -- what a pass made where the test passes
+    pub where-grew : (b : Bool) (new all : List E) → (b ≡ true → all ≡ new) → (b ≡ false → all ≡ []) → Where b (HasMade new Legal p q) (q ≡ p) → q ≡ grown p q.seen all
+    where-grew true new all on off has = made-so new all (on refl) has
+    where-grew false new all on off same = stays all p q (off refl) same
+
+    -- and where one of two tests does
+    pub either-grew : (b c : Bool) (new other all : List E) → (b ≡ true → all ≡ new) → (b ≡ false → c ≡ true → all ≡ other) → (b ≡ false → c ≡ false → all ≡ [])
+        → WhereEither b c (HasMade new Legal p q) (HasMade other Legal p q) (q ≡ p) → q ≡ grown p q.seen all
+    either-grew true c new other all one two none is = made-so new all (one refl) (is.first refl)
+    either-grew false true new other all one two none is = made-so other all (two refl refl) (is.second refl)
+    either-grew false false new other all one two none is = stays all p q (none refl refl) (is.neither refl refl)
+
+  module _ {A : Type 0} (new : A → List E) where
+    -- each pass made what it made before, and then this
+    pub passes-after : (lane : ℕ) (old more : A → List E) → ((x : A) → more x ≡ old x ++ new x) → (xs : List A) (ps qs : List (PassView E O)) → AllZip (λ (x : A) (pass : PassView E O). IsPass lane (old x) pass) xs ps
+        → AllThree (λ (x : A) (p q : PassView E O). q ≡ grown p q.seen (new x)) xs ps qs → AllZip (λ (x : A) (pass : PassView E O). IsPass lane (more x) pass) xs qs
+    passes-after lane old more longer [] [] [] is grew = tt
+    passes-after lane old more longer (x ∷ xs) (p ∷ ps) (q ∷ qs) is grew = (
+      record {
+        number = ap (λ (pass : PassView E O). pass.number) grew.0 ∙ is.0.number;
+        none_left = subst (λ (pass : PassView E O). pass.until ≤ pass.next) (sym grew.0) is.0.none_left;
+        idle = ap (λ (pass : PassView E O). pass.stage) grew.0 ∙ is.0.idle;
+        mine = ap (λ (pass : PassView E O). pass.mine) grew.0 ∙ ap (λ (l : List E). l ++ new x) is.0.mine ∙ sym (longer x);
+      },
+      passes-after lane old more longer xs ps qs is.1 grew.1,
+    )
+    passes-after lane old more longer _ _ _ is grew = absurd grew
 
     -- it is of the gate that it was of
-    pub gate-where : Where b (HasMade new Legal p q) (q ≡ p) → q.gate ≡ p.gate
-    gate-where grows =
-        ⊎_elim (λ (on : b ≡ true). ap (λ (x : PassView E O). x.gate) (where-on b (HasMade new Legal p q) (q ≡ p) on grows).pass)
-        (λ (off : b ≡ false). ap (λ (x : PassView E O). x.gate) (where-off b (HasMade new Legal p q) (q ≡ p) off grows)) (cases_Bool b)
-
-  -- so is each
-  pub three-gates : {A : Type 0} (R : A → PassView E O → PassView E O → Type 0) → ((x : A) (p q : PassView E O) → R x p q → q.gate ≡ p.gate) → (xs : List A)
-      (gates : List (GateView E O)) (ps qs : List (PassView E O)) → AllThree R xs ps qs → AllZip (λ (gate : GateView E O) (pass : PassView E O). pass.gate ≡ Some gate) gates ps
-      → AllZip (λ (gate : GateView E O) (pass : PassView E O). pass.gate ≡ Some gate) gates qs
-  three-gates R same [] [] [] [] all of = tt
-  three-gates R same (x ∷ xs) (g ∷ gates) (p ∷ ps) (q ∷ qs) all of = (same x p q all.0 ∙ of.0, three-gates R same xs gates ps qs all.1 of.1)
-  three-gates R same [] (g ∷ gates) [] [] all of = absurd of
-  three-gates R same (x ∷ xs) [] (p ∷ ps) (q ∷ qs) all of = absurd of
-  three-gates R same _ _ _ _ all of = absurd all
+    pub three-gates : (xs : List A) (gates : List (GateView E O)) (ps qs : List (PassView E O)) → AllThree (λ (x : A) (p q : PassView E O). q ≡ grown p q.seen (new x)) xs ps qs
+        → AllZip (λ (gate : GateView E O) (pass : PassView E O). pass.gate ≡ Some gate) gates ps → AllZip (λ (gate : GateView E O) (pass : PassView E O). pass.gate ≡ Some gate) gates qs
+    three-gates [] [] [] [] grew of = tt
+    three-gates (x ∷ xs) (g ∷ gates) (p ∷ ps) (q ∷ qs) grew of =
+        (ap (λ (pass : PassView E O). pass.gate) grew.0 ∙ of.0, three-gates xs gates ps qs grew.1 of.1)
+    three-gates [] (g ∷ gates) [] [] grew of = absurd of
+    three-gates (x ∷ xs) [] (p ∷ ps) (q ∷ qs) grew of = absurd of
+    three-gates _ _ _ _ grew of = absurd grew
 
 abbrev pub IsAtGate : WalletGate → WalletPass → Type 0
 IsAtGate gate pass = pass.gate ≡ Some gate

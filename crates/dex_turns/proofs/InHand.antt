@@ -1,8 +1,8 @@
 -- The cells in hand, when they are those of all wallets that a row names: what it sees, and what it leaves.
-use Rattle.std.proofs.Common.{◌≡◌, ℕ, true, List, [], ◌∷◌, ◌++◌, length, map, Option, Some, None, refl, sym, ap, ◌∙◌, subst, arith}
+use Rattle.std.proofs.Common.{◌≡◌, ℕ, true, List, [], ◌∷◌, length, map, Option, Some, None, refl, sym, ap, ◌∙◌, subst, arith}
 use Rattle.dex_world.proofs.Common.{Address, All-head, All-tail, All-weaker, AllZip, Call, Movement, PlainAccount, PlainRow, Reply, Seen, Sees, Transfers, WalletSeen, WalletState, asked_of, cond-true, cond_both, entry_by, filter, is_same, list_any, movement_of, names, places-movements, role_at, row_wallets, seen_by, wallet_acted, wallet_at, wallet_entry_by, wallet_moved}
-use Rattle.dex_turns.proofs.Common.{All-unmap, AreInHand, CellState, HasEntry, IsReady, IsSight, IsWalletCell, IsWalletSeen, MovesEach, PlainScript, Stamped, WalletWords, any-here, any-there, balance_of, entries_in, entry_made, made_of, wallet_state_of, wallet_words, wallet_words-with_amount, world_with}
-use Rattle.std.specs.List.{All, Any}
+use Rattle.dex_turns.proofs.Common.{All-unmap, AreInHand, CellState, HasEntry, IsReady, IsSight, IsWalletCell, IsWalletSeen, MovesEach, PlainScript, Stamped, WalletWords, balance_of, entries_in, entry_made, made_of, wallet_state_of, wallet_words, wallet_words-with_amount, world_with}
+use Rattle.std.specs.List.{All}
 use Rattle.std.proofs.lemmas.List.{append-nil}
 use Rattle.dex_history.proofs.WalletLaws.{movements-named}
 use Rattle.dex_wallet.specs.CellState.{HasSpare, seen_of}
@@ -14,21 +14,21 @@ use Rattle.dex_world.proofs.KeptMoves.{moves-kept}
 use Rattle.dex_world.proofs.OnceLaws.{each-any}
 use Rattle.dex_turns.specs.Submitted.{written_by}
 use Rattle.dex_turns.specs.Turns.{AreRising}
-use Rattle.dex_turns.proofs.Rising.{AreOnce, rising-once}
+use Rattle.dex_turns.proofs.Rising.{not-among}
 
 abbrev address_in : CellState → Address
 address_in cell = cell.address
 
 -- ---- by address
 
-apart-cells : (cells : List CellState) → AreOnce (map address_in cells) → AreApart cells
-apart-cells [] once = tt
-apart-cells (cell ∷ cells) once = (is_among-any cell.address cells ∙ once.0, apart-cells cells once.1)
+apart-cells : (cells : List CellState) → AreRising (map address_in cells) → AreApart cells
+apart-cells [] rising = tt
+apart-cells (cell ∷ cells) rising = (is_among-any cell.address cells ∙ not-among cell.address (map address_in cells) rising.0, apart-cells cells rising.1)
 
--- the cells are of wallets of the script, each with room for an entry, and no two of one
+-- the cells are of wallets of the script, each with room for an entry, by rising address
 pub record HasHands (script : PlainScript) (cells : List CellState) : Type 0 where
   pub ready : All (IsReady script) cells
-  pub once : AreOnce (map address_in cells)
+  pub rising : AreRising (map address_in cells)
 
 -- the cells of all wallets of an item are in hand, in their order
 pub hands-are : (script : PlainScript) (named : List Address) (cells : List CellState) → AreInHand script named [] cells → map address_in cells ≡ named
@@ -36,19 +36,9 @@ hands-are script named cells hand = sym (append-nil (map address_in cells)) ∙ 
 
 pub has-hands : (script : PlainScript) (named : List Address) (cells : List CellState) → AreInHand script named [] cells → AreRising named → HasHands script cells
 has-hands script named cells hand rising =
-    record { ready = hand.ready; once = subst AreOnce (sym (hands-are script named cells hand)) (rising-once named rising) }
+    record { ready = hand.ready; rising = subst AreRising (sym (hands-are script named cells hand)) rising }
 
 -- ---- what is seen of one of them
-
-mint-stays : (cell : CellState) → IsWalletCell cell → (wallet_words cell.bytes).mint ≡ (wallet_words cell.start).mint
-mint-stays cell is =
-    ap (λ (bytes : List ℕ). (wallet_words bytes).mint) is.others
-    ∙ ap (λ (words : WalletWords). words.mint) (wallet_words-with_amount cell.start (balance_of cell.bytes) (ap balance_of (sym is.others)))
-
-owner-stays : (cell : CellState) → IsWalletCell cell → (wallet_words cell.bytes).owner ≡ (wallet_words cell.start).owner
-owner-stays cell is =
-    ap (λ (bytes : List ℕ). (wallet_words bytes).owner) is.others
-    ∙ ap (λ (words : WalletWords). words.owner) (wallet_words-with_amount cell.start (balance_of cell.bytes) (ap balance_of (sym is.others)))
 
 abbrev IsOf : WalletSeen → PlainAccount → Type 0
 IsOf seen wallet =
@@ -56,17 +46,12 @@ IsOf seen wallet =
 
 seen-so : (cell : CellState) → IsWalletCell cell → IsOf (seen_of cell) (record { address = cell.address; bytes = cell.start })
 seen-so cell is =
-    ap (λ (a : Address). record (seen_of cell) { mint = a }) (mint-stays cell is)
-    ∙ ap (λ (a : Address). record (seen_of cell) { mint = (wallet_words cell.start).mint; owner = a }) (owner-stays cell is)
-
-stands : (P : PlainAccount → Type 0) (earlier later : List PlainAccount) (wallet : PlainAccount) → P wallet → Any P (earlier ++ wallet ∷ later)
-stands P [] later wallet is = any-here P wallet later is
-stands P (one ∷ earlier) later wallet is = any-there P one (earlier ++ wallet ∷ later) (stands P earlier later wallet is)
+    ap (λ (words : WalletWords). record (seen_of cell) { mint = words.mint; owner = words.owner })
+    (ap wallet_words is.others ∙ wallet_words-with_amount cell.start (balance_of cell.bytes) (ap balance_of (sym is.others)))
 
 cell-sight : (script : PlainScript) (cell : CellState) → IsReady script cell → IsWalletSeen script.start.wallets (Some (seen_of cell))
 cell-sight script cell ready =
-    subst (Any (IsOf (seen_of cell))) (sym ready.start.is)
-    (stands (IsOf (seen_of cell)) ready.start.earlier ready.start.later (record { address = cell.address; bytes = cell.start }) (seen-so cell ready.kept))
+    let any = ready.start in (any.0, any.1, any.2, any.3, subst (IsOf (seen_of cell)) (sym any.4) (seen-so cell ready.kept))
 
 at-sight : (script : PlainScript) (address : Address) (list : List CellState) → All (IsReady script) list → IsWalletSeen script.start.wallets (wallet_at address (map wallet_state_of list))
 at-sight script address [] ready = tt
@@ -88,7 +73,7 @@ module _ (script : PlainScript) (row : PlainRow) (cells : List CellState) (hand 
 
   pub has-wallets : (places : WalletPlaces) → ArePlacesAmong cells row places → HasWallets row places cells
   has-wallets places at = record {
-    apart = apart-cells cells hand.once;
+    apart = apart-cells cells hand.rising;
     kept = All-weaker (IsReady script) IsWalletCell (λ cell ready. ready.kept) cells hand.ready;
     spare = All-weaker (IsReady script) (λ (cell : CellState). names row cell.address ≡ true → HasSpare cell) (λ cell ready named. ready.spare) cells hand.ready;
     at = at;

@@ -1,12 +1,12 @@
 -- What a turn leaves: the journal with one entry more, and the pass that has made it.
-use Rattle.std.proofs.Common.{◌≡◌, ℕ, ◌<◌, ◌==◌, Bool, true, cond, List, [], ◌∷◌, ◌++◌, length, sym, ap, ◌∙◌, subst, arith}
+use Rattle.std.proofs.Common.{◌≡◌, ℕ, ◌<◌, ◌==◌, Bool, true, cond, List, [], ◌∷◌, ◌++◌, length, sym, ap, ◌∙◌, subst, arith, refl}
 use Rattle.dex_world.proofs.Common.{Address, Call, IsLegal, IsWalletLegal, PlainAccount, PlainMarketAccounts, WalletEntry, eq-eqb}
 use Rattle.dex_turns.proofs.Common.{AddsOne, BankMarketState, BankWalletState, CellState, Extends, GateView, HasCall, HasCalled, HasEntry, HasLeft, Idle, IsBankWallet, MarketOrigin, MayLeave, PassView, Stamped, TrailState, WalletOrigin, added, balance_of, entries_by, left_by, market_calls, market_in, of_lane, rows_of_wallet, stamped, wallet_entries}
 use Rattle.std.proofs.lemmas.List.{length-append}
 use Rattle.std.proofs.Math.Seq.{drop-append_seam}
 use Rattle.dex_gate.specs.declared.stage.Stage.{Stage}
 use Rattle.dex_stamps.specs.Stamped.{items_of}
-use Rattle.dex_turns.specs.Submitted.{HasWritten, Written}
+use Rattle.dex_turns.specs.Submitted.{HasMade, HasWritten, Written, grown}
 use Rattle.dex_journals.specs.Journals.{MayComeBack}
 use Rattle.dex_journals.proofs.MarketLaws.{items_of-calls}
 use Rattle.dex_journals.proofs.StampedLists.{stamped-more}
@@ -23,6 +23,19 @@ module _ {E : Type 0} where
         ap length is ∙ length-append before (entry ∷ []),
         ap (of_lane lane number) new ∙ ap (λ (b : Bool). cond b (entry ∷ []) []) own ∙ sym new,
       )
+
+  -- a pass whose turn was drawn and left, with what the turn added
+  pub has-made : {O : Type 0} (pass left : PassView E O) (old all new : List E) (Legal : List E → Type 0) → pass.stage ≡ Idle → all ≡ old ++ new
+      → left ≡ record pass { seen = all; mine = pass.mine ++ new; stage = Idle } → Extends pass.seen all → Legal all → HasMade new Legal pass left
+  has-made pass left old all new Legal idle is left_is seen legal =
+      let all_is : left.seen ≡ all = ap (λ (p : PassView E _). p.seen) left_is in
+      record {
+        pass = left_is ∙ ap (λ (s : Stage E). record pass { seen = all; mine = pass.mine ++ new; stage = s }) (sym idle) ∙ ap (λ (l : List E). grown pass l new) (sym all_is);
+        seen = subst (Extends pass.seen) (sym all_is) seen;
+        earlier = old;
+        last = all_is ∙ is;
+        legal = subst Legal (sym all_is) legal;
+      }
 
 -- ---- a wallet
 
@@ -58,17 +71,15 @@ module _ (written : Written) (trail : TrailState) (cell : CellState) (entry : Ha
       → after ≡ record before { seen = wallet_entries put_back; mine = before.mine ++ added (wallet_entries (left_by trail)) (wallet_entries put_back); stage = Idle }
       → Extends before.seen (wallet_entries put_back) → HasLeft written trail before after
   has-left before after kept left seen =
+      let old : List (Stamped WalletEntry) = wallet_entries (left_by trail) in
       let made : List (Stamped WalletEntry) = written.at trail.before.address in
       let Pass : Type 0 = PassView (Stamped WalletEntry) WalletOrigin in
-      let pass_of : List (Stamped WalletEntry) → List (Stamped WalletEntry) → Pass = λ all new. record before { seen = all; mine = before.mine ++ new; stage = Idle } in
-      let new : added (wallet_entries (left_by trail)) (wallet_entries put_back) ≡ made =
-      ap (added (wallet_entries (left_by trail))) (entries-put kept) ∙ drop-append_seam (wallet_entries (left_by trail)) made in
-      let all : after.seen ≡ wallet_entries put_back = ap (λ (p : Pass). p.seen) left in
+      let left_with : List (Stamped WalletEntry) → List (Stamped WalletEntry) → Pass = λ all new. record before { seen = all; mine = before.mine ++ new; stage = Idle } in
       record {
-        pass = left ∙ ap (pass_of (wallet_entries put_back)) new ∙ ap (λ (l : List (Stamped WalletEntry)). pass_of l made) (entries-put kept);
-        seen = subst (Extends before.seen) (sym all) seen;
+        pass = left ∙ ap (λ (l : List (Stamped WalletEntry)). left_with l (added old l)) (entries-put kept) ∙ ap (left_with (old ++ made)) (drop-append_seam old made);
+        seen = subst (Extends before.seen) (entries-put kept) seen;
         legal =
-            subst (λ (l : List (Stamped WalletEntry)). IsWalletLegal (balance_of trail.before.start) (items_of l)) (sym all)
+            subst (λ (l : List (Stamped WalletEntry)). IsWalletLegal (balance_of trail.before.start) (items_of l)) (entries-put kept)
             (subst (IsWalletLegal (balance_of trail.before.start)) (sym (items_of-entries put_back kept.counted))
             (subst (λ (c : CellState). IsWalletLegal (balance_of c.start) cell.entries) entry.made kept.cell.legal));
       }
@@ -85,7 +96,7 @@ comes-back written gate pass trail cell may = record {
 
 -- ---- a market
 
-module _ (call : Stamped Call) (before after : BankMarketState) (has : HasCall call before after) where
+module _ {call : Stamped Call} {before after : BankMarketState} (has : HasCall call before after) where
   counted-market : length before.stamps ≡ length before.cell.calls
   counted-market =
       omega (
@@ -111,25 +122,12 @@ module _ (call : Stamped Call) (before after : BankMarketState) (has : HasCall c
       → pass.stage ≡ Idle → left ≡ record pass { seen = market_calls after; mine = pass.mine ++ added (market_calls before) (market_calls after); stage = Idle }
       → Extends pass.seen (market_calls after) → HasCalled call start pass left
   has-called start pass left from idle is seen =
-      let Pass : Type 0 = PassView (Stamped Call) MarketOrigin in
       let new : added (market_calls before) (market_calls after) ≡ call ∷ [] =
       ap (added (market_calls before)) calls-after ∙ drop-append_seam (market_calls before) (call ∷ []) in
-      let all : left.seen ≡ market_calls after = ap (λ (p : Pass). p.seen) is in
-      let pass_of : List (Stamped Call) → List (Stamped Call) → Pass = λ l made. record pass { seen = l; mine = pass.mine ++ made } in
-      record {
-        pass =
-            is
-            ∙ ap (λ (s : Stage (Stamped Call)). record pass { seen = market_calls after; mine = pass.mine ++ added (market_calls before) (market_calls after); stage = s }) (sym idle)
-            ∙ ap (pass_of (market_calls after)) new
-            ∙ ap (λ (l : List (Stamped Call)). pass_of l (call ∷ [])) (sym all);
-        seen = subst (Extends pass.seen) (sym all) seen;
-        earlier = market_calls before;
-        last = all ∙ calls-after;
-        legal =
-            subst (λ (l : List (Stamped Call)). IsLegal (market_in start) (items_of l)) (sym all)
-            (subst (IsLegal (market_in start)) (sym (items_of-calls after has.kept.counted))
-            (subst (λ (s : PlainMarketAccounts). IsLegal (market_in s) after.cell.calls) (has.start ∙ from) has.kept.cell.legal));
-      }
+      has-made pass left (market_calls before) (market_calls after) (call ∷ []) (λ (seen : List (Stamped Call)). IsLegal (market_in start) (items_of seen)) idle calls-after
+      (is ∙ ap (λ (made : List (Stamped Call)). record pass { seen = market_calls after; mine = pass.mine ++ made; stage = Idle }) new) seen
+      (subst (IsLegal (market_in start)) (sym (items_of-calls after has.kept.counted))
+      (subst (λ (s : PlainMarketAccounts). IsLegal (market_in s) after.cell.calls) (has.start ∙ from) has.kept.cell.legal))
 
 -- ---- from where the wallet's turn was drawn
 
@@ -138,27 +136,12 @@ pub has-moved : (written : Written) (start : PlainAccount) (trail : TrailState) 
     → before.stage ≡ Idle → out ≡ record before { stage = stage } → HasLeft written trail out left → trail.before.address ≡ start.address → trail.before.start ≡ start.bytes
     → HasWritten written start before left
 has-moved written start trail before out left stage idle is has address bytes =
+    let old : List (Stamped WalletEntry) = wallet_entries (left_by trail) in
+    let made : List (Stamped WalletEntry) = written.at trail.before.address in
+    let Legal : List ℕ → List (Stamped WalletEntry) → Type 0 = λ bytes seen. IsWalletLegal (balance_of bytes) (items_of seen) in
     let Pass : Type 0 = PassView (Stamped WalletEntry) WalletOrigin in
-    let all : left.seen ≡ wallet_entries (left_by trail) ++ written.at start.address =
-    ap (λ (p : Pass). p.seen) has.pass ∙ ap (λ (a : Address). wallet_entries (left_by trail) ++ written.at a) address in
-    let pass_of : List (Stamped WalletEntry) → List (Stamped WalletEntry) → Pass = λ l made. record before { seen = l; mine = before.mine ++ made } in
-    record {
-      pass =
-          has.pass
-          ∙ ap (λ (p : Pass). record p {
-            seen = wallet_entries (left_by trail) ++ written.at trail.before.address;
-            mine = p.mine ++ written.at trail.before.address;
-            stage = Idle;
-          }) is
-          ∙ ap (λ (s : Stage (Stamped WalletEntry)). record before {
-            seen = wallet_entries (left_by trail) ++ written.at trail.before.address;
-            mine = before.mine ++ written.at trail.before.address;
-            stage = s;
-          }) (sym idle)
-          ∙ ap (λ (a : Address). pass_of (wallet_entries (left_by trail) ++ written.at a) (written.at a)) address
-          ∙ ap (λ (l : List (Stamped WalletEntry)). pass_of l (written.at start.address)) (sym all);
-      seen = subst (λ (l : List (Stamped WalletEntry)). Extends l left.seen) (ap (λ (p : Pass). p.seen) is) has.seen;
-      earlier = wallet_entries (left_by trail);
-      last = all;
-      legal = subst (λ (b : List ℕ). IsWalletLegal (balance_of b) (items_of left.seen)) bytes has.legal;
-    }
+    subst (λ (a : Address). HasMade (written.at a) (Legal start.bytes) before left) address
+    (subst (λ (b : List ℕ). HasMade made (Legal b) before left) bytes
+    (has-made before left old (old ++ made) made (Legal trail.before.start) idle refl
+    (has.pass ∙ ap (λ (p : Pass). record p { seen = old ++ made; mine = p.mine ++ made; stage = Idle }) is)
+    (subst (λ (l : List (Stamped WalletEntry)). Extends l (old ++ made)) (ap (λ (p : Pass). p.seen) is) has.seen) has.legal))

@@ -1,6 +1,6 @@
 -- The cells in hand of two legs that share no wallet: where they stand, and what both write.
 use Rattle.std.proofs.Common.{◌≡◌, ℕ, ◌||◌, Bool, true, false, cond, List, [], ◌∷◌, ◌++◌, length, map, Option, None, refl, sym, ap, subst, ◌∙◌, arith, ⊎_elim}
-use Rattle.dex_world.proofs.Common.{Address, All-head, All-tail, AllZip, Call, Market, PlainRow, Seen, Sees, ShareNothing, Step, WalletEntry, asked_of, cases_Bool, false≢true, movement_of, names, row_step, wallet_acted, wallet_moved}
+use Rattle.dex_world.proofs.Common.{Address, All-head, All-tail, AllZip, Call, Market, PlainRow, Seen, Sees, ShareNothing, Step, WalletEntry, asked_of, cases_Bool, false_from_ne_true, false≢true, movement_of, names, row_step, wallet_acted, wallet_moved}
 use Rattle.dex_turns.proofs.Common.{CellState, HasEntry, IsWalletCell, Stamped, entries_in, made_of, wallet_state_of}
 use Rattle.std.specs.List.{All}
 use Rattle.std.proofs.lemmas.List.{append-nil}
@@ -14,7 +14,7 @@ use Rattle.dex_turns.specs.Turns.{leg_wallets}
 use Rattle.dex_world.specs.Items.{doing}
 use Rattle.dex_turns.specs.Submitted.{written_by, written_by_two}
 use Rattle.dex_act.specs.Steps.{made_by}
-use Rattle.dex_turns.proofs.Counts.{entries-one}
+use Rattle.dex_turns.proofs.Counts.{none-in}
 use Rattle.dex_turns.proofs.InHand.{has-entry, moves-each}
 
 -- ---- where they stand
@@ -59,19 +59,11 @@ module _ (first second : PlainRow) (share : ShareNothing first second) (one_wait
   abbrev two_step : Step
   two_step = row_step (doing two_waits second) two_seen n
 
-  empty : {A : Type 0} (l : List A) → length l ≡ 0 → l ≡ []
-  empty [] none = refl
-  empty (x ∷ l) none = absurd (omega (arith, none))
-
   none-one : (address : Address) → names first address ≡ false → entries_in address one ≡ []
-  none-one address not =
-      empty (entries_in address one)
-      (entries-one address one (moves-each first one_seen one_step.reply one_step.transfers stamp one_sees) ∙ ap (λ (b : Bool). cond b 1 0) not)
+  none-one = none-in first one refl (moves-each first one_seen one_step.reply one_step.transfers stamp one_sees)
 
   none-two : (address : Address) → names second address ≡ false → entries_in address two ≡ []
-  none-two address not =
-      empty (entries_in address two)
-      (entries-one address two (moves-each second two_seen two_step.reply two_step.transfers stamp two_sees) ∙ ap (λ (b : Bool). cond b 1 0) not)
+  none-two = none-in second two refl (moves-each second two_seen two_step.reply two_step.transfers stamp two_sees)
 
   leg-entry : (before mid after : CellState) → (names first before.address || names second before.address) ≡ true
       → wallet_state_of mid ≡ wallet_acted first one_seen one_step.transfers (wallet_state_of before) → made_of mid ≡ made_of before
@@ -85,8 +77,7 @@ module _ (first second : PlainRow) (share : ShareNothing first second) (one_wait
       by-first : names first before.address ≡ true → HasEntry (written_by_two one two) before after
       by-first named =
           let away : names second before.address ≡ false =
-          ⊎_elim (λ (both : names second before.address ≡ true). absurd (false≢true (sym (share.wallets before.address both) ∙ named))) (λ (not : names second before.address ≡ false). not)
-          (cases_Bool (names second before.address)) in
+          false_from_ne_true (names second before.address) (λ both. false≢true (sym (share.wallets before.address both) ∙ named)) in
           let same : wallet_state_of after ≡ wallet_state_of mid =
           second_is ∙ ap (λ (b : Bool). cond b (wallet_moved second (movement_of two_seen two_step.transfers mid.address) (wallet_state_of mid)) (wallet_state_of mid))
           (ap (names second) address ∙ away) in
@@ -123,8 +114,6 @@ module _ (first second : PlainRow) (share : ShareNothing first second) (one_wait
       → map wallet_state_of after ≡ map (wallet_acted second two_seen two_step.transfers) (map wallet_state_of mid) → map made_of after ≡ map made_of mid
       → All IsWalletCell after → AllZip (HasEntry (written_by_two one two)) before after
   leg-entries [] [] [] either first_is first_made second_is second_made kept = tt
-  leg-entries [] (m ∷ mid) after either first_is first_made second_is second_made kept = absurd (omega (arith, ap length first_made))
-  leg-entries (b ∷ before) [] after either first_is first_made second_is second_made kept = absurd (omega (arith, ap length first_made))
   leg-entries (b ∷ before) (m ∷ mid) (a ∷ after) either first_is first_made second_is second_made kept =
       let Either : CellState → Type 0 = λ c. (names first c.address || names second c.address) ≡ true in (
         leg-entry b m a (All-head Either b before either) (let it = first_is in cc) (let it = first_made in cc) (let it = second_is in cc) (let it = second_made in cc)
@@ -132,7 +121,7 @@ module _ (first second : PlainRow) (share : ShareNothing first second) (one_wait
         leg-entries before mid after (All-tail Either b before either) (let it = first_is in cc) (let it = first_made in cc) (let it = second_is in cc) (let it = second_made in cc)
             (All-tail IsWalletCell a after kept),
       )
-  leg-entries _ _ _ either first_is first_made second_is second_made kept = absurd (omega (arith, ap length second_made))
+  leg-entries _ _ _ either first_is first_made second_is second_made kept = absurd (omega (arith, ap length first_made, ap length second_made))
 
   -- each cell in hand has the entry of the leg that names it
   pub legs-entries : (before mid after : List CellState) → All (λ (cell : CellState). (names first cell.address || names second cell.address) ≡ true) before

@@ -11,28 +11,24 @@ use Rattle.dex_turns.specs.Turns.{AreInHand, leg_wallets}
 use Rattle.dex_turns.proofs.InHand.{hands-are}
 
 -- a leg names what its coin and its pc name
-pub leg-names : (row : PlainRow) → row.discount ≡ None → row.referrer ≡ None → (address : Address)
+leg-names : (row : PlainRow) → row.discount ≡ None → row.referrer ≡ None → (address : Address)
     → names row address ≡ (is_role row.coin address || (is_role row.pc address || false))
 leg-names row discount referrer address =
     names-roles row address
     ∙ ap (λ (b : Bool). is_role row.coin address || (is_role row.pc address || b))
     (ap (λ (role : Option Address). is_role role address || (is_role row.referrer address || false)) discount ∙ ap (λ (role : Option Address). is_role role address || false) referrer)
 
--- a wallet is one of these just where one of the legs names it
-pub leg-named : (first second : PlainRow) → first.discount ≡ None → first.referrer ≡ None → second.discount ≡ None → second.referrer ≡ None
-    → (address : Address) → list_any (is_same address) (leg_wallets first second) ≡ (names first address || names second address)
-leg-named first second first_discount first_referrer second_discount second_referrer address =
-    roles-any first.coin first.pc second.coin second.pc address
-    ∙ four (is_role first.coin address) (is_role first.pc address) (is_role second.coin address) (is_role second.pc address)
-    ∙ ap (λ (b : Bool). b || (is_role second.coin address || (is_role second.pc address || false))) (sym (leg-names first first_discount first_referrer address))
-    ∙ ap (λ (b : Bool). names first address || b) (sym (leg-names second second_discount second_referrer address))
-  where
-    four : (a b c d : Bool) → (a || (b || (c || (d || false)))) ≡ ((a || (b || false)) || (c || (d || false)))
-    four a b c d = grind arith
-
 module _ (first second : PlainRow) (legs : AreLegs first second) where
+  -- a wallet is one of these just where one of the legs names it
   pub named-is : (address : Address) → list_any (is_same address) (leg_wallets first second) ≡ (names first address || names second address)
-  named-is = leg-named first second legs.first.discount legs.first.referrer legs.second.discount legs.second.referrer
+  named-is address =
+      roles-any first.coin first.pc second.coin second.pc address
+      ∙ four (is_role first.coin address) (is_role first.pc address) (is_role second.coin address) (is_role second.pc address)
+      ∙ ap (λ (b : Bool). b || (is_role second.coin address || (is_role second.pc address || false))) (sym (leg-names first legs.first.discount legs.first.referrer address))
+      ∙ ap (λ (b : Bool). names first address || b) (sym (leg-names second legs.second.discount legs.second.referrer address))
+    where
+      four : (a b c d : Bool) → (a || (b || (c || (d || false)))) ≡ ((a || (b || false)) || (c || (d || false)))
+      four a b c d = grind arith
 
   -- each cell in hand is named by one of them
   pub each-named : (script : PlainScript) (cells : List CellState) → AreInHand script (leg_wallets first second) [] cells

@@ -22,13 +22,11 @@ took-by (Ok (SendTake side price lots max_pc min_lots min_pc limit)) request see
 took-by (Ok (SendTake side price lots max_pc min_lots min_pc limit)) request seen m (Some refusal) take = refl
 took-by it request seen m refusal take = absurd (false≢true take)
 
-refused-took : (refusal : Option Refusal) (m : Market) (acted : Step) → is_some refusal ≡ true → is_took (unless_refused refusal m acted).reply ≡ false
-refused-took None m acted some = absurd (false≢true some)
-refused-took (Some refusal) m acted some = refl
-
-refused-done : (refusal : Option Refusal) (m : Market) (acted : Step) → is_some refusal ≡ true → is_done (unless_refused refusal m acted).reply ≡ false
-refused-done None m acted some = absurd (false≢true some)
-refused-done (Some refusal) m acted some = refl
+-- and what is refused does not, nor is it done
+refused-reply : (refusal : Option Refusal) (m : Market) (acted : Step) → is_some refusal ≡ true
+    → (is_took (unless_refused refusal m acted).reply ≡ false) × (is_done (unless_refused refusal m acted).reply ≡ false)
+refused-reply None m acted some = absurd (false≢true some)
+refused-reply (Some refusal) m acted some = (refl, refl)
 
 module _ (row : PlainRow) (leg : IsLeg row) (seen : Seen) (m : Market) where
   abbrev refused : Bool
@@ -38,7 +36,7 @@ module _ (row : PlainRow) (leg : IsLeg row) (seen : Seen) (m : Market) where
   own-took =
       ⊎_elim
       (λ (some : refused ≡ true).
-      refused-took (why (request_of row) seen m) m (act_decoded (decoded row.bytes) (request_of row) seen m) some ∙ sym (ap not some))
+      (refused-reply (why (request_of row) seen m) m (act_decoded (decoded row.bytes) (request_of row) seen m) some).0 ∙ sym (ap not some))
       (λ (none : refused ≡ false).
       took-by (decoded row.bytes) (request_of row) seen m (why (request_of row) seen m) (take-of (decoded row.bytes) (request_of row) seen m leg.take none))
       (cases_Bool refused)
@@ -46,7 +44,7 @@ module _ (row : PlainRow) (leg : IsLeg row) (seen : Seen) (m : Market) where
   own-done : is_done (row_step row seen m).reply ≡ false
   own-done =
       ⊎_elim
-      (λ (some : refused ≡ true). refused-done (why (request_of row) seen m) m (act_decoded (decoded row.bytes) (request_of row) seen m) some)
+      (λ (some : refused ≡ true). (refused-reply (why (request_of row) seen m) m (act_decoded (decoded row.bytes) (request_of row) seen m) some).1)
       (λ (none : refused ≡ false). take-tells (asked_of row) seen m (take-of (decoded row.bytes) (request_of row) seen m leg.take none)) (cases_Bool refused)
 
   pub took-is : (waits : Bool) → MayWait waits row seen m → is_took (made_by waits row seen m).entry.reply ≡ (not refused && not waits)

@@ -1,39 +1,42 @@
 -- A seat before and after the two legs of a swap.
-use Rattle.std.proofs.Common.{◌≡◌, ℕ, ◌<◌, ◌≤◌, ◌||◌, Bool, true, false, cond, List, [], ◌∷◌, ◌++◌, length, map, set, get_or, refl, sym, ap, ◌∙◌, subst, arith, ⊎_elim}
-use Rattle.dex_world.proofs.Common.{Address, All-append, All-cons, All-nil, All-weaker, Asked, Call, IsLegal, IsWalletLegal, PlainAccount, PlainMarketAccounts, PlainRow, Reply, ShareNothing, WalletEntry, asked_of, cases_Bool, false≢true, filter-append, is_same, is_same-refl, is_same-sym, is_same-true, list_any, names}
-use Rattle.dex_turns.proofs.Common.{AllThree, AreNext, BankState, HasCalled, HaveGrown, HaveSubmitted, IsMarketPass, IsSeat, IsSeatOf, IsSight, IsWalletPass, MovesEach, PassView, PlainScript, SeatState, Stamped, Where, balance_of, calls_on, entries_in, entries_on, market_in}
-use Rattle.std.specs.List.{All}
-use Rattle.std.proofs.lemmas.List.{append-nil, append_assoc, set-get_or}
-use Rattle.dex_stamps.specs.Stamped.{items_of}
+use Rattle.std.proofs.Common.{◌≡◌, ℕ, ◌<◌, ◌||◌, Bool, true, false, cond, List, [], ◌∷◌, ◌++◌, length, map, set, get_or, refl, sym, ap, ◌∙◌, subst, ⊎_elim}
+use Rattle.dex_world.proofs.Common.{Address, All-cons, All-nil, Asked, Call, PlainAccount, PlainMarketAccounts, PlainRow, Reply, ShareNothing, WalletEntry, asked_of, cases_Bool, false_from_ne_true, false≢true, is_same, is_same-refl, is_same-sym, is_same-true, list_any, names}
+use Rattle.dex_turns.proofs.Common.{AllThree, AreNext, AreReady, BankState, HasCalled, HaveGrown, HaveSubmitted, IsBank, IsSeat, IsSeatOf, MovesEach, PlainScript, SeatState, Stamped, Where, calls_on, entries_in, entries_on, number_in, rows_of_wallet}
+use Rattle.std.proofs.lemmas.List.{append-nil, set-get_or}
 use Rattle.dex_script_types.specs.Facts.{AreLegs}
-use Rattle.dex_journals.proofs.LaneGrowth.{lane-more}
-use Rattle.dex_turns.specs.Submitted.{HasMade, LegMarketGrows, LegWalletGrows, MarketGrows, WhereEither, written_by_two}
-use Rattle.dex_turns.specs.Turns.{HaveLegsTold, leg_wallets}
+use Rattle.dex_journals.proofs.LaneGrowth.{IsItemMore}
+use Rattle.dex_turns.specs.Submitted.{AreLegReplies, HasMade, LegMarketGrows, LegWalletGrows, MarketGrows, written_by_two}
+use Rattle.dex_turns.specs.Turns.{HaveLegsTold, IsTold, leg_wallets}
 use Rattle.dex_turns.specs.Seats.{MarketPass, WalletPass}
-use Rattle.dex_turns.proofs.Growing.{pass-more, pass-same, set-three, three-after, three-gates, where-off, where-on}
+use Rattle.dex_turns.proofs.Growing.{either-grew, set-three, where-off, where-on}
 use Rattle.dex_world.proofs.MappedLists.{three-weaker}
 use Rattle.dex_script_types.proofs.Apart.{AreDistinct}
 use Rattle.dex_turns.proofs.LegNames.{named-is}
-use Rattle.dex_turns.proofs.RowMore.{legs-more}
-use Rattle.dex_turns.proofs.SeatAfter.{IsAfter, as-seen, entries-more, markets-grow, none-in}
+use Rattle.dex_turns.proofs.RowMore.{item-more}
+use Rattle.dex_turns.proofs.SeatAfter.{IsAfter, MarketGrew, MarketLegal, WalletGrew, WalletLegal, entries-free, first-ahead, is-after, lane-is, markets-grow, ready-of, seat_with, second-ahead}
+use Rattle.dex_turns.proofs.Counts.{none-in}
 
--- ---- the passes of one or of the other
+-- ---- before: its passes for their wallets may draw
 
-either-of : {b c : Bool} {One Other Elsewhere Result : Type 0} → WhereEither b c One Other Elsewhere → (b ≡ true → One → Result) → (b ≡ false → c ≡ true → Other → Result)
-    → (b ≡ false → c ≡ false → Elsewhere → Result) → Result
-either-of {b} {c} is by_one by_other by_none =
-    ⊎_elim (λ (on : b ≡ true). by_one on (is.first on))
-    (λ (off : b ≡ false).
-    ⊎_elim (λ (on : c ≡ true). by_other off on (is.second on)) (λ (none : c ≡ false). by_none off none (is.neither off none)) (cases_Bool c))
-    (cases_Bool b)
+module _ {bank : BankState} {first second : PlainRow} {before : SeatState} (next : AreNext first second before) (bank_kept : IsBank bank) (of : IsSeatOf bank before)
+    (kept : IsSeat before) where
+  -- the lane has made fewer entries than it has rows, on each wallet that one of them names
+  legs-free : (address : Address) → list_any (is_same address) (leg_wallets first second) ≡ true
+      → length (entries_on address before.calls) < length (rows_of_wallet first.lane address bank.script.rows)
+  legs-free address among =
+      ⊎_elim
+      (λ (named : names first address ≡ true). entries-free of bank_kept (first-ahead next) kept address named)
+      (λ (away : names first address ≡ false).
+      subst (λ (lane : ℕ). length (entries_on address before.calls) < length (rows_of_wallet lane address bank.script.rows)) (sym next.legs.lane)
+      (entries-free of bank_kept (second-ahead next) kept address
+      (sym (ap (λ (b : Bool). b || names second address) away) ∙ sym (named-is first second next.legs address) ∙ among)))
+      (cases_Bool (names first address))
 
--- ---- the legs
+  pub legs-ready : AreReady bank first.lane (leg_wallets first second) before.wallets
+  legs-ready =
+      ready-of bank before of kept first.lane (leg_wallets first second) (lane-is of bank_kept (first-ahead next)) legs-free
 
-abbrev MarketLegal : PlainMarketAccounts → List (Stamped Call) → Type 0
-MarketLegal start seen = IsLegal (market_in start) (items_of seen)
-
-abbrev WalletLegal : PlainAccount → List (Stamped WalletEntry) → Type 0
-WalletLegal start seen = IsWalletLegal (balance_of start.bytes) (items_of seen)
+-- ---- what grows
 
 module _ (first second : PlainRow) (legs : AreLegs first second) (one two : Stamped Call) (asked : (one.item.asked ≡ asked_of first) × (two.item.asked ≡ asked_of second)) where
   abbrev share : ShareNothing first second
@@ -41,25 +44,20 @@ module _ (first second : PlainRow) (legs : AreLegs first second) (one two : Stam
 
   not-both : (address : Address) → is_same first.market address ≡ true → is_same second.market address ≡ false
   not-both address on =
-      ⊎_elim
-      (λ (both : is_same second.market address ≡ true).
-      absurd (false≢true (sym share.markets ∙ ap (is_same first.market) (is_same-true second.market address both) ∙ on)))
-      (λ (off : is_same second.market address ≡ false). off) (cases_Bool (is_same second.market address))
+      false_from_ne_true (is_same second.market address) (λ both.
+      false≢true (sym share.markets ∙ ap (is_same first.market) (is_same-true second.market address both) ∙ on))
 
   not-both-named : (address : Address) → names first address ≡ true → names second address ≡ false
-  not-both-named address on =
-      ⊎_elim (λ (both : names second address ≡ true). absurd (false≢true (sym (share.wallets address both) ∙ on))) (λ (off : names second address ≡ false). off)
-      (cases_Bool (names second address))
+  not-both-named address on = false_from_ne_true (names second address) (λ both. false≢true (sym (share.wallets address both) ∙ on))
 
   -- the passes of both markets have grown
-  pub legs-grow : (starts : List PlainMarketAccounts) (passes : List MarketPass) (place next : ℕ) (before before_next left left_next : MarketPass)
+  pub legs-grow : (starts : List PlainMarketAccounts) (passes : List MarketPass) (place next : ℕ) (left left_next : MarketPass)
       → AreDistinct (map (λ (accounts : PlainMarketAccounts). accounts.address) starts) → place < length starts → next < length starts → length passes ≡ length starts
       → ((d : PlainMarketAccounts) → (get_or starts place d).address ≡ first.market) → ((d : PlainMarketAccounts) → (get_or starts next d).address ≡ second.market)
-      → before ≡ get_or passes place before → before_next ≡ get_or passes next before_next
       → ((d : PlainMarketAccounts) (e : MarketPass) → HasCalled one (get_or starts place d) (get_or passes place e) left)
       → ((d : PlainMarketAccounts) (e : MarketPass) → HasCalled two (get_or starts next d) (get_or passes next e) left_next)
       → AllThree (LegMarketGrows first second one two) starts passes (set (set passes place left) next left_next)
-  legs-grow starts passes place next before before_next left left_next distinct within within_next long here here_next before_is next_is called called_next =
+  legs-grow starts passes place next left left_next distinct within within_next long here here_next called called_next =
       set-three (λ (accounts : PlainMarketAccounts). accounts.address) (MarketGrows first one) (LegMarketGrows first second one two) second.market
       (λ x apart p q grows.
       let off : is_same second.market x.address ≡ false = is_same-sym second.market x.address ∙ apart in
@@ -68,10 +66,9 @@ module _ (first second : PlainRow) (legs : AreLegs first second) (one two : Stam
         second = λ on. absurd (false≢true (sym off ∙ on));
         neither = λ none also. where-off (is_same first.market x.address) (HasCalled one x p q) (q ≡ p) none grows;
       })
-      starts passes (set passes place left) next before_next left_next distinct within_next here_next
+      starts passes (set passes place left) next (get_or passes next left_next) left_next distinct within_next here_next
       (subst (λ (l : List MarketPass). AllThree (MarketGrows first one) starts l (set passes place left))
-      (sym (ap (set passes next) next_is ∙ set-get_or passes next before_next))
-      (markets-grow first one asked.0 starts passes place before left distinct within long here before_is called))
+      (sym (set-get_or passes next left_next)) (markets-grow first one asked.0 starts passes place left distinct within long here called))
       (λ d e.
       let on_second : is_same second.market (get_or starts next d).address ≡ true = ap (is_same second.market) (here_next d) ∙ is_same-refl second.market in
       record {
@@ -97,13 +94,13 @@ module _ (first second : PlainRow) (legs : AreLegs first second) (one two : Stam
       record {
         first = λ on.
             subst (λ (made : List (Stamped WalletEntry)). HasMade made (WalletLegal start) p q)
-            (ap (λ (l : List (Stamped WalletEntry)). entries_in start.address one ++ l) (none-in second two asked.1 start.address two_moves (not-both-named start.address on))
+            (ap (λ (l : List (Stamped WalletEntry)). entries_in start.address one ++ l) (none-in second two asked.1 two_moves start.address (not-both-named start.address on))
             ∙ append-nil (entries_in start.address one))
             (where-on (names first start.address || names second start.address) (Both start p q) (q ≡ p) (ap (λ (b : Bool). b || names second start.address) on) is);
         second = λ on.
             let off : names first start.address ≡ false = share.wallets start.address on in
             subst (λ (made : List (Stamped WalletEntry)). HasMade made (WalletLegal start) p q)
-            (ap (λ (l : List (Stamped WalletEntry)). l ++ entries_in start.address two) (none-in first one asked.0 start.address one_moves off))
+            (ap (λ (l : List (Stamped WalletEntry)). l ++ entries_in start.address two) (none-in first one asked.0 one_moves start.address off))
             (where-on (names first start.address || names second start.address) (Both start p q) (q ≡ p)
             (ap (λ (b : Bool). b || names second start.address) off ∙ on) is);
         neither = λ off none.
@@ -111,152 +108,82 @@ module _ (first second : PlainRow) (legs : AreLegs first second) (one two : Stam
       })
       bank.script.start.wallets before after grown
 
-  -- ---- what a lane made on a market and on a wallet, with theirs
+  -- ---- what a pass made
 
-  calls-two : (address : Address) (calls : List (Stamped Call)) (b c : Bool) → is_same first.market address ≡ b → is_same second.market address ≡ c
-      → calls_on address (calls ++ one ∷ two ∷ []) ≡ calls_on address calls ++ cond b (one ∷ cond c (two ∷ []) []) (cond c (two ∷ []) [])
-  calls-two address calls b c first_is second_is =
-      filter-append (λ (call : Stamped Call). is_same call.item.asked.market address) calls (one ∷ two ∷ [])
-      ∙ ap (λ (x : Bool). calls_on address calls ++ cond x (one ∷ cond (is_same two.item.asked.market address) (two ∷ []) []) (cond (is_same two.item.asked.market address) (two ∷ []) []))
+  calls-two : (address : Address) (b c : Bool) → is_same first.market address ≡ b → is_same second.market address ≡ c
+      → calls_on address (one ∷ two ∷ []) ≡ cond b (one ∷ cond c (two ∷ []) []) (cond c (two ∷ []) [])
+  calls-two address b c first_is second_is =
+      ap (λ (x : Bool). cond x (one ∷ cond (is_same two.item.asked.market address) (two ∷ []) []) (cond (is_same two.item.asked.market address) (two ∷ []) []))
       (ap (λ (a : Asked). is_same a.market address) asked.0 ∙ first_is)
-      ∙ ap (λ (x : Bool). calls_on address calls ++ cond b (one ∷ cond x (two ∷ []) []) (cond x (two ∷ []) []))
-      (ap (λ (a : Asked). is_same a.market address) asked.1 ∙ second_is)
+      ∙ ap (λ (x : Bool). cond b (one ∷ cond x (two ∷ []) []) (cond x (two ∷ []) [])) (ap (λ (a : Asked). is_same a.market address) asked.1 ∙ second_is)
 
-  entries-two : (address : Address) (calls : List (Stamped Call))
-      → entries_on address (calls ++ one ∷ two ∷ []) ≡ (entries_on address calls ++ entries_in address one) ++ entries_in address two
-  entries-two address calls =
-      ap (entries_on address) (sym (append_assoc calls (one ∷ []) (two ∷ [])))
-      ∙ entries-more second two asked.1 address (calls ++ one ∷ [])
-      ∙ ap (λ (l : List (Stamped WalletEntry)). l ++ entries_in address two) (entries-more first one asked.0 address calls)
+  pub market-grew : (start : PlainMarketAccounts) (p q : MarketPass) → LegMarketGrows first second one two start p q → MarketGrew (one ∷ two ∷ []) start p q
+  market-grew start p q =
+      either-grew (MarketLegal start) p q (is_same first.market start.address) (is_same second.market start.address) (one ∷ []) (two ∷ []) (calls_on start.address (one ∷ two ∷ []))
+      (λ on. calls-two start.address true false on (not-both start.address on)) (λ off on. calls-two start.address false true off on) (λ off none. calls-two start.address false false off none)
 
-  market-pass : (lane : ℕ) (calls : List (Stamped Call)) (start : PlainMarketAccounts) (p q : MarketPass) → IsMarketPass lane calls start p
-      → LegMarketGrows first second one two start p q → IsMarketPass lane (calls ++ one ∷ two ∷ []) start q
-  market-pass lane calls start p q is grows =
-      either-of grows
-      (λ on has.
-      pass-more lane (calls_on start.address calls) (one ∷ []) (calls_on start.address (calls ++ one ∷ two ∷ [])) (MarketLegal start) p q is has
-      (calls-two start.address calls true false on (not-both start.address on)))
-      (λ off on has.
-      pass-more lane (calls_on start.address calls) (two ∷ []) (calls_on start.address (calls ++ one ∷ two ∷ [])) (MarketLegal start) p q is has (calls-two start.address calls false true off on))
-      (λ off none same.
-      pass-same lane (calls_on start.address calls) (calls_on start.address (calls ++ one ∷ two ∷ [])) p q is same
-      (calls-two start.address calls false false off none ∙ append-nil (calls_on start.address calls)))
-
-  wallet-pass : MovesEach one.item → MovesEach two.item → (lane : ℕ) (calls : List (Stamped Call)) (start : PlainAccount) (p q : WalletPass) → IsWalletPass lane calls start p
-      → LegWalletGrows first second one two start p q → IsWalletPass lane (calls ++ one ∷ two ∷ []) start q
-  wallet-pass one_moves two_moves lane calls start p q is grows =
+  pub wallet-grew : MovesEach one.item → MovesEach two.item → (start : PlainAccount) (p q : WalletPass) → LegWalletGrows first second one two start p q
+      → WalletGrew (one ∷ two ∷ []) start p q
+  wallet-grew one_moves two_moves start p q =
       let a : Address = start.address in
-      let before : List (Stamped WalletEntry) = entries_on a calls in
-      either-of grows
-      (λ on has.
-      pass-more lane before (entries_in a one) (entries_on a (calls ++ one ∷ two ∷ [])) (WalletLegal start) p q is has
-      (entries-two a calls
-      ∙ ap (λ (l : List (Stamped WalletEntry)). (before ++ entries_in a one) ++ l) (none-in second two asked.1 a two_moves (not-both-named a on))
-      ∙ append-nil (before ++ entries_in a one)))
-      (λ off on has.
-      pass-more lane before (entries_in a two) (entries_on a (calls ++ one ∷ two ∷ [])) (WalletLegal start) p q is has (without-one off))
-      (λ off none same.
-      pass-same lane before (entries_on a (calls ++ one ∷ two ∷ [])) p q is same
-      (without-one off ∙ ap (λ (l : List (Stamped WalletEntry)). before ++ l) (none-in second two asked.1 a two_moves none) ∙ append-nil before))
-    where
-      without-one : names first start.address ≡ false → entries_on start.address (calls ++ one ∷ two ∷ []) ≡ entries_on start.address calls ++ entries_in start.address two
-      without-one off =
-          entries-two start.address calls
-          ∙ ap (λ (l : List (Stamped WalletEntry)). (entries_on start.address calls ++ l) ++ entries_in start.address two) (none-in first one asked.0 start.address one_moves off)
-          ∙ ap (λ (l : List (Stamped WalletEntry)). l ++ entries_in start.address two) (append-nil (entries_on start.address calls))
-
-  gate-stays : {E O : Type 0} {b c : Bool} (new other : List E) (Legal : List E → Type 0) (p q : PassView E O) → WhereEither b c (HasMade new Legal p q) (HasMade other Legal p q) (q ≡ p)
-      → q.gate ≡ p.gate
-  gate-stays {E} {O} new other Legal p q grows =
-      either-of grows (λ on has. ap (λ (x : PassView E O). x.gate) has.pass) (λ off on has. ap (λ (x : PassView E O). x.gate) has.pass)
-      (λ off none same. ap (λ (x : PassView E O). x.gate) same)
+      let without-one : names first a ≡ false → entries_on a (one ∷ two ∷ []) ≡ entries_in a two = λ off.
+      ap (λ (l : List (Stamped WalletEntry)). l ++ (entries_in a two ++ [])) (none-in first one asked.0 one_moves a off) ∙ append-nil (entries_in a two) in
+      either-grew (WalletLegal start) p q (names first a) (names second a) (entries_in a one) (entries_in a two) (entries_on a (one ∷ two ∷ []))
+      (λ on.
+      ap (λ (l : List (Stamped WalletEntry)). entries_in a one ++ (l ++ [])) (none-in second two asked.1 two_moves a (not-both-named a on)) ∙ append-nil (entries_in a one))
+      (λ off on. without-one off) (λ off none. without-one off ∙ none-in second two asked.1 two_moves a none)
 
 -- ---- the seat behind them
 
-module _ (bank : BankState) (first second : PlainRow) (before : SeatState) (next : AreNext first second before) (of : IsSeatOf bank before) (kept : IsSeat before)
-    (one two : Stamped Call) (asked : (one.item.asked ≡ asked_of first) × (two.item.asked ≡ asked_of second)) (told : HaveLegsTold bank.script before.last one two)
+module _ {bank : BankState} {first second : PlainRow} {before : SeatState} {one two : Stamped Call} (next : AreNext first second before) (of : IsSeatOf bank before) (kept : IsSeat before)
+    (told : HaveLegsTold bank.script before.last one two) (asked : (one.item.asked ≡ asked_of first) × (two.item.asked ≡ asked_of second))
     (markets : List MarketPass) (markets_grown : AllThree (LegMarketGrows first second one two) bank.script.start.markets before.markets markets) (wallets : List WalletPass)
-    (grown : HaveGrown bank (leg_wallets first second) (written_by_two one two) before.wallets wallets) where
-  abbrev pub seat_after : SeatState
-  seat_after = record {
-    lane = before.lane;
-    script = before.script;
-    calls = before.calls ++ one ∷ two ∷ [];
-    last = one.stamp;
-    markets = markets;
-    wallets = wallets;
-  }
+    (wallets_grown : HaveGrown bank (leg_wallets first second) (written_by_two one two) before.wallets wallets) where
+  told_here : HaveLegsTold before.script before.last one two
+  told_here = subst (λ (s : PlainScript). HaveLegsTold s before.last one two) (sym of.script) told
 
-  wallets-grown : AllThree (LegWalletGrows first second one two) bank.script.start.wallets before.wallets wallets
-  wallets-grown = wallets-grow first second next.legs one two asked bank before.wallets wallets told.told.0.moves told.told.1.moves grown
+  markets_here : AllThree (LegMarketGrows first second one two) before.script.start.markets before.markets markets
+  markets_here = subst (λ (s : PlainScript). AllThree (LegMarketGrows first second one two) s.start.markets before.markets markets) (sym of.script) markets_grown
 
-  seat-submitted : HaveSubmitted first second (one.item.entry.reply, two.item.entry.reply) before seat_after
-  seat-submitted = record {
-    one = one;
-    two = two;
-    asked = asked;
-    answered = (refl, refl);
-    replies_are = told.replies;
-    together = told.together;
-    all_or_none = told.all_or_none;
-    sees = (
-      subst (λ (s : PlainScript). IsSight s one.item.seen) (sym of.script) told.told.0.sees,
-      subst (λ (s : PlainScript). IsSight s two.item.seen) (sym of.script) told.told.1.sees,
-    );
-    moves = (told.told.0.moves, told.told.1.moves);
-    lane = refl;
-    script = refl;
-    calls = refl;
-    markets = subst (λ (s : PlainScript). AllThree (LegMarketGrows first second one two) s.start.markets before.markets markets) (sym of.script) markets_grown;
-    wallets = subst (λ (s : PlainScript). AllThree (LegWalletGrows first second one two) s.start.wallets before.wallets wallets) (sym of.script) wallets-grown;
-  }
+  wallets_here : AllThree (LegWalletGrows first second one two) before.script.start.wallets before.wallets wallets
+  wallets_here =
+      subst (λ (s : PlainScript). AllThree (LegWalletGrows first second one two) s.start.wallets before.wallets wallets) (sym of.script)
+      (wallets-grow first second next.legs one two asked bank before.wallets wallets told.told.0.moves told.told.1.moves wallets_grown)
 
-  seat-of : IsSeatOf bank seat_after
-  seat-of = record {
-    script = of.script;
-    markets =
-        three-gates (LegMarketGrows first second one two)
-        (λ start p q grows.
-        gate-stays first second next.legs one two asked (one ∷ []) (two ∷ []) (λ (seen : List (Stamped Call)). IsLegal (market_in start) (items_of seen)) p q grows)
-        bank.script.start.markets bank.markets before.markets markets markets_grown of.markets;
-    wallets =
-        three-gates (LegWalletGrows first second one two)
-        (λ start p q grows.
-        gate-stays first second next.legs one two asked (entries_in start.address one) (entries_in start.address two)
-        (λ (seen : List (Stamped WalletEntry)). IsWalletLegal (balance_of start.bytes) (items_of seen)) p q grows)
-        bank.script.start.wallets bank.wallets before.wallets wallets wallets-grown of.wallets;
-  }
+  item : IsItemMore before.script before.lane before.calls (first ∷ second ∷ []) one (two ∷ [])
+  item =
+      let Numbered : Stamped Call → Type 0 = λ c. number_in c ≡ first.number in
+      let Told : Stamped Call → Type 0 = IsTold before.script in
+      item-more before.script before.lane before.last first.number before.calls kept.calls kept.below next.lower (first ∷ second ∷ []) next.later one (two ∷ []) next.are
+      (ap (λ (a : Asked). a ∷ two.item.asked ∷ []) asked.0 ∙ ap (λ (a : Asked). asked_of first ∷ a ∷ []) asked.1)
+      (All-cons Numbered one (two ∷ []) (ap (λ (a : Asked). a.number) asked.0)
+      (All-cons Numbered two [] (ap (λ (a : Asked). a.number) asked.1 ∙ next.together) (All-nil Numbered)))
+      (All-cons (λ (c : Stamped Call). c.stamp ≡ one.stamp) two [] told.together (All-nil (λ (c : Stamped Call). c.stamp ≡ one.stamp)))
+      (All-cons Told one (two ∷ []) told_here.told.0 (All-cons Told two [] told_here.told.1 (All-nil Told))) told.later told.all_or_none
 
-  below-more : All (λ (c : Stamped Call). c.stamp ≤ one.stamp) (before.calls ++ one ∷ two ∷ [])
-  below-more =
-      let Below : Stamped Call → Type 0 = λ c. c.stamp ≤ one.stamp in
-      All-append Below before.calls (one ∷ two ∷ [])
-      (All-weaker (λ (c : Stamped Call). c.stamp ≤ before.last) Below (λ c less. omega (arith, less, told.later)) before.calls kept.below)
-      (All-cons Below one (two ∷ []) (omega arith) (All-cons Below two [] (omega (arith, told.together)) (All-nil Below)))
-
-  seat-kept : IsSeat seat_after
-  unfolding seat-submitted
-  seat-kept =
-      let told_here : HaveLegsTold before.script before.last one two = subst (λ (s : PlainScript). HaveLegsTold s before.last one two) (sym of.script) told in
-      record {
-        calls =
-            lane-more before.script before.lane before.calls (first ∷ second ∷ []) one (two ∷ []) kept.calls
-            (legs-more first second one two asked before.script before.lane before.last before.calls next.later next.lower next.together kept.calls next.are kept.below told_here);
-        below = below-more;
-        markets =
-            three-after (LegMarketGrows first second one two) (IsMarketPass before.lane before.calls) (IsMarketPass before.lane (before.calls ++ one ∷ two ∷ []))
-            (market-pass first second next.legs one two asked before.lane before.calls) before.script.start.markets before.markets markets kept.markets seat-submitted.markets;
-        wallets =
-            three-after (LegWalletGrows first second one two) (IsWalletPass before.lane before.calls) (IsWalletPass before.lane (before.calls ++ one ∷ two ∷ []))
-            (wallet-pass first second next.legs one two asked told.told.0.moves told.told.1.moves before.lane before.calls) before.script.start.wallets before.wallets wallets kept.wallets
-            seat-submitted.wallets;
-      }
-
-  pub is-after : (view : SeatState) (calls : List (Stamped Call)) (reply next_reply : Reply) → before ≡ view → calls ≡ before.calls ++ one ∷ two ∷ []
-      → reply ≡ one.item.entry.reply → next_reply ≡ two.item.entry.reply → IsAfter bank (HaveSubmitted first second (reply, next_reply)) view (record seat_after { calls = calls })
-  is-after view calls reply next_reply same are tells next_tells =
-      let After : Reply → Reply → Type 0 = λ r s. IsAfter bank (HaveSubmitted first second (r, s)) view (record seat_after { calls = calls }) in
-      subst (λ (r : Reply). After r next_reply) (sym tells)
-      (subst (λ (r : Reply). After one.item.entry.reply r) (sym next_tells)
-      (as-seen bank (HaveSubmitted first second (one.item.entry.reply, two.item.entry.reply)) before view seat_after calls same are
-      (record { kept = seat-kept; of = seat-of; submitted = seat-submitted })))
+  pub legs-after : {view : SeatState} {calls : List (Stamped Call)} {reply next_reply : Reply} → before ≡ view → calls ≡ before.calls ++ one ∷ two ∷ []
+      → reply ≡ one.item.entry.reply → next_reply ≡ two.item.entry.reply
+      → IsAfter bank (HaveSubmitted first second (reply, next_reply)) view (seat_with before calls one.stamp markets wallets)
+  legs-after {view} {calls} {reply} {next_reply} same are tells next_tells =
+      is-after bank before of kept (first ∷ second ∷ []) one (two ∷ []) item markets wallets
+      (three-weaker (LegMarketGrows first second one two) (MarketGrew (one ∷ two ∷ [])) (market-grew first second next.legs one two asked) before.script.start.markets before.markets markets markets_here)
+      (three-weaker (LegWalletGrows first second one two) (WalletGrew (one ∷ two ∷ []))
+      (wallet-grew first second next.legs one two asked told.told.0.moves told.told.1.moves) before.script.start.wallets before.wallets wallets wallets_here)
+      (HaveSubmitted first second (reply, next_reply))
+      (record {
+        one = one;
+        two = two;
+        asked = asked;
+        answered = (sym tells, sym next_tells);
+        replies_are = subst (AreLegReplies reply) (sym next_tells) (subst (λ (r : Reply). AreLegReplies r two.item.entry.reply) (sym tells) told.replies);
+        together = told.together;
+        all_or_none = told.all_or_none;
+        sees = (told_here.told.0.sees, told_here.told.1.sees);
+        moves = (told.told.0.moves, told.told.1.moves);
+        lane = refl;
+        script = refl;
+        calls = refl;
+        markets = markets_here;
+        wallets = wallets_here;
+      })
+      view calls same are

@@ -1,6 +1,4 @@
 pub mod Common
-mod FewLanes
-mod Placed
 mod Rising
 mod Examples
 mod Counts
@@ -15,7 +13,6 @@ mod RowMore
 mod LegHands
 mod LegNames
 mod LegPlaces
-mod LegReady
 mod LegReplies
 mod LegSeat
 mod LegTurns

@@ -1,17 +1,13 @@
 -- Addresses that rise; so do the wallets that a row names, and those of two legs.
-use Rattle.std.proofs.Common.{◌≡◌, ℕ, true, false, Bool, ◌||◌, List, [], ◌∷◌, ◌++◌, None, Option, Some, refl, sym, ap, ◌∙◌, arith}
+use Rattle.std.proofs.Common.{◌≡◌, ℕ, true, false, List, [], ◌∷◌, ◌++◌, None, Option, Some, refl, sym, ◌∙◌, arith}
 use Rattle.std.proofs.lemmas.Bool.{le-ltb}
-use Rattle.dex_world.proofs.Common.{Address, All-head, All-tail, PlainRow, eq-eqb, false_from_ne_true, false≢true, is_same, is_same-true, list_any, row_wallets}
+use Rattle.dex_world.proofs.Common.{Address, PlainRow, eq-eqb, false_from_ne_true, false≢true, is_same, list_any, row_wallets}
 use Rattle.std.specs.List.{All}
 use Rattle.dex_types.specs.Wallets.{is_less, is_lower, with_role}
 use Rattle.dex_history.proofs.AddressOrder.{with_address-rising}
 use Rattle.dex_history.proofs.AddressOrder as order
 use Rattle.dex_turns.specs.Turns.{AreRising, leg_wallets}
-
--- addresses of which each stands once
-abbrev pub AreOnce : List Address → Type 0
-AreOnce [] = Unit {0}
-AreOnce (address ∷ others) = (list_any (is_same address) others ≡ false) × AreOnce others
+use Rattle.dex_world.proofs.OnceLaws.{of-any}
 
 abbrev pub IsAbove : Address → Address → Type 0
 IsAbove address other = is_lower address other ≡ true
@@ -20,21 +16,10 @@ is_less-itself : (bytes : List ℕ) → is_less bytes bytes ≡ false
 is_less-itself [] = refl
 is_less-itself (byte ∷ bytes) = rw (le-ltb byte byte (omega arith), eq-eqb byte byte refl) (is_less-itself bytes)
 
-is_lower-apart : (address other : Address) → is_lower address other ≡ true → is_same address other ≡ false
-is_lower-apart address other lower =
-    false_from_ne_true (is_same address other) (λ same.
-    false≢true (sym (is_less-itself address.0) ∙ ap (λ (a : Address). is_less address.0 a.0) (is_same-true address other same) ∙ lower))
-
-not-among : (address : Address) (others : List Address) → All (IsAbove address) others → list_any (is_same address) others ≡ false
-not-among address [] above = refl
-not-among address (first ∷ others) above =
-    ap (λ (b : Bool). b || list_any (is_same address) others) (is_lower-apart address first (All-head (IsAbove address) first others above))
-    ∙ not-among address others (All-tail (IsAbove address) first others above)
-
--- each stands once
-pub rising-once : (addresses : List Address) → AreRising addresses → AreOnce addresses
-rising-once [] rising = tt
-rising-once (address ∷ others) rising = (not-among address others rising.0, rising-once others rising.1)
+-- an address below all of these is none of them
+pub not-among : (address : Address) (others : List Address) → All (IsAbove address) others → list_any (is_same address) others ≡ false
+not-among address others above =
+    false_from_ne_true (list_any (is_same address) others) (λ among. false≢true (sym (is_less-itself address.0) ∙ of-any (IsAbove address) address others among above))
 
 pub rising-behind : (front behind : List Address) → AreRising (front ++ behind) → AreRising behind
 rising-behind [] behind rising = rising

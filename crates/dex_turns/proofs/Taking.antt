@@ -1,11 +1,11 @@
 -- The turn of an item's next wallet: what is known when it is taken, and when it is left.
-use Rattle.std.proofs.Common.{◌≡◌, ℕ, suc, ◌+◌, ◌-◌, ◌<◌, ◌==◌, true, false, List, [], ◌∷◌, ◌++◌, drop, length, map, set, take, get_or, Some, None, refl, sym, ap, ◌∙◌, subst, arith}
+use Rattle.std.proofs.Common.{◌≡◌, ℕ, ◌+◌, ◌-◌, ◌<◌, ◌==◌, true, false, List, [], ◌∷◌, ◌++◌, drop, length, map, set, take, get_or, Some, None, refl, sym, ap, ◌∙◌, subst, arith}
 use Rattle.dex_world.proofs.Common.{Address, All-head, All-push, AllZip-long, PlainAccount, WalletEntry, cond-true, eq-eqb, get_or-map, is_same, is_same-refl, length-map, list_any, or_left}
 use Rattle.dex_world.proofs.MappedLists.{same-get, three-long, zip-at}
 use Rattle.dex_world.specs.Places.{ArePlacesOf}
 use Rattle.dex_turns.proofs.Common.{AreInHand, AreReady, BankState, CellState, HasEntry, HasLeft, HaveGrown, Idle, IsBank, IsPlace, IsReady, IsWalletGate, MayDraw, MayLeave, OneGrows, Stamped, TrailState, WalletOrigin, added, entries_by, left_by, of_lane, rows_of_wallet, wallet_addresses, wallet_entries}
-use Rattle.std.proofs.Math.Seq.{drop-cons, take-length}
-use Rattle.std.proofs.lemmas.List.{drop-drop, length-append, take-append-drop}
+use Rattle.std.proofs.Math.Seq.{take-length}
+use Rattle.std.proofs.lemmas.List.{drop-drop, length-append}
 use Rattle.std.proofs.lemmas.Bool.Decides.{nat_tests}
 use Rattle.std.proofs.lemmas.Option.{none-some}
 use Rattle.dex_gate.specs.declared.stage.Stage.TheVariants.{Out}
@@ -17,7 +17,7 @@ use Rattle.dex_turns.specs.Bank.{WalletGate}
 use Rattle.dex_turns.specs.Seats.{WalletPass}
 use Rattle.dex_turns.specs.Turns.{AreRising, IsAboveWallets, IsOut, IsWalletOutAt, first_in, left_of, place_of}
 use Rattle.dex_types.specs.Wallets.{is_lower}
-use Rattle.dex_turns.proofs.Rising.{IsAbove, rising-behind, rising-once}
+use Rattle.dex_turns.proofs.Rising.{IsAbove, not-among, rising-behind}
 use Rattle.dex_turns.proofs.Counts.{length-stamped}
 use Rattle.dex_turns.proofs.Growing.{IsAtGate, drawn-ready, gates-set, one-grows, still-out}
 use Rattle.dex_turns.proofs.LeavingTurns.{has-moved}
@@ -112,7 +112,7 @@ module _ {bank : BankState} {named : List Address} {lane : ℕ} {hands : List Ce
   May = MayDraw bank.script lane (c.address ∷ c.others)
 
   none : list_any (is_same c.address) c.others ≡ false
-  none = (rising-once (c.address ∷ c.others) c.rising).0
+  none = not-among c.address c.others c.rising.0
 
   within : place < length starts
   within = subst (λ (n : ℕ). place < n) (length-map starts (λ (account : PlainAccount). account.address)) c.at.within
@@ -136,24 +136,24 @@ module _ {bank : BankState} {named : List Address} {lane : ℕ} {hands : List Ce
   pub idle-at : (p : WalletPass) → (get_or passes place p).stage ≡ Idle
   idle-at p = (zip-at May starts passes place any_start p c.ready.each within).idle (among (get_or starts place any_start) (here any_start))
 
+  -- a gate is that of the wallet at its place
+  gate-start : (k : ℕ) (gate : WalletGate) → k < length starts → gate ≡ get_or bank.wallets k gate → IsWalletGate bank.script (get_or starts k any_start) gate
+  gate-start k gate inside gate_is =
+      subst (IsWalletGate bank.script (get_or starts k any_start)) (sym gate_is) (zip-at (IsWalletGate bank.script) starts bank.wallets k any_start gate c.kept.wallets inside)
+
   -- the wallets whose turns are out are below it
   pub above : (gate : WalletGate) → gate ≡ get_or bank.wallets place gate → IsAboveWallets gate passes
   above gate gate_is k p behind holds other at =
-      let behind_starts : k < length starts = omega (arith, behind, AllZip-long May starts passes c.ready.each) in
-      let behind_gates : k < length bank.wallets = omega (arith, behind_starts, AllZip-long (IsWalletGate bank.script) starts bank.wallets c.kept.wallets) in
-      let may_draw = zip-at May starts passes k any_start p c.ready.each behind_starts in
+      let inside : k < length starts = omega (arith, behind, AllZip-long May starts passes c.ready.each) in
+      let behind_gates : k < length bank.wallets = omega (arith, inside, AllZip-long (IsWalletGate bank.script) starts bank.wallets c.kept.wallets) in
       let both : Some (get_or bank.wallets k other) ≡ Some other = sym (zip-at IsAtGate bank.wallets passes k other p c.ready.gates behind_gates) ∙ at in
       let other_is : other ≡ get_or bank.wallets k other = (cc) in
       let other_start : other.origin.start.address ≡ (get_or starts k any_start).address =
-      ap (λ (g : WalletGate). g.origin.start.address) other_is
-      ∙ ap (λ (o : WalletOrigin). o.start.address) (zip-at (IsWalletGate bank.script) starts bank.wallets k any_start other c.kept.wallets behind_starts).origin in
-      let own_start : gate.origin.start.address ≡ c.address =
-      ap (λ (g : WalletGate). g.origin.start.address) gate_is
-      ∙ ap (λ (o : WalletOrigin). o.start.address) (zip-at (IsWalletGate bank.script) starts bank.wallets place any_start gate c.kept.wallets within).origin
-      ∙ here any_start in
+      ap (λ (o : WalletOrigin). o.start.address) (gate-start k other inside other_is).origin in
+      let own_start : gate.origin.start.address ≡ c.address = ap (λ (o : WalletOrigin). o.start.address) (gate-start place gate within gate_is).origin ∙ here any_start in
       subst (λ (a : Address). is_lower a gate.origin.start.address ≡ true) (sym other_start)
       (subst (λ (a : Address). is_lower (get_or starts k any_start).address a ≡ true) (sym own_start)
-      (All-head (IsAbove (get_or starts k any_start).address) c.address c.others (may_draw.below holds)))
+      (All-head (IsAbove (get_or starts k any_start).address) c.address c.others ((zip-at May starts passes k any_start p c.ready.each inside).below holds)))
 
   -- its turn is out
   module _ {gate : WalletGate} {taken : List WalletPass} {trail : TrailState} (gate_is : gate ≡ get_or bank.wallets place gate)
@@ -168,8 +168,7 @@ module _ {bank : BankState} {named : List Address} {lane : ℕ} {hands : List Ce
     start = get_or starts place any_start
 
     is_gate : IsWalletGate bank.script start gate
-    is_gate =
-        subst (IsWalletGate bank.script start) (sym gate_is) (zip-at (IsWalletGate bank.script) starts bank.wallets place any_start gate c.kept.wallets within)
+    is_gate = gate-start place gate within gate_is
 
     may_draw : May start before
     may_draw = zip-at May starts passes place any_start out.out c.ready.each within
@@ -206,13 +205,7 @@ module _ {bank : BankState} {named : List Address} {lane : ℕ} {hands : List Ce
         record {
           kept = is_out.kept.cell;
           spare = spare-wallet (left_by trail) is_out.kept lane few;
-          start = record {
-            earlier = take place starts;
-            later = drop (suc place) starts;
-            is =
-                sym (take-append-drop place starts)
-                ∙ ap (λ (behind : List PlainAccount). take place starts ++ behind) (drop-cons starts place any_start within ∙ ap (λ (x : PlainAccount). x ∷ drop (suc place) starts) (sym same));
-          };
+          start = (place, start, within, same-get starts place start any_start within, sym same);
         }
 
     module _ {cell : CellState} {more : List CellState} (cell_is : cell ≡ trail.before) (pushed : more ≡ hands ++ cell ∷ []) where
@@ -271,21 +264,23 @@ module _ {bank : BankState} {named : List Address} {lane : ℕ} {hands : List Ce
           pub number-mid : now.number ≡ before.number
           number-mid = ap (λ (p : WalletPass). p.number) mid-is
 
-          pub may-leave : (put : CellState) → HasEntry written trail.before put → trail.last < written.stamp → MayLeave written gate now trail put
+          pub may-leave : (put : CellState) → HasEntry written cell put → trail.last < written.stamp → MayLeave written gate now trail put
           may-leave put entry above = record {
             home = ap (λ (p : WalletPass). p.gate) mid-is ∙ gate-at gate out.out ∙ ap (λ (g : WalletGate). Some g) (sym gate_is);
             out = ap (λ (p : WalletPass). p.stage) mid-is;
             origin = is_out.origin;
-            entry = entry;
+            entry = subst (λ (x : CellState). HasEntry written x put) cell_is entry;
             number = asked ∙ sym may_draw.number ∙ sym (ap (λ (p : WalletPass). p.number) mid-is);
             lane = subst (λ (n : ℕ). entries_by n trail.before.entries < length (rows_of_wallet n trail.before.address trail.script.rows)) (sym asked) few;
             stamp = above;
           }
 
-          pub have-grown : (left : WalletPass) → HasLeft written trail now left → HaveGrown bank (left_of named hands) written passes (set mid place left)
-          have-grown left has =
+          -- and when it is left, the pass has grown with the others
+          pub have-grown : (put : CellState) → HasEntry written cell put → trail.last < written.stamp → (left : WalletPass)
+              → (MayLeave written gate now trail put → HasLeft written trail now left) → HaveGrown bank (left_of named hands) written passes (set mid place left)
+          have-grown put entry above left leaves =
               let moved : HasWritten written start before left =
-              has-moved written start trail before now left (Out (wallet_entries (left_by trail))) (idle-at out.out) mid-is has cell-address cell-start in
+              has-moved written start trail before now left (Out (wallet_entries (left_by trail))) (idle-at out.out) mid-is (leaves (may-leave put entry above)) cell-address cell-start in
               subst (λ (l : List Address). HaveGrown bank l written passes (set mid place left)) (sym c.left)
               (one-grows c.address c.others written starts passes mid place out.out left (wallets-distinct bank.script.start c.kept.script.start.accepted) within here grown
               (λ x p.

@@ -1,7 +1,7 @@
 -- An item while it has turns: those of its markets, and those of the first of its wallets, whose cells are in hand.
 use Rattle.std.specs.Prelude.{ℕ, ◌≡◌, ◌<◌, ◌==◌, true, false, List, [], ◌∷◌, ◌++◌, Option, Some, None, All}
 use Rattle.std.specs.Prelude.{drop, if◌then◌else◌, length, map, slice_index_or, slice_set}
-use Rattle.std.specs.List.{AllZip, list_any}
+use Rattle.std.specs.List.{AllZip, Any, list_any}
 use Rattle.dex_types.specs.declared.addresses.Address.{Address}
 use Rattle.dex_types.specs.declared.movements.WalletEntry.{WalletEntry}
 use Rattle.dex_world.specs.declared.places.RowWallets.{RowWallets}
@@ -27,7 +27,7 @@ use Rattle.dex_world.specs.RowsOf.{rows_of_market, rows_of_wallet}
 use Rattle.dex_script_types.specs.Sight.{IsSight}
 use Rattle.dex_stamps.specs.Stamped.{Stamped, items_of}
 use Rattle.dex_journals.specs.Journals.{BankMarketState, IsBankMarket, IsBankWallet, MarketOrigin, TrailState}
-use Rattle.dex_journals.specs.Journals.{WalletOrigin, calls_by, entries_by, left_by, market_calls, market_origin}
+use Rattle.dex_journals.specs.Journals.{calls_by, entries_by, left_by, market_calls, market_origin}
 use Rattle.dex_journals.specs.Journals.{wallet_entries, wallet_origin}
 use Rattle.dex_journals.specs.Lanes.{AreAllOrNone, MovesEach}
 use Rattle.dex_turns.specs.declared.legs.TwoMarkets.{TwoMarkets}
@@ -122,19 +122,16 @@ pub record IsHomeAt {E O : Type 0} (gate : GateView E O) (place : ℕ) (passes :
   pub home : (pass : PassView E O) → (slice_index_or passes place pass).gate ≡ Some gate
   pub idle : (pass : PassView E O) → (slice_index_or passes place pass).stage ≡ Idle
 
--- what stays behind of the turn of a market, and of a wallet, as it is seen
+-- what stays behind of the turn of a market, as it is seen
 abbrev pub MarketAway : Type 0
 MarketAway = AwayView (Stamped Call) MarketOrigin
 
-abbrev pub WalletAway : Type 0
-WalletAway = AwayView (Stamped WalletEntry) WalletOrigin
-
--- what stays behind of the turn of the pass at a place
-abbrev pub IsAwayFor : MarketGate → ℕ → List MarketPass → BankMarketState → MarketAway → Type 0
-IsAwayFor gate place passes market away = (pass : MarketPass) → away ≡ record {
+-- what stays behind of the turn of the pass at a place, which was taken with these entries
+abbrev pub IsAwayFor : {E O : Type 0} → GateView E O → ℕ → List (PassView E O) → List E → AwayView E O → Type 0
+IsAwayFor {E} {O} gate place passes entries away = (pass : PassView E O) → away ≡ record {
   gate = Some gate;
   number = (slice_index_or passes place pass).number;
-  start = market_calls market;
+  start = entries;
 }
 
 -- the market may be given back with a call more, at the turn of the pass at a place
@@ -200,17 +197,12 @@ first_in (place ∷ places) = if place == 65535 then None else Some place
 abbrev pub left_of : List Address → List CellState → List Address
 left_of named cells = drop (length cells) named
 
--- a wallet of the start is this one
-pub record IsOfStart (wallets : List PlainAccount) (cell : CellState) : Type 0 where
-  pub earlier : List PlainAccount
-  pub later : List PlainAccount
-  pub is : wallets ≡ earlier ++ record { address = cell.address; bytes = cell.start } ∷ later
-
 -- the cell is that of a wallet of the script, with room for an entry
 pub record IsReady (script : PlainScript) (cell : CellState) : Type 0 where
   pub kept : IsWalletCell cell
   pub spare : HasSpare cell
-  pub start : IsOfStart script.start.wallets cell
+  pub start : Any (λ (account : PlainAccount). account ≡ record { address = cell.address; bytes = cell.start })
+      script.start.wallets
 
 -- the cells are those of the first of these wallets, and these are the others' addresses
 pub record AreInHand (script : PlainScript) (named : List Address) (others : List Address) (cells : List CellState)
@@ -271,14 +263,6 @@ pub record IsWalletOutAt (gate : WalletGate) (place : ℕ) (before after : List 
   pub is : after ≡ slice_set before place out
   pub taken : (pass : WalletPass) → IsOut gate (slice_index_or before place pass) out trail
 
--- what stays behind of it
-abbrev pub IsWalletAwayFor : WalletGate → ℕ → List WalletPass → TrailState → WalletAway → Type 0
-IsWalletAwayFor gate place passes trail away = (pass : WalletPass) → away ≡ record {
-  gate = Some gate;
-  number = (slice_index_or passes place pass).number;
-  start = wallet_entries (left_by trail);
-}
-
 -- the item's entry may be given back with the cell
 pub record MayLeave (written : Written) (gate : WalletGate) (pass : WalletPass) (trail : TrailState) (cell : CellState)
     : Type 0 where
@@ -298,8 +282,9 @@ pub record HasLeft (written : Written) (trail : TrailState) (before after : Wall
     mine = before.mine ++ written.at trail.before.address;
     stage = Idle;
   }
-  pub seen : Extends before.seen after.seen
-  pub legal : IsWalletLegal (balance_of trail.before.start) (items_of after.seen)
+  pub seen : Extends before.seen (wallet_entries (left_by trail) ++ written.at trail.before.address)
+  pub legal : IsWalletLegal (balance_of trail.before.start)
+      (items_of (wallet_entries (left_by trail) ++ written.at trail.before.address))
 
 -- ---- what is told of an item
 

@@ -1,12 +1,12 @@
 //! The turns of gates: waited for, and left.
 
-ghost use Rattle.std.specs.Prelude.{◌≡◌, ◌<◌, ◌≤◌, ◌++◌, ◌∷◌, [], Some, length, max, vec_capacity};
+ghost use Rattle.std.specs.Prelude.{◌≡◌, ◌<◌, ◌≤◌, ◌++◌, ◌∷◌, [], Some, length, vec_capacity};
 ghost use Rattle.dex_gate.specs.declared.stage.Stage.TheVariants.{Idle, Out};
 ghost use Rattle.dex_gate.specs.History.{Extends, added, of_lane};
 ghost use Rattle.dex_journals.specs.Journals.{left_by, market_calls, wallet_entries};
 ghost use Rattle.dex_turns.specs.Submitted.{Written};
-ghost use Rattle.dex_turns.specs.Turns.{HasLeft, IsAboveMarkets, IsAboveWallets, IsAwayFor, IsHomeAt, IsMarketOut};
-ghost use Rattle.dex_turns.specs.Turns.{IsOut, IsOutAt, IsWalletAwayFor, IsWalletOutAt, MayLeave, first_in};
+ghost use Rattle.dex_turns.specs.Turns.{HasLeft, IsAboveMarkets, IsAboveWallets, IsAwayFor, IsHomeAt, IsOutAt};
+ghost use Rattle.dex_turns.specs.Turns.{IsWalletOutAt, MayLeave, first_in};
 
 use dex_gate::{Away, Gate, Journaled, Pass, Turn};
 use dex_journals::{BankMarket, BankWallet, WalletTrail};
@@ -30,28 +30,6 @@ fn turn_at<V: Journaled, R: Wait>(rt: &R, gate: &Gate<V>, pass: &mut Pass<V>) ->
     gate.wait_turn(rt, pass)
 }
 
-/// Waits for the turn of a market, and takes it out. The stamp is the later of this one and the market's last.
-fn take_market<R: Wait>(
-    rt: &R,
-    gate: &Gate<BankMarket>,
-    pass: &mut Pass<BankMarket>,
-    last: &Stamp,
-) -> (BankMarket, Away<BankMarket>, Stamp)
-    requires gate { pass.old.gate ≡ Some gate.now }
-    requires idle { pass.old.stage ≡ Idle }
-    ensures out { IsMarketOut gate.now pass.old pass.new result.0 }
-    ensures away { result.1 ≡ record {
-      gate = Some gate.now;
-      number = pass.old.number;
-      start = market_calls result.0;
-    } }
-    ensures stamp { result.2.number ≡ max result.0.last last.now.number }
-{
-    let (market, away) = turn_at(rt, gate, pass).take();
-    let stamp = market.later(last);
-    (market, away, stamp)
-}
-
 /// Waits for the turn of the market at a place, which is above all markets whose turns the lane has, and takes it out.
 /// The stamp is the later of this one and the market's last.
 pub(crate) fn take_at<R: Wait>(
@@ -64,32 +42,13 @@ pub(crate) fn take_at<R: Wait>(
     requires home { IsHomeAt gate.now place passes.old.items }
     requires rising { IsAboveMarkets gate.now passes.old.items }
     ensures out { IsOutAt gate.now place passes.old.items passes.new.items result.0 }
-    ensures away { IsAwayFor gate.now place passes.old.items result.0 result.1 }
+    ensures away { IsAwayFor gate.now place passes.old.items (market_calls result.0) result.1 }
     ensures market { result.0.last ≤ result.2.number }
     ensures stamp { last.now.number ≤ result.2.number }
 {
-    take_market(rt, gate, &mut passes[place], last)
-}
-
-/// Waits for the turn of a wallet, and takes its cell out.
-fn take_wallet<R: Wait>(
-    rt: &R,
-    gate: &Gate<BankWallet>,
-    pass: &mut Pass<BankWallet>,
-) -> (WalletCell, WalletTrail, Away<BankWallet>)
-    requires gate { pass.old.gate ≡ Some gate.now }
-    requires idle { pass.old.stage ≡ Idle }
-    ensures cell { result.0 ≡ result.1.before }
-    ensures out { IsOut gate.now pass.old pass.new result.1 }
-    ensures away { result.2 ≡ record {
-      gate = Some gate.now;
-      number = pass.old.number;
-      start = wallet_entries (left_by result.1);
-    } }
-{
-    let (wallet, away) = turn_at(rt, gate, pass).take();
-    let (cell, trail) = wallet.into_parts();
-    (cell, trail, away)
+    let (market, away) = turn_at(rt, gate, &mut passes[place]).take();
+    let stamp = market.later(last);
+    (market, away, stamp)
 }
 
 /// Waits for the turn of the wallet at a place, which is above all wallets whose turns the lane has, and takes its cell
@@ -104,9 +63,11 @@ pub(crate) fn take_wallet_at<R: Wait>(
     requires rising { IsAboveWallets gate.now passes.old.items }
     ensures cell { result.0 ≡ result.1.before }
     ensures out { IsWalletOutAt gate.now place passes.old.items passes.new.items result.1 }
-    ensures away { IsWalletAwayFor gate.now place passes.old.items result.1 result.2 }
+    ensures away { IsAwayFor gate.now place passes.old.items (wallet_entries (left_by result.1)) result.2 }
 {
-    take_wallet(rt, gate, &mut passes[place])
+    let (wallet, away) = turn_at(rt, gate, &mut passes[place]).take();
+    let (cell, trail) = wallet.into_parts();
+    (cell, trail, away)
 }
 
 /// Puts the cell of a wallet back with an item's entry, and leaves the turn.

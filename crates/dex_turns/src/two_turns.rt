@@ -5,7 +5,7 @@ ghost use Rattle.dex_journals.specs.Journals.{market_calls};
 ghost use Rattle.dex_turns.specs.Bank.{MarketGate};
 ghost use Rattle.dex_turns.specs.Seats.{MarketPass};
 ghost use Rattle.dex_turns.specs.Submitted.{Where};
-ghost use Rattle.dex_turns.specs.TwoTurns.{HaveTaken, exchanged};
+ghost use Rattle.dex_turns.specs.TwoTurns.{HaveTaken};
 ghost use Rattle.dex_turns.specs.Turns.{AreIdle, HasSeenAt, IsBelow, IsHomeAt, MayLeaveAt, left_with};
 
 use crate::bank::Bank;
@@ -96,21 +96,14 @@ pub(crate) fn take_two<R: Wait>(
     if in_order {
         take_rising(rt, one, two, passes, last)
     } else {
-        take_rising(rt, two, one, passes, last).exchanged()
-    }
-}
-
-impl TwoTurns {
-    /// These turns, the other market's first.
-    fn exchanged(self) -> TwoTurns
-        ensures { result ≡ exchanged self }
-    {
+        let turns = take_rising(rt, two, one, passes, last);
+        // The same turns, the other market's first.
         let TwoTurns {
             markets: TwoMarkets { first, second },
             first: away,
             second: away_next,
             stamp,
-        } = self;
+        } = turns;
         TwoTurns {
             markets: TwoMarkets {
                 first: second,

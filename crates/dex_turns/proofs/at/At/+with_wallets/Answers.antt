@@ -5,31 +5,28 @@ use Rattle.std.proofs.lemmas.List.{length-append}
 use Rattle.std.proofs.Math.Nat.{le-max_right}
 use Rattle.dex_world.proofs.MappedLists.{AllZip-last}
 use Rattle.dex_turns.specs.Bank.{WalletGate}
-use Rattle.dex_turns.specs.Turns.{MayLeave, left_of}
+use Rattle.dex_turns.specs.Turns.{left_of}
 use Rattle.dex_turns.proofs.Growing.{three-same}
 use Rattle.dex_turns.proofs.Taking.{Coming, above, coming, gate-at, have-grown, idle-at, may-leave, next-hand, next-places, next-ready, none-left, number-mid, rest-long, within-gates, within-mid, within-passes}
 use Rattle.dex_turns.specs.Submitted.{Written}
 use Rattle.dex_turns.proofs.at.At.+with_wallets.Given as given
-use Rattle.dex_turns.proofs.at.At.+with_wallets.Goals.{After-first_of, After-take_from_hand-cell, After-wallet_gate-gate}
+use Rattle.dex_turns.proofs.at.At.+with_wallets.Goals.{After-first_of, After-take_from_hand-cell}
 use Rattle.dex_turns.proofs.at.At.+with_wallets.Goals as goal
 
 -- ---- before the turn
 
-next : (g : given.Over) (t : ℕ) (c : After-wallet_gate-gate g t) → Coming c.args.self.now.bank.now (g.A.Acts.named c.args.item.now) (g.A.Acts.lane c.args.item.now) c.args.wallets.now.hands.items
-    c.args.wallets.now.passes.items c.args.others.now c.in-Some.place
-next g t c =
-    coming c.args.self.now.bank.now (g.A.Acts.named c.args.item.now) (g.A.Acts.lane c.args.item.now) c.args.wallets.now.hands.items c.args.wallets.now.passes.items c.args.others.now c.in-Some.place
-    c.requires.bank c.requires.rising c.requires.hands c.requires.passes c.requires.others (sym c.first_of.ensures ∙ c.in-Some.is)
+next : (g : given.Over) (t : ℕ) (c : After-first_of g t) (place : ℕ) → c.first_of.result ≡ Some place
+    → Coming c.args.self.now.bank.now (g.A.Acts.named c.args.item.now) (g.A.Acts.lane c.args.item.now) c.args.wallets.now.hands.items c.args.wallets.now.passes.items c.args.others.now place
+next g t c place is =
+    coming c.args.self.now.bank.now (g.A.Acts.named c.args.item.now) (g.A.Acts.lane c.args.item.now) c.args.wallets.now.hands.items c.args.wallets.now.passes.items c.args.others.now place
+    c.requires.bank c.requires.rising c.requires.hands c.requires.passes c.requires.others (sym c.first_of.ensures ∙ is)
 
 pub wallet_gate-gate-requires : goal.wallet_gate-gate-requires
-wallet_gate-gate-requires g t c =
-    within-gates
-    (coming c.args.self.now.bank.now (g.A.Acts.named c.args.item.now) (g.A.Acts.lane c.args.item.now) c.args.wallets.now.hands.items c.args.wallets.now.passes.items c.args.others.now c.in-Some.place
-    c.requires.bank c.requires.rising c.requires.hands c.requires.passes c.requires.others (sym c.first_of.ensures ∙ c.in-Some.is))
+wallet_gate-gate-requires g t c = within-gates (next g t (goal.at.wallet_gate-gate-requires g t c).After-first_of c.in-Some.place c.in-Some.is)
 
 pub take_wallet_at-cell-requires-clause-home : goal.take_wallet_at-cell-requires-clause-home
 take_wallet_at-cell-requires-clause-home g t c =
-    let coming = next g t (goal.at.take_wallet_at-cell-requires-clause-home g t c).After-wallet_gate-gate in
+    let coming = next g t (goal.at.take_wallet_at-cell-requires-clause-home g t c).After-first_of c.in-Some.place c.in-Some.is in
     record {
       within = within-passes coming;
       home = λ pass. gate-at coming c.wallet_gate-gate.result.now pass ∙ ap (λ (x : WalletGate). Some x) (sym (c.wallet_gate-gate.ensures c.wallet_gate-gate.result.now));
@@ -38,7 +35,7 @@ take_wallet_at-cell-requires-clause-home g t c =
 
 pub take_wallet_at-cell-requires-clause-rising : goal.take_wallet_at-cell-requires-clause-rising
 take_wallet_at-cell-requires-clause-rising g t c =
-    above (next g t (goal.at.take_wallet_at-cell-requires-clause-rising g t c).After-wallet_gate-gate) c.wallet_gate-gate.result.now (c.wallet_gate-gate.ensures c.wallet_gate-gate.result.now)
+    above (next g t (goal.at.take_wallet_at-cell-requires-clause-rising g t c).After-first_of c.in-Some.place c.in-Some.is) c.wallet_gate-gate.result.now (c.wallet_gate-gate.ensures c.wallet_gate-gate.result.now)
 
 pub push_reserved-requires : goal.push_reserved-requires
 push_reserved-requires g t c =
@@ -49,7 +46,7 @@ push_reserved-requires g t c =
 
 pub with_wallets-made-requires : goal.with_wallets-made-requires
 with_wallets-made-requires g t c κs within =
-    let coming = next g t (goal.at.with_wallets-made-requires g t c).After-wallet_gate-gate in
+    let coming = next g t (goal.at.with_wallets-made-requires g t c).After-first_of c.in-Some.place c.in-Some.is in
     let gate_is = c.wallet_gate-gate.ensures c.wallet_gate-gate.result.now in
     let out = c.take_wallet_at-cell.ensures.out in
     let cell_is = c.take_wallet_at-cell.ensures.cell in
@@ -107,7 +104,7 @@ take_from_hand-cell-requires g t c =
 
 pub index_mut-requires : goal.index_mut-requires
 index_mut-requires g t c =
-    let coming = next g t (goal.at.index_mut-requires g t c).After-wallet_gate-gate in
+    let coming = next g t (goal.at.index_mut-requires g t c).After-first_of c.in-Some.place c.in-Some.is in
     let gate_is = c.wallet_gate-gate.ensures c.wallet_gate-gate.result.now in
     omega (
       arith,
@@ -130,15 +127,15 @@ leave_wallet-requires-clause-entry g t c =
     let written : Written = g.A.Acts.written c.args.item.now c.with_wallets-made.result in (
       written,
       sym c.stamp-own.ensures,
-      may-leave (next g t k.After-wallet_gate-gate) gate_is c.take_wallet_at-cell.ensures.out c.take_wallet_at-cell.ensures.cell c.push_reserved.ensures.items written
+      may-leave (next g t k.After-first_of c.in-Some.place c.in-Some.is) gate_is c.take_wallet_at-cell.ensures.out c.take_wallet_at-cell.ensures.cell c.push_reserved.ensures.items written
           c.with_wallets-made.new.wallets.passes.items c.with_wallets-made.ensures.written.of_lane c.with_wallets-made.ensures.passes c.index_mut.ensures.value c.take_from_hand-cell.result
-          (subst (λ (x : CellState). HasEntry written x c.take_from_hand-cell.result) c.take_wallet_at-cell.ensures.cell (entries g t k.After-take_from_hand-cell).1)
+          (entries g t k.After-take_from_hand-cell).1
           (omega (arith, c.with_wallets-made.ensures.written.later, c.later-later.ensures, le-max_left c.take_wallet_at-cell.result.1.last c.args.stamp.now.number)),
     )
 
 pub leave_wallet-requires-clause-away : goal.leave_wallet-requires-clause-away
 leave_wallet-requires-clause-away g t c =
-    let coming = next g t (goal.at.leave_wallet-requires-clause-away g t c).After-wallet_gate-gate in
+    let coming = next g t (goal.at.leave_wallet-requires-clause-away g t c).After-first_of c.in-Some.place c.in-Some.is in
     let gate_is = c.wallet_gate-gate.ensures c.wallet_gate-gate.result.now in
     c.take_wallet_at-cell.ensures.away c.take_wallet_at-cell.ensures.out.out
     ∙ ap (λ (n : ℕ). record { gate = Some c.wallet_gate-gate.result.now; number = n; start = wallet_entries (left_by c.take_wallet_at-cell.result.1) })
@@ -150,14 +147,11 @@ returns-in-Some-clause-passes g t c =
     let k = goal.at.returns-in-Some-clause-passes g t c in
     let gate_is = c.wallet_gate-gate.ensures c.wallet_gate-gate.result.now in
     let written : Written = g.A.Acts.written c.args.item.now c.with_wallets-made.result in
-    let may : MayLeave written c.wallet_gate-gate.result.now c.index_mut.result.now c.take_wallet_at-cell.result.1 c.take_from_hand-cell.result =
-    may-leave (next g t k.After-wallet_gate-gate) gate_is c.take_wallet_at-cell.ensures.out c.take_wallet_at-cell.ensures.cell c.push_reserved.ensures.items written
+    have-grown (next g t k.After-first_of c.in-Some.place c.in-Some.is) gate_is c.take_wallet_at-cell.ensures.out c.take_wallet_at-cell.ensures.cell c.push_reserved.ensures.items written
     c.with_wallets-made.new.wallets.passes.items c.with_wallets-made.ensures.written.of_lane c.with_wallets-made.ensures.passes c.index_mut.ensures.value c.take_from_hand-cell.result
-    (subst (λ (x : CellState). HasEntry written x c.take_from_hand-cell.result) c.take_wallet_at-cell.ensures.cell (entries g t k.After-take_from_hand-cell).1)
-    (omega (arith, c.with_wallets-made.ensures.written.later, c.later-later.ensures, le-max_left c.take_wallet_at-cell.result.1.last c.args.stamp.now.number)) in
-    have-grown (next g t k.After-wallet_gate-gate) gate_is c.take_wallet_at-cell.ensures.out c.take_wallet_at-cell.ensures.cell c.push_reserved.ensures.items written
-    c.with_wallets-made.new.wallets.passes.items c.with_wallets-made.ensures.written.of_lane c.with_wallets-made.ensures.passes c.index_mut.ensures.value c.leave_wallet.new.pass
-    (c.leave_wallet.ensures written (sym c.stamp-own.ensures) may)
+    (entries g t k.After-take_from_hand-cell).1
+    (omega (arith, c.with_wallets-made.ensures.written.later, c.later-later.ensures, le-max_left c.take_wallet_at-cell.result.1.last c.args.stamp.now.number)) c.leave_wallet.new.pass
+    (c.leave_wallet.ensures written (sym c.stamp-own.ensures))
 
 pub returns-in-Some-clause-hands : goal.returns-in-Some-clause-hands
 returns-in-Some-clause-hands g t c = (entries g t (goal.at.returns-in-Some-clause-hands g t c).After-take_from_hand-cell).0

@@ -1,14 +1,13 @@
 use Rattle.std.proofs.Common.{refl}
 use Rattle.dex_world.proofs.Common.{row_of}
-use Rattle.dex_turns.proofs.Common.{call_made}
+use Rattle.dex_turns.proofs.Entering.{at-place, home-at, may-call}
 use Rattle.dex_turns.proofs.Exchanging.{idle-below}
-use Rattle.dex_turns.proofs.LegTurns.{at-place, home-at, may-call-one, one-grown, one-leave}
+use Rattle.dex_turns.proofs.LegTurns.{one-grown, one-leave}
 use Rattle.dex_turns.proofs.Rising.{row-rising}
 use Rattle.dex_turns.proofs.at.At.in_market.Goals as goal
 
 pub take_at-market-requires-clause-home : goal.take_at-market-requires-clause-home
-take_at-market-requires-clause-home g c =
-    home-at c.args.self.now.bank.now (row_of c.args.item.now.row.now) c.at-at.result.place c.args.markets.now.items c.at-at.result.gate.now (at-place c.at-at.ensures.place c.requires.market) c.at-at.ensures.gate
+take_at-market-requires-clause-home g c = home-at (at-place c.at-at.ensures.place c.requires.market) c.at-at.ensures.gate
 
 pub take_at-market-requires-clause-rising : goal.take_at-market-requires-clause-rising
 take_at-market-requires-clause-rising g c = idle-below c.at-at.result.gate.now c.args.markets.now.items c.requires.idle
@@ -17,19 +16,14 @@ pub with_wallets-made-requires-clause-rising : goal.with_wallets-made-requires-c
 with_wallets-made-requires-clause-rising g c = row-rising (row_of c.args.item.now.row.now)
 
 pub with_wallets-made-requires-clause-ready : goal.with_wallets-made-requires-clause-ready
-with_wallets-made-requires-clause-ready g c =
-    may-call-one c.args.self.now.bank.now (row_of c.args.item.now.row.now) c.at-at.result.place c.args.markets.now.items c.take_at-market.new.passes.items c.at-at.result.gate.now
-    c.take_at-market.result.0 c.take_at-market.result.1 (at-place c.at-at.ensures.place c.requires.market) c.at-at.ensures.gate c.take_at-market.ensures.out
+with_wallets-made-requires-clause-ready g c = may-call (at-place c.at-at.ensures.place c.requires.market) c.at-at.ensures.gate c.take_at-market.ensures.out.taken
 
 pub leave_at-requires : goal.leave_at-requires
 leave_at-requires g c =
-    one-leave c.args.self.now.bank.now (row_of c.args.item.now.row.now) c.at-at.result.place c.args.markets.now.items c.take_at-market.new.passes.items c.at-at.result.gate.now
-    c.take_at-market.result.0 c.take_at-market.result.1 (at-place c.at-at.ensures.place c.requires.market) c.at-at.ensures.gate c.take_at-market.ensures.out
-    c.take_at-market.ensures.away (call_made (c.args.item.now.row.now, c.with_wallets-made.result)) refl c.with_wallets-made.new.markets c.with_wallets-made.ensures.did.market
+    one-leave (at-place c.at-at.ensures.place c.requires.market) c.at-at.ensures.gate c.take_at-market.ensures.out c.take_at-market.ensures.away
+    c.with_wallets-made.ensures.did.market refl
 
 pub returns-clause-markets : goal.returns-clause-markets
 returns-clause-markets g c =
-    one-grown c.args.self.now.bank.now (row_of c.args.item.now.row.now) c.at-at.result.place c.args.markets.now.items c.take_at-market.new.passes.items c.at-at.result.gate.now
-    c.take_at-market.result.0 c.take_at-market.result.1 (at-place c.at-at.ensures.place c.requires.market) c.at-at.ensures.gate c.take_at-market.ensures.out
-    c.take_at-market.ensures.away (call_made (c.args.item.now.row.now, c.with_wallets-made.result)) refl c.with_wallets-made.new.markets c.with_wallets-made.ensures.did.market
-    c.requires.bank c.requires.markets c.leave_at.new.passes.items c.leave_at.ensures.left c.leave_at.ensures.seen
+    one-grown (at-place c.at-at.ensures.place c.requires.market) c.at-at.ensures.gate c.take_at-market.ensures.out c.take_at-market.ensures.away
+    c.with_wallets-made.ensures.did.market refl c.requires.bank c.requires.markets c.leave_at.new.passes.items c.leave_at.ensures.left c.leave_at.ensures.seen

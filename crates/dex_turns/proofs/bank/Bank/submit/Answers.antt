@@ -10,9 +10,8 @@ use Rattle.dex_turns.proofs.bank.Bank.submit.Goals as goal
 
 pub places_of-places-requires-clause-row : goal.places_of-places-requires-clause-row
 places_of-places-requires-clause-row g c =
-    let row = row_of (g.W.AsRow.is c.args.row.now) in
-    subst (λ (bank : BankState). IsRowOf bank.script.start row) (sym c.self.view_is)
-    (row-fits c.args.self.now row c.args.seat.now (next-ahead row c.args.seat.now c.requires.row) (subst IsBank c.self.view_is c.self.invariant.bank) c.requires.seat)
+    subst (λ (bank : BankState). IsRowOf bank.script.start (row_of (g.W.AsRow.is c.args.row.now))) (sym c.self.view_is)
+    (row-fits c.requires.seat (subst IsBank c.self.view_is c.self.invariant.bank) (next-ahead c.requires.row))
 
 pub places_of-places-requires-clause-placed : goal.places_of-places-requires-clause-placed
 places_of-places-requires-clause-placed g c =

@@ -1,63 +1,48 @@
-use Rattle.std.proofs.Common.{◌≡◌, [], ◌∷◌, ◌++◌, List, map, refl, sym, ap, ◌∙◌, subst, arith}
-use Rattle.dex_world.proofs.Common.{AllZip-long, Row, row_of}
-use Rattle.dex_turns.proofs.Common.{AreNext, HaveSubmitted, IsBank, IsMarketPass, IsSeatOf, Idle, call_made}
+use Rattle.std.proofs.Common.{[], ◌∷◌, ◌++◌, List, map, refl, sym, ap, ◌∙◌, subst, arith}
+use Rattle.dex_world.proofs.Common.{Row, row_of}
+use Rattle.dex_turns.proofs.Common.{AreNext, HaveSubmitted, IsBank, IsSeatOf, call_made}
 use Rattle.std.proofs.lemmas.List.{append_assoc, map-append}
 use Rattle.dex_turns.specs.Inside.{seat_inside}
 use Rattle.dex_turns.specs.declared.stamped_record.StampedRecord.{StampedRecord}
-use Rattle.dex_world.proofs.MappedLists.{All-second}
-use Rattle.dex_turns.proofs.LegSeat as legs
-use Rattle.dex_turns.proofs.LegReady.{legs-ready}
-use Rattle.dex_script_types.proofs.PlacedLaws.{market-placed}
-use Rattle.dex_turns.proofs.SeatAfter.{IsAfter, enters-at, first-ahead, passes-kept, second-ahead}
+use Rattle.dex_turns.proofs.LegSeat.{legs-after, legs-ready}
+use Rattle.dex_turns.proofs.SeatAfter.{IsAfter, finds-at, first-ahead, seat_with, second-ahead}
 use Rattle.dex_turns.proofs.bank.Bank.submit_legs.Given as given
 use Rattle.dex_turns.proofs.bank.Bank.submit_legs.Goals.{After-and-seat-inside}
 use Rattle.dex_turns.proofs.bank.Bank.submit_legs.Goals as goal
 
 pub in_markets-made-requires-clause-first : goal.in_markets-made-requires-clause-first
 in_markets-made-requires-clause-first g c =
-    enters-at c.args.self.now (row_of c.args.legs.now.first.now) (seat_inside c.seat.inside) (first-ahead (row_of c.args.legs.now.first.now) (row_of c.args.legs.now.second.now) (seat_inside c.seat.inside) (subst (AreNext (row_of c.args.legs.now.first.now) (row_of c.args.legs.now.second.now)) (sym c.seat.view_is) c.requires.legs)) (subst IsBank c.self.view_is c.self.invariant.bank) (subst (IsSeatOf c.args.self.now) (sym c.seat.view_is) c.requires.seat) c.seat.invariant.seat c.args.legs.now.first_market
-    (market-placed c.args.self.now.script c.args.legs.now.first.now.market c.args.legs.now.first_market c.requires.first)
+    (finds-at c.seat.view_is (first-ahead c.requires.legs) (subst IsBank c.self.view_is c.self.invariant.bank) c.requires.seat c.seat.invariant.seat c.requires.first).enters
 
 pub in_markets-made-requires-clause-second : goal.in_markets-made-requires-clause-second
 in_markets-made-requires-clause-second g c =
-    enters-at c.args.self.now (row_of c.args.legs.now.second.now) (seat_inside c.seat.inside) (second-ahead (row_of c.args.legs.now.first.now) (row_of c.args.legs.now.second.now) (seat_inside c.seat.inside) (subst (AreNext (row_of c.args.legs.now.first.now) (row_of c.args.legs.now.second.now)) (sym c.seat.view_is) c.requires.legs)) (subst IsBank c.self.view_is c.self.invariant.bank) (subst (IsSeatOf c.args.self.now) (sym c.seat.view_is) c.requires.seat) c.seat.invariant.seat c.args.legs.now.second_market
-    (market-placed c.args.self.now.script c.args.legs.now.second.now.market c.args.legs.now.second_market c.requires.second)
+    (finds-at c.seat.view_is (second-ahead c.requires.legs) (subst IsBank c.self.view_is c.self.invariant.bank) c.requires.seat c.seat.invariant.seat c.requires.second).enters
 
 pub in_markets-made-requires-clause-markets : goal.in_markets-made-requires-clause-markets
 in_markets-made-requires-clause-markets g c =
-    AllZip-long (IsMarketPass c.seat.inside.lane (map call_made c.seat.inside.calls.items)) c.args.self.now.script.start.markets c.seat.inside.markets.items
-    (passes-kept c.args.self.now (row_of c.args.legs.now.first.now) (seat_inside c.seat.inside) (first-ahead (row_of c.args.legs.now.first.now) (row_of c.args.legs.now.second.now) (seat_inside c.seat.inside) (subst (AreNext (row_of c.args.legs.now.first.now) (row_of c.args.legs.now.second.now)) (sym c.seat.view_is) c.requires.legs)) (subst IsBank c.self.view_is c.self.invariant.bank) (subst (IsSeatOf c.args.self.now) (sym c.seat.view_is) c.requires.seat) c.seat.invariant.seat c.args.legs.now.first_market
-    (market-placed c.args.self.now.script c.args.legs.now.first.now.market c.args.legs.now.first_market c.requires.first))
+    (finds-at c.seat.view_is (first-ahead c.requires.legs) (subst IsBank c.self.view_is c.self.invariant.bank) c.requires.seat c.seat.invariant.seat c.requires.first).long
 
 pub in_markets-made-requires-clause-idle : goal.in_markets-made-requires-clause-idle
 in_markets-made-requires-clause-idle g c =
-    All-second (IsMarketPass c.seat.inside.lane (map call_made c.seat.inside.calls.items)) (λ pass. pass.stage ≡ Idle) (λ start pass is. is.idle) c.args.self.now.script.start.markets c.seat.inside.markets.items
-    (passes-kept c.args.self.now (row_of c.args.legs.now.first.now) (seat_inside c.seat.inside) (first-ahead (row_of c.args.legs.now.first.now) (row_of c.args.legs.now.second.now) (seat_inside c.seat.inside) (subst (AreNext (row_of c.args.legs.now.first.now) (row_of c.args.legs.now.second.now)) (sym c.seat.view_is) c.requires.legs)) (subst IsBank c.self.view_is c.self.invariant.bank) (subst (IsSeatOf c.args.self.now) (sym c.seat.view_is) c.requires.seat) c.seat.invariant.seat c.args.legs.now.first_market
-    (market-placed c.args.self.now.script c.args.legs.now.first.now.market c.args.legs.now.first_market c.requires.first))
+    (finds-at c.seat.view_is (first-ahead c.requires.legs) (subst IsBank c.self.view_is c.self.invariant.bank) c.requires.seat c.seat.invariant.seat c.requires.first).idle
 
 pub in_markets-made-requires-clause-passes : goal.in_markets-made-requires-clause-passes
 in_markets-made-requires-clause-passes g c =
-    legs-ready c.args.self.now (row_of c.args.legs.now.first.now) (row_of c.args.legs.now.second.now) (seat_inside c.seat.inside) (subst (AreNext (row_of c.args.legs.now.first.now) (row_of c.args.legs.now.second.now)) (sym c.seat.view_is) c.requires.legs) (subst IsBank c.self.view_is c.self.invariant.bank) (subst (IsSeatOf c.args.self.now) (sym c.seat.view_is) c.requires.seat) c.seat.invariant.seat
+    legs-ready (subst (AreNext (row_of c.args.legs.now.first.now) (row_of c.args.legs.now.second.now)) (sym c.seat.view_is) c.requires.legs)
+    (subst IsBank c.self.view_is c.self.invariant.bank) (subst (IsSeatOf c.args.self.now) (sym c.seat.view_is) c.requires.seat) c.seat.invariant.seat
 
 -- ---- the seat behind them
 
 known : (g : given.Over) (c : After-and-seat-inside g) → IsAfter c.args.self.now
-    (HaveSubmitted (row_of c.args.legs.now.first.now) (row_of c.args.legs.now.second.now) (c.in_markets-made.result.first.reply, c.in_markets-made.result.second.reply)) c.args.seat.now (record {
-      lane = c.seat.inside.lane;
-      script = c.seat.inside.script.value;
-      calls = map call_made c.and-seat-inside.result.items;
-      last = c.in_markets-made.result.first.stamp.number;
-      markets = c.in_markets-made.new.markets.items;
-      wallets = c.in_markets-made.new.wallets.passes.items;
-    })
+    (HaveSubmitted (row_of c.args.legs.now.first.now) (row_of c.args.legs.now.second.now) (c.in_markets-made.result.first.reply, c.in_markets-made.result.second.reply)) c.args.seat.now
+    (seat_with (seat_inside c.seat.inside) (map call_made c.and-seat-inside.result.items) c.in_markets-made.result.first.stamp.number c.in_markets-made.new.markets.items
+    c.in_markets-made.new.wallets.passes.items)
 known g c =
     let one : Row × StampedRecord = (c.args.legs.now.first.now, c.in_markets-made.result.first) in
     let two : Row × StampedRecord = (c.args.legs.now.second.now, c.in_markets-made.result.second) in
-    legs.is-after c.args.self.now (row_of c.args.legs.now.first.now) (row_of c.args.legs.now.second.now) (seat_inside c.seat.inside)
-    (subst (AreNext (row_of c.args.legs.now.first.now) (row_of c.args.legs.now.second.now)) (sym c.seat.view_is) c.requires.legs) (subst (IsSeatOf c.args.self.now) (sym c.seat.view_is) c.requires.seat) c.seat.invariant.seat
-    (call_made one) (call_made two) (refl, refl) c.in_markets-made.ensures.told c.in_markets-made.new.markets.items c.in_markets-made.ensures.markets c.in_markets-made.new.wallets.passes.items
-    c.in_markets-made.ensures.passes c.args.seat.now (map call_made c.and-seat-inside.result.items) c.in_markets-made.result.first.reply
-    c.in_markets-made.result.second.reply c.seat.view_is
+    legs-after (subst (AreNext (row_of c.args.legs.now.first.now) (row_of c.args.legs.now.second.now)) (sym c.seat.view_is) c.requires.legs)
+    (subst (IsSeatOf c.args.self.now) (sym c.seat.view_is) c.requires.seat) c.seat.invariant.seat c.in_markets-made.ensures.told (refl, refl) c.in_markets-made.new.markets.items
+    c.in_markets-made.ensures.markets c.in_markets-made.new.wallets.passes.items c.in_markets-made.ensures.passes c.seat.view_is
     (ap (map call_made) (c.and-seat-inside.ensures ∙ ap (λ (l : List _). l ++ two ∷ []) c.and.ensures ∙ append_assoc c.seat.inside.calls.items _ _)
     ∙ map-append call_made c.seat.inside.calls.items (one ∷ two ∷ [])) c.in_markets-made.result.first.told c.in_markets-made.result.second.told
 

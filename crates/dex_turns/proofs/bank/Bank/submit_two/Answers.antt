@@ -12,10 +12,8 @@ use Rattle.dex_turns.proofs.bank.Bank.submit_two.Goals as goal
 
 pub places_of-one-requires-clause-row : goal.places_of-one-requires-clause-row
 places_of-one-requires-clause-row g c =
-    let first = row_of (g.W.AsRow.is c.args.first.now) in
-    subst (λ (bank : BankState). IsRowOf bank.script.start first) (sym c.self.view_is)
-    (row-fits c.args.self.now first c.args.seat.now (first-ahead first (row_of (g.W.AsRow.is c.args.second.now)) c.args.seat.now c.requires.legs)
-    (subst IsBank c.self.view_is c.self.invariant.bank) c.requires.seat)
+    subst (λ (bank : BankState). IsRowOf bank.script.start (row_of (g.W.AsRow.is c.args.first.now))) (sym c.self.view_is)
+    (row-fits c.requires.seat (subst IsBank c.self.view_is c.self.invariant.bank) (first-ahead c.requires.legs))
 
 pub places_of-one-requires-clause-placed : goal.places_of-one-requires-clause-placed
 places_of-one-requires-clause-placed g c =
@@ -23,10 +21,8 @@ places_of-one-requires-clause-placed g c =
 
 pub places_of-two-requires-clause-row : goal.places_of-two-requires-clause-row
 places_of-two-requires-clause-row g c =
-    let second = row_of (g.W.AsRow.is c.args.second.now) in
-    subst (λ (bank : BankState). IsRowOf bank.script.start second) (sym c.self.view_is)
-    (row-fits c.args.self.now second c.args.seat.now (second-ahead (row_of (g.W.AsRow.is c.args.first.now)) second c.args.seat.now c.requires.legs)
-    (subst IsBank c.self.view_is c.self.invariant.bank) c.requires.seat)
+    subst (λ (bank : BankState). IsRowOf bank.script.start (row_of (g.W.AsRow.is c.args.second.now))) (sym c.self.view_is)
+    (row-fits c.requires.seat (subst IsBank c.self.view_is c.self.invariant.bank) (second-ahead c.requires.legs))
 
 pub places_of-two-requires-clause-placed : goal.places_of-two-requires-clause-placed
 places_of-two-requires-clause-placed g c =
