@@ -1,30 +1,30 @@
-use Rattle.std.proofs.Common.{subst}
+use Rattle.std.proofs.Common.{◌≤◌, ◌∙◌, ap, map, subst, sym}
+use Rattle.std.specs.List.{AllPairs}
+use Rattle.dex_types.specs.Rows.{PlainRow, row_of}
 use Rattle.dex_state.specs.Accepted.{AreAccepted}
-use Rattle.dex_stream.specs.Parts.{IsBetween}
-use Rattle.dex_stream.proofs.BetweenLaws.{all-heard}
+use Rattle.dex_stream.specs.Parts.{IsBetween, IsHeardSoFar}
+use Rattle.dex_stream.proofs.BetweenLaws.{all-heard, first-heard, heard-next}
 use Rattle.dex_stream.proofs.playing.play_rest.Goals as goal
 
+pub parts-begins : goal.parts-begins
+parts-begins g c = λ text script plays is.
+    first-heard c.args.limits.now text g.L.Listener.heard script c.args.first c.args.behind plays is
+
 pub returns-then-branch : goal.returns-then-branch
-returns-then-branch g c = λ text between.
-    all-heard g.L.Listener.heard c.args.limits.now text c.parts.playing c.parts.left (c.in_ok-is_over.ensures c.if-branch.true)
-    (c.parts.invariant text between)
+returns-then-branch g c = λ text script plays is.
+    all-heard c.args.limits.now text g.L.Listener.heard c.parts.listener c.parts.playing c.parts.left (c.in_ok-is_over.ensures c.if-branch.true)
+    (c.parts.invariant text script plays is)
 
 pub size_of_part-requires : goal.size_of_part-requires
 size_of_part-requires g c =
-    let between = c.parts.invariant c.requires.0 c.requires.1 in
+    let between = (c.parts.invariant c.requires.0 c.requires.1 c.requires.2 c.requires.3).between in
     let limits = between.before.script.limits in
     (limits, subst (AreAccepted limits) between.acted.leaves between.acted.run.accepted)
 
-pub play_part-requires : goal.play_part-requires
-play_part-requires g c = (
+pub act_part-requires : goal.act_part-requires
+act_part-requires g c = (
   c.requires.0,
   c.cut-left.result,
-  subst (IsBetween g.L.Listener.heard c.args.limits.now c.requires.0 c.parts.playing) c.cut-left.ensures
-      (c.parts.invariant c.requires.0 c.requires.1),
+  subst (IsBetween c.args.limits.now c.requires.0 c.parts.playing) c.cut-left.ensures
+      (c.parts.invariant c.requires.0 c.requires.1 c.requires.2 c.requires.3).between,
 )
-
-pub parts-preserved : goal.parts-preserved
-parts-preserved g c = λ text between.
-    rw c.in-Some.is at
-    (c.in_ok-next.ensures text c.cut-left.result
-    (subst (IsBetween g.L.Listener.heard c.args.limits.now text c.parts.playing) c.cut-left.ensures (c.parts.invariant text between)))
