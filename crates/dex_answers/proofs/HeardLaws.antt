@@ -102,7 +102,8 @@ none-counted start =
 -- ---- what is answered
 
 -- what is left when all items have acted
-acted-played : (script : PlainScript) (outcome : PlainOutcome) (accounts : PlainAccounts) (items : ℕ) → HasActed script outcome accounts items → IsPlayed script outcome
+acted-played : (script : PlainScript) (outcome : PlainOutcome) (accounts : PlainAccounts) (items : ℕ) → HasActed script outcome accounts items
+    → IsPlayed script outcome
 acted-played script outcome accounts items acted = played script outcome acted.is_script acted.replay acted.run (replay-by-rows script outcome)
 
 -- the report

@@ -44,7 +44,8 @@ pub record IsNext (before : PlainScript) (left : PlainOutcome) (part : PlainScri
   pub wallets : wallets_told outcome ≡ wallets_told left
 
 -- all items of a script have acted, so many: this outcome is left, with these accounts
-pub record HasActed (script : PlainScript) (outcome : PlainOutcome) (accounts : PlainAccounts) (items : ℕ) : Type 0 where
+pub record HasActed (script : PlainScript) (outcome : PlainOutcome) (accounts : PlainAccounts)
+    (items : ℕ) : Type 0 where
   pub is_script : IsScript script
   pub replay : IsReplayOf script outcome
   pub run : IsRunOf script outcome

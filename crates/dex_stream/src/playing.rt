@@ -103,7 +103,7 @@ fn play_rest<L: Listener>(
     limits: &Limits,
 ) -> Result<Option<Played<L>>, NoMemory>
     requires { (text : List ℕ) × (script : PlainScript) × HasPlayed L.heard script first
-        × IsBehind limits.now text script behind.entry }
+        × IsBehind limits.now text script behind }
     ensures { (text : List ℕ) (script : PlainScript) → HasPlayed L.heard script first
         → IsBehind limits.now text script behind.entry
         → IfOk result (λ found. IfSome found (λ played. IsHeard L.heard limits.now text played)) }

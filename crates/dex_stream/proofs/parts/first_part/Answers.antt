@@ -1,4 +1,5 @@
 use Rattle.std.proofs.Common.{ap, false, subst, sym}
+use Rattle.std.proofs.lemmas.Option.{none-some}
 use Rattle.dex_script.specs.Begun.{IsBegun, left_in}
 use Rattle.dex_script.specs.Pieces.{IsUnderway}
 use Rattle.dex_script.specs.Scripts.{ReadsWithin}
@@ -26,18 +27,18 @@ returns-in_default-clause-first c =
       whole = λ none.
           subst (ReadsWithin c.args.limits.now false c.args.bytes.now) (sym c.in_ok-script.ensures)
           (all-read c.args.limits.now c.args.bytes.now begun.reader begun.number (left_in begun.rows) (ap left_in c.in_default.is) c.in_ok-reader.ensures.told);
-      begins = unit;
+      begins = tt;
     }
 
-pub into_script-2-requires : goal.into_script-2-requires
-into_script-2-requires c =
-    so-far c.args.limits.now c.args.bytes.now c.in-Ok.read c.read_rows.new.number c.cut-left.result (first (goal.at.into_script-2-requires c).In-Ok).0
+pub into_script-requires-2 : goal.into_script-requires-2
+into_script-requires-2 c =
+    so-far c.args.limits.now c.args.bytes.now c.in-Ok.read c.read_rows.new.number c.cut-left.result (first (goal.at.into_script-requires-2 c).In-Ok).0
 
 pub returns-clause-first : goal.returns-clause-first
 returns-clause-first c =
     let all = first (goal.at.returns-clause-first c).In-Ok in
     record {
-      whole = λ none. absurd (cc);
+      whole = λ none. absurd (none-some _ (sym none));
       begins = record {
         draft = c.in-Ok.read;
         begun = all.0;
