@@ -1,12 +1,12 @@
 -- What a script leaves that is played part by part, and what is heard of it.
 use Rattle.std.proofs.Common.{◌≡◌, ◌∙◌, ◌+◌, ℕ, List, [], ◌∷◌, ap, arith, length, map, refl, subst, sym}
 use Rattle.std.specs.List.{AllZip, sum_by}
-use Rattle.std.proofs.lemmas.List.{length-map}
 use Rattle.std.proofs.lemmas.List.Sums.{sum_by-append, sum_by-cons}
 use Rattle.dex_dump.specs.DumpText.{dump_text}
+use Rattle.dex_types.specs.declared.addresses.Address.{Address}
 use Rattle.dex_types.specs.declared.limits.Limits.{Limits}
 use Rattle.dex_types.specs.declared.limits.TheConstants.{STANDARD}
-use Rattle.dex_types.specs.Accounts.{PlainAccounts, PlainMarketAccounts}
+use Rattle.dex_types.specs.Accounts.{PlainAccounts, PlainMarketAccounts, accounts_of}
 use Rattle.dex_words.specs.declared.command.Command.TheVariants.{Bulk, Dump, Replay}
 use Rattle.dex_state.specs.Outcomes.{PlainMarketJournal, PlainOutcome, PlainWalletJournal}
 use Rattle.dex_report.specs.Bulk.{accepted_in, counts_of, counts_with, refused_in, summary_text}
@@ -19,7 +19,9 @@ use Rattle.dex_script_types.specs.PlainScript.{PlainScript}
 use Rattle.dex_replay.proofs.Singles.{replay-by-rows}
 use Rattle.dex_parts.specs.Chains.{market_journal_behind, outcome_behind}
 use Rattle.dex_parts.specs.Together.{each_behind}
-use Rattle.dex_stream.specs.Heard.{IsHeard, IsNext, no_entries, unplayed}
+use Rattle.dex_parts.proofs.ChainLaws.{same-long}
+use Rattle.dex_stream.specs.declared.playing.Played.{Played}
+use Rattle.dex_stream.specs.Heard.{HasActed, IsHeard, IsNext, no_entries, unplayed}
 use Rattle.dex_answers.specs.Answers.{Answers, AnswersWithin, IsPlayed}
 use Rattle.dex_answers.specs.Hearing.{HasCounted, HasTold}
 use Rattle.dex_answers.specs.declared.bulk.Counting.{Counting}
@@ -29,9 +31,6 @@ use Rattle.dex_answers.proofs.InFront.{run-told}
 use Rattle.dex_answers.proofs.PairLaws.{played}
 
 -- ---- lists behind others
-
-same-long : {A B : Type 0} (tell : A → B) (xs ys : List A) → map tell xs ≡ map tell ys → length ys ≡ length xs
-same-long {B = B} tell xs ys same = sym (length-map ys tell) ∙ ap (λ (zs : List B). length zs) (sym same) ∙ length-map xs tell
 
 -- where as many go on as there are
 goes-behind : {A : Type 0} (on : A → A → A) (xs ys : List A) → length ys ≡ length xs → each_goes_on on xs ys ≡ each_behind on xs ys
@@ -58,17 +57,26 @@ sum-behind f both (x ∷ xs) (y ∷ ys) long =
 
 -- ---- what each has heard
 
+abbrev wallet_of : PlainWalletJournal → Address
+wallet_of journal = journal.address
+
+markets-long : (before part whole : PlainScript) (left outcome : PlainOutcome) → IsNext before left part outcome whole
+    → length outcome.markets ≡ length left.markets
+markets-long before part whole left outcome next =
+    let market_of = λ (journal : PlainMarketJournal). journal.address in
+    same-long market_of market_of outcome.markets left.markets next.markets
+
 -- texts of what is left so far, with the next part's journals told
 pub told-behind : (texts : JournalTexts) (before part whole : PlainScript) (left outcome : PlainOutcome) → IsNext before left part outcome whole
     → Tells texts (goes_on left outcome.markets outcome.wallets) → Tells texts (outcome_behind left outcome)
 told-behind texts before part whole left outcome next tells = record {
   markets =
       subst (AllZip TellsMarket texts.markets.items)
-      (goes-behind market_goes_on left.markets outcome.markets (same-long (λ (journal : PlainMarketJournal). journal.address) left.markets outcome.markets (sym next.markets)))
+      (goes-behind market_goes_on left.markets outcome.markets (markets-long before part whole left outcome next))
       tells.markets;
   wallets =
       subst (AllZip TellsWallet texts.wallets.items)
-      (goes-behind wallet_goes_on left.wallets outcome.wallets (same-long (λ (journal : PlainWalletJournal). journal.address) left.wallets outcome.wallets (sym next.wallets)))
+      (goes-behind wallet_goes_on left.wallets outcome.wallets (same-long wallet_of wallet_of outcome.wallets left.wallets next.wallets))
       tells.wallets;
 }
 
@@ -76,7 +84,7 @@ told-behind texts before part whole left outcome next tells = record {
 pub counted-behind : (before part whole : PlainScript) (left outcome : PlainOutcome) → IsNext before left part outcome whole
     → counts_with (counts_of left) outcome.markets ≡ counts_of (outcome_behind left outcome)
 counted-behind before part whole left outcome next =
-    let long = same-long (λ (journal : PlainMarketJournal). journal.address) left.markets outcome.markets (sym next.markets) in
+    let long = markets-long before part whole left outcome next in
     let accepted = sum-behind accepted_in (λ x y. sum_by-append _ x.entries y.entries) left.markets outcome.markets long in
     let refused = sum-behind refused_in (λ x y. sum_by-append _ x.entries y.entries) left.markets outcome.markets long in
     λ i. record { accepted = sym accepted i; refused = sym refused i }
@@ -93,40 +101,47 @@ none-counted start =
 
 -- ---- what is answered
 
--- what is heard is what is left when all items have acted
-heard-played : {L : Type 0} (heard : L → PlainScript → PlainOutcome → Type 0) (limits : Limits) (bytes : List ℕ) (listener : L) (accounts : PlainAccounts) (items : ℕ)
-    → (is : IsHeard heard limits bytes listener accounts items) → IsPlayed is.script is.outcome
-heard-played heard limits bytes listener accounts items is =
-    played is.script is.outcome is.is_script is.replay is.run (replay-by-rows is.script is.outcome)
+-- what is left when all items have acted
+acted-played : (script : PlainScript) (outcome : PlainOutcome) (accounts : PlainAccounts) (items : ℕ) → HasActed script outcome accounts items
+    → IsPlayed script outcome
+acted-played script outcome accounts items acted = played script outcome acted.is_script acted.replay acted.run (replay-by-rows script outcome)
 
 -- the report
-pub reported : (limits : Limits) (bytes : List ℕ) (reporting : Reporting) (accounts : PlainAccounts) (items : ℕ) (text : List ℕ)
-    → ((outcome : PlainOutcome) → Tells reporting.texts outcome → outcome.accounts ≡ accounts → FitOutcome outcome)
-    → ((outcome : PlainOutcome) → Tells reporting.texts outcome → outcome.accounts ≡ accounts → text ≡ report_text outcome items)
-    → IsHeard HasTold limits bytes reporting accounts items → AnswersWithin limits Replay bytes status.Ok text
-reported limits bytes reporting accounts items text fits told is = (
-  is.script,
-  is.outcome,
-  is.reads,
-  heard-played HasTold limits bytes reporting accounts items is,
-  run-told is.script is.outcome is.run (fits is.outcome is.hears is.leaves),
-  told is.outcome is.hears is.leaves ∙ ap (λ (n : ℕ). report_text is.outcome n) is.counts,
-)
+pub reported : (limits : Limits) (bytes : List ℕ) (all : Played Reporting) (text : List ℕ)
+    → ((outcome : PlainOutcome) → Tells all.listener.texts outcome → outcome.accounts ≡ accounts_of all.accounts → FitOutcome outcome)
+    → ((outcome : PlainOutcome) → Tells all.listener.texts outcome → outcome.accounts ≡ accounts_of all.accounts → text ≡ report_text outcome all.items)
+    → IsHeard HasTold limits bytes all → AnswersWithin limits Replay bytes status.Ok text
+reported limits bytes all text fits told is =
+    let plays = is.plays in
+    let acted = plays.acted in (
+      is.script,
+      plays.outcome,
+      is.reads,
+      acted-played is.script plays.outcome (accounts_of all.accounts) all.items acted,
+      run-told is.script plays.outcome acted.run (fits plays.outcome plays.hears acted.leaves),
+      told plays.outcome plays.hears acted.leaves ∙ ap (λ (n : ℕ). report_text plays.outcome n) acted.counts,
+    )
 
 -- the dump of the last accounts
-pub dumped : {L : Type 0} (heard : L → PlainScript → PlainOutcome → Type 0) (limits : Limits) (bytes : List ℕ) (listener : L) (accounts : PlainAccounts) (items : ℕ)
-    → IsHeard heard limits bytes listener accounts items → AnswersWithin limits Dump bytes status.Ok (dump_text accounts)
-dumped heard limits bytes listener accounts items is =
-    (is.script, is.outcome, is.reads, heard-played heard limits bytes listener accounts items is, ap dump_text (sym is.leaves))
+pub dumped : {L : Type 0} (heard : L → PlainScript → PlainOutcome → Type 0) (limits : Limits) (bytes : List ℕ) (all : Played L)
+    → IsHeard heard limits bytes all → AnswersWithin limits Dump bytes status.Ok (dump_text (accounts_of all.accounts))
+dumped heard limits bytes all is =
+    let plays = is.plays in (
+      is.script,
+      plays.outcome,
+      is.reads,
+      acted-played is.script plays.outcome (accounts_of all.accounts) all.items plays.acted,
+      ap dump_text (sym plays.acted.leaves),
+    )
 
 -- the summary
-pub summed : (number rows : ℕ) (counting : Counting) (accounts : PlainAccounts) (items : ℕ)
-    → IsHeard HasCounted STANDARD (made_text number rows) counting accounts items
-    → Answers (Bulk number rows) [] status.Ok (summary_text number rows counting.counts accounts.markets)
-summed number rows counting accounts items is = (
-  is.script,
-  is.outcome,
-  is.reads,
-  heard-played HasCounted STANDARD (made_text number rows) counting accounts items is,
-  rw (is.hears, is.leaves) refl,
-)
+pub summed : (number rows : ℕ) (all : Played Counting) → IsHeard HasCounted STANDARD (made_text number rows) all
+    → Answers (Bulk number rows) [] status.Ok (summary_text number rows all.listener.counts (accounts_of all.accounts).markets)
+summed number rows all is =
+    let plays = is.plays in (
+      is.script,
+      plays.outcome,
+      is.reads,
+      acted-played is.script plays.outcome (accounts_of all.accounts) all.items plays.acted,
+      rw (plays.hears, plays.acted.leaves) refl,
+    )

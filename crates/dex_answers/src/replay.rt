@@ -3,7 +3,6 @@
 ghost use Rattle.std.specs.Prelude.{ℕ, IfOk, List};
 ghost use Rattle.dex_words.specs.declared.command.Command.TheVariants.{Replay};
 ghost use Rattle.dex_types.specs.declared.limits.Limits.{Limits};
-ghost use Rattle.dex_types.specs.Accounts.{accounts_of};
 ghost use Rattle.dex_types.specs.Limits.{AreLimits};
 ghost use Rattle.dex_stream.specs.Heard.{IsHeard};
 ghost use Rattle.dex_answers.specs.Answers.{AnswersWithin};
@@ -60,7 +59,7 @@ pub fn replay_answer(alloc: Global, bytes: &[u8], limits: &Limits) -> Result<Sta
 /// The report of what was heard.
 fn report_of(alloc: Global, played: Played<Reporting>) -> Result<StatusText, NoMemory>
     ensures { (limits : Limits) (bytes : List ℕ)
-        → IsHeard HasTold limits bytes played.listener (accounts_of played.accounts) played.items
+        → IsHeard HasTold limits bytes played
         → IfOk result (λ told. AnswersWithin limits Replay bytes told.status (text_of told)) }
 {
     let pieces = played

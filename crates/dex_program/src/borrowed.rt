@@ -1,10 +1,11 @@
-//! Calls that the program does not make: those that only borrow a script come to what those come to that take it, and
-//! `run` and `run_batch` give what is left without the rows.
+//! Calls that the program does not make: those that only borrow a script come to what those come to that take it, `run`
+//! and `run_batch` give what is left without the rows, and `bulk_text` sums up an outcome as `bulk` sums up its counts.
 
 use dex_bank::Cells;
 use dex_batch::run_batch;
 use dex_io::NoPace;
-use dex_report::report_text;
+use dex_replay::replay;
+use dex_report::{bulk_text, make_script, report_text};
 use dex_run::{build, close, run};
 use dex_script::{Script, read_script};
 use dex_state::Outcome;
@@ -88,5 +89,26 @@ fn a_batch_runs_and_gives_no_rows(rt: HostRuntime) -> Result<(), Fail> {
     let outcome = run_batch(&rt, alloc, script, 2, &NoPace)?;
     let text = report_text(alloc, &outcome, 3)?;
     assert!(rt; text.starts_with(b"report 3\nmarket m 3\n"));
+    Ok(())
+}
+
+// What `bulk 1 1` prints.
+const SUMMARY: &[u8] = b"bulk 1 1
+accepted 17
+refused 0
+market m0 bids 0 asks 0 events 0 coin 0 pc 0 fees 0
+market m1 bids 0 asks 0 events 0 coin 0 pc 0 fees 0
+";
+
+#[test]
+fn an_outcome_is_summed_up(rt: HostRuntime) -> Result<(), Fail> {
+    let alloc = rt.alloc();
+    let made = make_script(alloc, 1, 1)?;
+    let Ok(script) = read_script(alloc, &made, false) else {
+        return Err(Fail::new("no script"));
+    };
+    let outcome = replay(alloc, script)?;
+    let text = bulk_text(alloc, 1, 1, &outcome)?;
+    assert!(rt; text.as_slice() == SUMMARY);
     Ok(())
 }

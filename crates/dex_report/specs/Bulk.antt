@@ -1,13 +1,11 @@
 -- The summary of a large run.
-use Rattle.std.specs.Prelude.{◌≡◌, ◌+◌, ℕ, not, List, [], ◌∷◌, ◌++◌, length, map, codes, count_by}
+use Rattle.std.specs.Prelude.{◌+◌, ℕ, not, List, ◌++◌, length, codes, count_by}
 use Rattle.std.specs.Fmt.{decimal}
-use Rattle.std.specs.List.{All, flat_map, sum_by}
-use Rattle.dex_types.specs.declared.addresses.Address.{Address}
+use Rattle.std.specs.List.{flat_map, sum_by}
 use Rattle.dex_types.specs.declared.movements.Entry.{Entry}
 use Rattle.dex_types.specs.Accounts.{PlainMarketAccounts}
 use Rattle.dex_types.specs.Market.{Market}
-use Rattle.dex_types.specs.Text.{address_text, label_address, spaced}
-use Rattle.dex_accounts.specs.Accepted.{IsAccepted}
+use Rattle.dex_types.specs.Text.{address_text, spaced}
 use Rattle.dex_accounts.specs.Decoded.{market_in}
 use Rattle.dex_history.specs.Journal.{is_refusal}
 use Rattle.dex_report.specs.declared.bulk.BookCounts.{BookCounts}
@@ -72,13 +70,3 @@ summary_text number rows counts markets =
 -- the summary of an outcome
 abbrev pub bulk_text : ℕ → ℕ → PlainOutcome → List ℕ
 bulk_text number rows outcome = summary_text number rows (counts_of outcome) outcome.accounts.markets
-
--- the addresses of a made script's markets
-abbrev pub made_markets : List Address
-made_markets = label_address (codes "m0") ∷ label_address (codes "m1") ∷ []
-
--- an outcome of a made script: its markets are the script's two, and their accounts are accepted
-pub record IsOfMade (outcome : PlainOutcome) : Type 0 where
-  pub journals : map (λ (journal : PlainMarketJournal). journal.address) outcome.markets ≡ made_markets
-  pub markets : map (λ (accounts : PlainMarketAccounts). accounts.address) outcome.accounts.markets ≡ made_markets
-  pub accepted : All IsAccepted outcome.accounts.markets

@@ -34,7 +34,7 @@ pub fn bulk_text(
     rows: u32,
     outcome: &Outcome,
 ) -> Result<Vec<u8>, NoMemory>
-    requires { summaries.IsOfMade (outcome_of outcome.now) }
+    requires { All IsAccepted (outcome_of outcome.now).accounts.markets }
     ensures { IfOk result (λ text. text.items ≡ summaries.bulk_text number rows (outcome_of outcome.now)) }
 {
     let mut counts = Counts {

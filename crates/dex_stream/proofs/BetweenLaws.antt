@@ -1,9 +1,10 @@
 -- From one part of a text to the next.
-use Rattle.std.proofs.Common.{◌≡◌, ◌∙◌, ◌+◌, ◌≤◌, ◌++◌, ℕ, IfSome, List, [], Option, Some, false, Ok, ap, arith, refl, subst, sym}
+use Rattle.std.proofs.Common.{◌≡◌, ◌∙◌, ◌+◌, ◌≤◌, ◌++◌, ℕ, IfSome, List, [], Option, Some, false, Ok, ap, arith, map, refl, subst, sym}
 use Rattle.dex_types.specs.declared.limits.Limits.{Limits}
 use Rattle.dex_types.specs.Accounts.{PlainAccounts, accounts_of}
+use Rattle.dex_types.specs.Rows.{row_of}
 use Rattle.dex_rows.specs.Records.{Fields}
-use Rattle.dex_state.specs.Outcomes.{PlainOutcome}
+use Rattle.dex_state.specs.Outcomes.{PlainOutcome, market_journal_of, wallet_journal_of}
 use Rattle.dex_script_types.specs.PlainScript.{PlainScript}
 use Rattle.dex_script_types.specs.Facts.{IsScript, IsStart}
 use Rattle.dex_script.specs.Begun.{IsBegun, left_in}
@@ -17,10 +18,12 @@ use Rattle.dex_replay.specs.Replays.{IsReplayOf}
 use Rattle.dex_replay.specs.Runs.{IsRunOf}
 use Rattle.dex_parts.specs.Chains.{AreTwoParts, outcome_behind}
 use Rattle.dex_parts.proofs.ChainLaws.{two-are-one}
+use Rattle.dex_stream.specs.declared.parts.Acted.{Acted}
+use Rattle.dex_stream.specs.declared.parts.Behind.{Behind}
+use Rattle.dex_stream.specs.declared.parts.Playing.{Playing}
 use Rattle.dex_stream.specs.declared.playing.Played.{Played}
-use Rattle.dex_stream.specs.declared.playing.Playing.{Playing}
-use Rattle.dex_stream.specs.Heard.{IsHeard, IsNext}
-use Rattle.dex_stream.specs.Parts.{HasActed, IsBetween}
+use Rattle.dex_stream.specs.Heard.{HasActed, HasPlayed, IsHeard}
+use Rattle.dex_stream.specs.Parts.{HasActedNext, IsBehind, IsBetween, IsHeardSoFar}
 use Rattle.dex_stream.proofs.NextLaws.{apart, next-is, places-kept}
 
 -- a script so far is one
@@ -33,10 +36,13 @@ so-far limits text draft number left begun =
 abbrev pub RunsOfReplays : Type 0
 RunsOfReplays = (script : PlainScript) (outcome : PlainOutcome) → IsScript script → IsReplayOf script outcome → IsRunOf script outcome
 
-module _ {L : Type 0} (heard : L → PlainScript → PlainOutcome → Type 0) (limits : Limits) (text : List ℕ) where
-  -- ---- the first part
+module _ (limits : Limits) (text : List ℕ) where
+  -- where no rows are left it is the whole
+  pub all-read : (draft : PlainDraft) (number : ℕ) (left : List Fields) → left ≡ [] → IsBegun limits false text draft number left
+      → ReadsWithin limits false text draft.script
+  all-read draft number left none begun = (subst (IsBegun limits false text draft number) none begun).tells (Ok draft) refl
 
-  -- its rows are read
+  -- the rows of the first part are read
   pub first-read : (draft read : PlainDraft) (number after : ℕ) (rows : Option (List Fields)) (all plain part left fed : List Fields)
       → IsBegun limits false text draft number (left_in rows) → IfSome rows (λ some. IsUnderway draft) → rows ≡ Some all → plain ≡ all
       → plain ≡ part ++ left → fed ≡ part → draft_after draft number fed ≡ Ok read → after ≡ number_after number fed
@@ -48,30 +54,17 @@ module _ {L : Type 0} (heard : L → PlainScript → PlainOutcome → Type 0) (l
         (stays-behind draft number read fed under told).under,
       )
 
-  pub first-between : (draft : PlainDraft) (left : List Fields) (playing : Playing L) → IsBegun limits false text draft playing.number left → IsUnderway draft
-      → HasActed heard draft.script playing.played → playing.reader ≡ beside draft draft.clock → IsBetween heard limits text playing left
-  first-between draft left playing begun under acted reader = record {
-    before = draft;
-    begun = begun;
-    acted = acted;
-    other = draft;
-    alike = alike-self draft under;
-    program = refl;
-    places = subst (HaveSamePlaces draft.script.start) acted.leaves (places-kept draft.script acted.outcome acted.replay.start);
-    reader = reader;
-  }
-
-  -- ---- one more
+  -- ---- one more part
 
   -- these rows were read beside the script so far
-  module _ (playing : Playing L) (rows left : List Fields) (between : IsBetween heard limits text playing (rows ++ left)) (piece : PlainDraft)
-      (all : List Fields) (same : all ≡ rows) (read : draft_after playing.reader playing.number all ≡ Ok piece)
-      (count : ℕ) (few : (count ≡ playing.played.items + piece.items) × (count ≤ limits.items)) where
+  module _ (playing : Playing) (rows left : List Fields) (between : IsBetween limits text playing (rows ++ left)) (piece : PlainDraft) (all : List Fields)
+      (same : all ≡ rows) (read : draft_after playing.reader playing.number all ≡ Ok piece) (count : ℕ)
+      (few : (count ≡ playing.items + piece.items) × (count ≤ limits.items)) where
     abbrev before : PlainDraft
     before = between.before
 
     abbrev accounts : PlainAccounts
-    accounts = accounts_of playing.played.accounts
+    accounts = accounts_of playing.accounts
 
     part-read : IsPart before playing.number rows piece accounts
     part-read =
@@ -84,7 +77,7 @@ module _ {L : Type 0} (heard : L → PlainScript → PlainOutcome → Type 0) (l
     pub part-script : IsScript (part_of piece accounts)
     part-script =
         let run = between.acted.run in
-        let last : IsStart before.script.limits between.acted.outcome.accounts =
+        let last : IsStart before.script.limits between.outcome.accounts =
         record { accepted = run.accepted; sound = run.sound; conserved = run.conserved } in
         record {
           start = subst (λ (l : Limits). IsStart l accounts) (sym part-read.alike.limits) (subst (IsStart before.script.limits) between.acted.leaves last);
@@ -97,7 +90,7 @@ module _ {L : Type 0} (heard : L → PlainScript → PlainOutcome → Type 0) (l
     abbrev whole : PlainScript
     whole = (joined before piece).script
 
-    parts : AreTwoParts whole before.script between.acted.outcome (part_of piece accounts)
+    parts : AreTwoParts whole before.script between.outcome (part_of piece accounts)
     parts = record {
       rows = refl;
       cut = apart playing.number before.script.rows piece.script.rows between.begun.good.below part-read.from;
@@ -109,74 +102,95 @@ module _ {L : Type 0} (heard : L → PlainScript → PlainOutcome → Type 0) (l
       same_limits = part-read.alike.limits;
     }
 
+    begun-next : (number : ℕ) → number ≡ number_after playing.number all → IsBegun limits false text (joined before piece) number left
+    begun-next number at =
+        begun-on limits false text before playing.number (rows ++ left) between.begun (joined before piece) number left between.alike.draft_underway.late
+        (record { front = rows; parts = refl; read = part-read.read; next = at ∙ ap (number_after playing.number) same })
+
+    -- its items have acted
     module _ (outcome : PlainOutcome) (replay : IsReplayOf (part_of piece accounts) outcome) where
-      pub part-next : IsRunOf (part_of piece accounts) outcome → IsNext before.script between.acted.outcome (part_of piece accounts) outcome whole
-      part-next run = next-is before.script (part_of piece accounts) whole between.acted.outcome outcome parts part-script between.acted.replay replay run
-
-      begun-next : (number : ℕ) → number ≡ number_after playing.number all → IsBegun limits false text (joined before piece) number left
-      begun-next number at =
-          begun-on limits false text before playing.number (rows ++ left) between.begun (joined before piece) number left between.alike.draft_underway.late
-          (record { front = rows; parts = refl; read = part-read.read; next = at ∙ ap (number_after playing.number) same })
-
-      pub between-next : RunsOfReplays → (next : Playing L) → next.number ≡ number_after playing.number all → next.reader ≡ beside piece piece.clock
-          → next.played.items ≡ count → outcome.accounts ≡ accounts_of next.played.accounts
-          → heard next.played.listener whole (outcome_behind between.acted.outcome outcome) → IsBetween heard limits text next left
-      between-next runs next at reader items leaves hears =
+      pub has-acted : RunsOfReplays → IsRunOf (part_of piece accounts) outcome → (acted : Acted) → acted.next.number ≡ number_after playing.number all
+          → acted.next.reader ≡ beside piece piece.clock → acted.next.items ≡ count → outcome.accounts ≡ accounts_of acted.next.accounts
+          → map row_of acted.rows.items ≡ piece.script.rows → map market_journal_of acted.markets.items ≡ outcome.markets
+          → map wallet_journal_of acted.wallets.items ≡ outcome.wallets → HasActedNext limits text playing (rows ++ left) between acted left
+      has-acted runs run acted at reader items leaves rows_are markets wallets =
           let alike = part-read.alike in
-          let begun = begun-next next.number at in
-          let is = so-far limits text (joined before piece) next.number left begun in
-          let last = outcome_behind between.acted.outcome outcome in
-          let both = two-are-one whole before.script (part_of piece accounts) between.acted.outcome outcome parts between.acted.replay replay in record {
-            before = joined before piece;
-            begun = begun;
-            acted = record {
+          let begun = begun-next acted.next.number at in
+          let is = so-far limits text (joined before piece) acted.next.number left begun in
+          let last = outcome_behind between.outcome outcome in
+          let both = two-are-one whole before.script (part_of piece accounts) between.outcome outcome parts between.acted.replay replay in record {
+            part = part_of piece accounts;
+            outcome = outcome;
+            now = record {
+              before = joined before piece;
               outcome = last;
-              is_script = is;
-              replay = both;
-              run = runs whole last is both;
-              leaves = leaves;
-              counts = items ∙ few.0 ∙ ap (λ (n : ℕ). n + piece.items) (between.acted.counts ∙ sym between.begun.good.items) ∙ begun.good.items;
-              hears = hears;
+              begun = begun;
+              acted = record {
+                is_script = is;
+                replay = both;
+                run = runs whole last is both;
+                leaves = leaves;
+                counts = items ∙ few.0 ∙ ap (λ (n : ℕ). n + piece.items) (between.acted.counts ∙ sym between.begun.good.items) ∙ begun.good.items;
+              };
+              other = piece;
+              alike = record {
+                draft_underway = record { late = alike.draft_underway.late; first = alike.draft_underway.first };
+                piece_underway = alike.piece_underway;
+                batch = alike.batch;
+                limits = alike.limits;
+                places = alike.places;
+              };
+              program = part-read.program;
+              places =
+                  let kept = places-kept (part_of piece accounts) outcome replay.start in
+                  subst (HaveSamePlaces piece.script.start) leaves (record {
+                    markets = λ address. part-read.places.markets address ∙ kept.markets address;
+                    wallets = λ address. part-read.places.wallets address ∙ kept.wallets address;
+                  });
+              reader = reader;
             };
-            other = piece;
-            alike = record {
-              draft_underway = record { late = alike.draft_underway.late; first = alike.draft_underway.first };
-              piece_underway = alike.piece_underway;
-              batch = alike.batch;
-              limits = alike.limits;
-              places = alike.places;
-            };
-            program = part-read.program;
-            places =
-                let kept = places-kept (part_of piece accounts) outcome replay.start in
-                subst (HaveSamePlaces piece.script.start) leaves (record {
-                  markets = λ address. part-read.places.markets address ∙ kept.markets address;
-                  wallets = λ address. part-read.places.wallets address ∙ kept.wallets address;
-                });
-            reader = reader;
+            is_next = next-is before.script (part_of piece accounts) whole between.outcome outcome parts part-script between.acted.replay replay run;
+            together = refl;
+            rows_are = rows_are;
+            markets = markets;
+            wallets = wallets;
           }
 
-  -- ---- the end
+  -- ---- a listener
 
-  pub whole-heard : (script : PlainScript) (played : Played L) → ReadsWithin limits false text script → HasActed heard script played
-      → IsHeard heard limits text played.listener (accounts_of played.accounts) played.items
-  whole-heard script played reads acted = record {
-    script = script;
-    outcome = acted.outcome;
-    reads = reads;
-    is_script = acted.is_script;
-    replay = acted.replay;
-    run = acted.run;
-    leaves = acted.leaves;
-    counts = acted.counts;
-    hears = acted.hears;
-  }
+  module _ {L : Type 0} (heard : L → PlainScript → PlainOutcome → Type 0) where
+    pub first-heard : (script : PlainScript) (first : Played L) (behind : Behind) → HasPlayed heard script first → IsBehind limits text script behind
+        → IsHeardSoFar heard limits text first.listener
+        (record { accounts = first.accounts; items = first.items; reader = behind.reader; number = behind.number }) behind.rows
+    first-heard script first behind plays is =
+        let draft = is.draft in
+        let acted : HasActed draft.script plays.outcome (accounts_of first.accounts) first.items =
+        subst (λ (s : PlainScript). HasActed s plays.outcome (accounts_of first.accounts) first.items) (sym is.is_script) plays.acted in record {
+          between = record {
+            before = draft;
+            outcome = plays.outcome;
+            begun = is.begun;
+            acted = acted;
+            other = draft;
+            alike = alike-self draft is.underway;
+            program = refl;
+            places = subst (HaveSamePlaces draft.script.start) acted.leaves (places-kept draft.script plays.outcome acted.replay.start);
+            reader = is.reader;
+          };
+          hears = subst (λ (s : PlainScript). heard first.listener s plays.outcome) (sym is.is_script) plays.hears;
+        }
 
-  pub done-heard : (draft : PlainDraft) (number : ℕ) (left : List Fields) (played : Played L) → left ≡ [] → IsBegun limits false text draft number left
-      → HasActed heard draft.script played → IsHeard heard limits text played.listener (accounts_of played.accounts) played.items
-  done-heard draft number left played none begun acted =
-      whole-heard draft.script played ((subst (IsBegun limits false text draft number) none begun).tells (Ok draft) refl) acted
+    pub heard-next : (playing : Playing) (rows left : List Fields) (between : IsBetween limits text playing rows) (acted : Acted) (listener : L)
+        (next : HasActedNext limits text playing rows between acted left)
+        → heard listener next.now.before.script (outcome_behind between.outcome next.outcome) → IsHeardSoFar heard limits text listener acted.next left
+    heard-next playing rows left between acted listener next hears =
+        record { between = next.now; hears = subst (heard listener next.now.before.script) (sym next.together) hears }
 
-  pub all-heard : (playing : Playing L) (left : List Fields) → left ≡ [] → IsBetween heard limits text playing left
-      → IsHeard heard limits text playing.played.listener (accounts_of playing.played.accounts) playing.played.items
-  all-heard playing left none between = done-heard between.before playing.number left playing.played none between.begun between.acted
+    pub all-heard : (listener : L) (playing : Playing) (left : List Fields) → left ≡ [] → IsHeardSoFar heard limits text listener playing left
+        → IsHeard heard limits text (record { listener = listener; accounts = playing.accounts; items = playing.items })
+    all-heard listener playing left none so =
+        let between = so.between in record {
+          script = between.before.script;
+          reads = all-read between.before playing.number left none between.begun;
+          plays = record { outcome = between.outcome; acted = between.acted; hears = so.hears };
+        }

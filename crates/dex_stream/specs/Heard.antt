@@ -2,7 +2,7 @@
 use Rattle.std.specs.Prelude.{◌≡◌, ℕ, List, [], false, length, map}
 use Rattle.dex_types.specs.declared.addresses.Address.{Address}
 use Rattle.dex_types.specs.declared.limits.Limits.{Limits}
-use Rattle.dex_types.specs.Accounts.{PlainAccount, PlainAccounts, PlainMarketAccounts}
+use Rattle.dex_types.specs.Accounts.{PlainAccount, PlainAccounts, PlainMarketAccounts, accounts_of}
 use Rattle.dex_world.specs.Items.{items_of}
 use Rattle.dex_state.specs.Outcomes.{PlainMarketJournal, PlainOutcome, PlainWalletJournal}
 use Rattle.dex_script_types.specs.PlainScript.{PlainScript}
@@ -11,6 +11,7 @@ use Rattle.dex_script.specs.Scripts.{ReadsWithin}
 use Rattle.dex_replay.specs.Replays.{IsReplayOf}
 use Rattle.dex_replay.specs.Runs.{IsRunOf}
 use Rattle.dex_parts.specs.Chains.{AreTwoParts}
+use Rattle.dex_stream.specs.declared.playing.Played.{Played}
 
 -- the journal of a market without entries
 abbrev pub no_entries : PlainMarketAccounts → PlainMarketJournal
@@ -42,16 +43,25 @@ pub record IsNext (before : PlainScript) (left : PlainOutcome) (part : PlainScri
   pub markets : markets_told outcome ≡ markets_told left
   pub wallets : wallets_told outcome ≡ wallets_told left
 
--- the bytes are a script within these limits, of so many items. When all have acted these accounts are left, and the
--- listener has heard what is left in all
-pub record IsHeard {L : Type 0} (heard : L → PlainScript → PlainOutcome → Type 0) (limits : Limits) (bytes : List ℕ)
-    (listener : L) (accounts : PlainAccounts) (items : ℕ) : Type 0 where
-  pub script : PlainScript
-  pub outcome : PlainOutcome
-  pub reads : ReadsWithin limits false bytes script
+-- all items of a script have acted, so many: this outcome is left, with these accounts
+pub record HasActed (script : PlainScript) (outcome : PlainOutcome) (accounts : PlainAccounts)
+    (items : ℕ) : Type 0 where
   pub is_script : IsScript script
   pub replay : IsReplayOf script outcome
   pub run : IsRunOf script outcome
   pub leaves : outcome.accounts ≡ accounts
   pub counts : items ≡ length (items_of script.rows)
-  pub hears : heard listener script outcome
+
+-- and the listener has heard of it
+pub record HasPlayed {L : Type 0} (heard : L → PlainScript → PlainOutcome → Type 0) (script : PlainScript)
+    (played : Played L) : Type 0 where
+  pub outcome : PlainOutcome
+  pub acted : HasActed script outcome (accounts_of played.accounts) played.items
+  pub hears : heard played.listener script outcome
+
+-- the bytes are a script within these limits, which has been played
+pub record IsHeard {L : Type 0} (heard : L → PlainScript → PlainOutcome → Type 0) (limits : Limits) (bytes : List ℕ)
+    (played : Played L) : Type 0 where
+  pub script : PlainScript
+  pub reads : ReadsWithin limits false bytes script
+  pub plays : HasPlayed heard script played

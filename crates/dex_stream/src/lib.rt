@@ -3,6 +3,7 @@
 #![tactic(auto)]
 
 mod listener;
+mod parts;
 mod playing;
 mod sizes;
 

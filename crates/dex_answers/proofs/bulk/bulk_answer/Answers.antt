@@ -1,5 +1,5 @@
 use Rattle.std.proofs.Common.{[], All, subst}
-use Rattle.dex_types.specs.Accounts.{PlainAccounts, accounts_of}
+use Rattle.dex_types.specs.Accounts.{PlainAccounts}
 use Rattle.dex_accounts.specs.Accepted.{IsAccepted}
 use Rattle.dex_words.specs.declared.command.Command.TheVariants.{Bulk}
 use Rattle.dex_answers.specs.Answers.{Answers}
@@ -10,12 +10,11 @@ use Rattle.dex_answers.proofs.bulk.bulk_answer.Goals as goal
 
 pub summary_text-requires : goal.summary_text-requires
 summary_text-requires c =
-    let heard = c.in-Ok.ensures.played in
-    subst (λ (accounts : PlainAccounts). All IsAccepted accounts.markets) heard.leaves heard.run.accepted.markets
+    let acted = c.in-Ok.ensures.played.plays.acted in
+    subst (λ (accounts : PlainAccounts). All IsAccepted accounts.markets) acted.leaves acted.run.accepted.markets
 
 pub returns : goal.returns
 returns c =
-    let played = c.in-Ok.played in
     let heard = rw (c.deref.ensures.value, c.in_ok-script.ensures) at c.in-Ok.ensures.played in
     says c.of.result (Answers (Bulk c.args.number c.args.rows) []) status.Ok c.in_ok-text.text.items c.of.ensures
-    (rw c.in_ok-text.ensures (summed c.args.number c.args.rows played.listener (accounts_of played.accounts) played.items heard))
+    (rw c.in_ok-text.ensures (summed c.args.number c.args.rows c.in-Ok.played heard))

@@ -10,4 +10,4 @@ use Rattle.dex_answers.proofs.dump.dump_answer.Goals as goal
 pub returns-in-Ok : goal.returns-in-Ok
 returns-in-Ok c =
     says c.dump_of.result (AnswersWithin c.args.limits.now Dump c.args.bytes.now) status.Ok (dump_text (accounts_of c.in-Ok.played.accounts)) c.dump_of.ensures
-    (dumped _ c.args.limits.now c.args.bytes.now c.in-Ok.played.listener (accounts_of c.in-Ok.played.accounts) c.in-Ok.played.items c.in-Ok.ensures.played)
+    (dumped _ c.args.limits.now c.args.bytes.now c.in-Ok.played c.in-Ok.ensures.played)

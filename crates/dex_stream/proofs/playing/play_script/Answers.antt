@@ -21,11 +21,7 @@ returns g c =
     (c.in_ok-listener.ensures (without script) (sym start) refl) in
     record {
       outcome = outcome;
-      is_script = is;
-      replay = left.outcome;
-      run = left.run;
-      leaves = refl;
-      counts = c.items-items.ensures;
+      acted = record { is_script = is; replay = left.outcome; run = left.run; leaves = refl; counts = c.items-items.ensures };
       hears =
           subst (λ (o : PlainOutcome). heard c.hear.new.self script o) (behind-none script outcome left.outcome.start)
           (c.in_ok-hear.ensures (without script) script script (unplayed script.start) outcome (first-next script outcome is left.outcome left.run)
