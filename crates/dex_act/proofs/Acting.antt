@@ -1,31 +1,18 @@
 -- What a row does to a cell.
-use Rattle.std.proofs.Common.{◌≡◌, ℕ, zero, suc, ◌+◌, ◌<◌, ◌≤◌, ◌^◌, ◌⊎◌, inl, inr, true, false, List, [], ◌∷◌, ◌++◌, Option, None, refl, sym, ap, ◌∙◌, subst, arith, ⊎_elim}
+use Rattle.std.proofs.Common.{◌≡◌, ℕ, ◌+◌, ◌<◌, ◌≤◌, ◌^◌, ◌⊎◌, inl, inr, Bool, true, false, ◌||◌, List, [], ◌∷◌, ◌++◌, Option, None, refl, sym, ap, ◌∙◌, subst, arith, ⊎_elim}
+use Rattle.dex_world.proofs.Common.{Address, CanMove, Market, Movement, PlainRow, Seen, Transfers, WalletEntry, WalletSeen, WalletState, is_same, is_same-refl, is_same-true, moved_balance, wallet_moved}
 use Rattle.std.specs.List.{All}
-use Rattle.std.proofs.lemmas.Bool.{cases_Bool, cases_lt, cond-true, cond-false, false≢true, lt-ltb, le-ltb, or_parts}
-use Rattle.dex_types.specs.declared.addresses.Address.{Address}
+use Rattle.std.proofs.lemmas.Bool.{cases_lt, cond-true, cond-false, cond_both, false≢true, lt-ltb, le-ltb, true_from_ne_false}
 use Rattle.dex_types.specs.declared.movements.MoveKind.TheVariants.{Debit, Credit, Probe}
-use Rattle.dex_types.specs.declared.movements.Movement.{Movement}
-use Rattle.dex_types.specs.declared.rows.Seen.{Seen}
-use Rattle.dex_types.specs.declared.rows.WalletSeen.{WalletSeen}
-use Rattle.dex_types.specs.Addresses.{is_same}
-use Rattle.dex_types.specs.Market.{Market}
-use Rattle.dex_types.specs.Rows.{PlainRow}
-use Rattle.dex_types.specs.Transfers.{Transfers}
 use Rattle.dex_types.specs.Wallets.{amount_at, balance_seen, brought_to, movement_by, taken_from}
-use Rattle.dex_types.specs.WalletJournal.{CanMove, moved_balance}
 use Rattle.dex_token.specs.TokenAccount.{WalletWords, wallet_words}
-use Rattle.dex_laws.proofs.TraderLaws.{is_same-true, is_same-refl}
 use Rattle.dex_history.specs.Moves.{Moves}
 use Rattle.dex_history.proofs.MintLaws.{AreOfMints, IsOfMint}
-use Rattle.dex_wallet.specs.CellState.{CellState, HasSpare, IsWalletCell, balance_of, seen_of}
+use Rattle.dex_wallet.specs.CellState.{CellState, HasSpare, IsWalletCell, balance_of}
 use Rattle.dex_wallet.proofs.CellLaws.{words-with_entry}
-use Rattle.dex_types.specs.declared.movements.WalletEntry.{WalletEntry}
-use Rattle.dex_world.specs.Fold.{wallet_moved}
-use Rattle.dex_world.specs.World.{WalletState}
-use Rattle.dex_act.specs.Wallets.{CanGet, CanTake, IsOf, IsRight, any_hit, cell_credited, cell_debited, cell_moved, cell_paid, got_at, hits, moved_some, paid_at, roles_of, wallet_state_of}
-use Rattle.dex_act.proofs.CellLists.{moved_some-address}
+use Rattle.dex_act.specs.Wallets.{CanGet, CanPut, CanTake, IsOf, IsRight, any_hit, cell_credited, cell_debited, cell_moved, cell_paid, got_at, hits, moved_some, paid_at, roles_of, wallet_state_of}
+use Rattle.dex_act.proofs.CellLists.{moved_some-address, moved_some-some, none-at}
 use Rattle.dex_act.proofs.Seeing.{balance-hit, no-hit}
-use Rattle.dex_act.proofs.WalletMoves.{none-at}
 
 -- ---- a movement that is possible
 
@@ -44,14 +31,10 @@ probes-as address before taken brought none nothing =
 abbrev pub IsPossible : Movement → Type 0
 IsPossible move = CanMove move.kind move.amount move.before
 
-covered : (address : Address) (before taken brought : ℕ) → IsPossible (movement_by address before taken brought) → taken ≤ before
-covered address before taken brought possible =
-    ⊎_elim
-    (λ (some : 0 < taken).
+covered : (address : Address) (before taken brought : ℕ) → 0 < taken → IsPossible (movement_by address before taken brought) → taken ≤ before
+covered address before taken brought some possible =
     let can : (1 ≤ taken) × (taken ≤ before) = subst IsPossible (debits-as address before taken brought some) possible in
-    can.1)
-    (λ (none : taken ≤ 0). omega (arith, none))
-    (cases_lt 0 taken)
+    can.1
 
 fits-in : (address : Address) (before taken brought : ℕ) → taken ≡ 0 → 0 < brought → IsPossible (movement_by address before taken brought) → before + brought < 2 ^ 64
 fits-in address before taken brought none some possible =
@@ -83,42 +66,27 @@ is-of : (cell : CellState) (mint : Address) (role : Option WalletSeen) (amount :
 is-of cell mint role amount right (inl none) = inl (none-at cell.address role amount none)
 is-of cell mint role amount right (inr named) =
     let wallet : WalletSeen = named.0 in
-    ⊎_elim
-    (λ (own : is_same cell.address wallet.address ≡ true).
-    let is : wallet ≡ seen_of cell = right wallet named.1 own in
-    inr (is_same-true mint wallet.mint named.2 ∙ ap (λ (w : WalletSeen). w.mint) is))
-    (λ (other : is_same cell.address wallet.address ≡ false).
-    inl (ap (λ (r : Option WalletSeen). amount_at cell.address r amount) named.1 ∙ cond-false _ _ _ other))
-    (cases_Bool (is_same cell.address wallet.address))
+    subst (λ (r : Option WalletSeen). IsOf mint (amount_at cell.address r amount) cell) (sym named.1)
+    (cond_both (is_same cell.address wallet.address) amount 0 (λ (n : ℕ). IsOf mint n cell)
+    (λ own. inr (is_same-true mint wallet.mint named.2 ∙ ap (λ (w : WalletSeen). w.mint) (right wallet named.1 own)))
+    (λ other. inl refl))
 
--- no role's wallet is at the address
-record NoHits (address : Address) (seen : Seen) : Type 0 where
-  coin : hits address seen.coin ≡ false
-  pc : hits address seen.pc ≡ false
-  referrer : hits address seen.referrer ≡ false
+-- of four tests that all fail the first two and the last fail
+no-hits : (a b c d : Bool) → (a || (b || (c || (d || false)))) ≡ false → (a ≡ false) × (b ≡ false) × (d ≡ false)
+no-hits false false false false none = (refl, refl, refl)
+no-hits _ _ _ _ none = absurd (cc)
 
-no-hits : (address : Address) (seen : Seen) → any_hit address (roles_of seen) ≡ false → NoHits address seen
-no-hits address seen none =
-    let first = or_parts (hits address seen.coin) (any_hit address (seen.pc ∷ seen.discount ∷ seen.referrer ∷ [])) none in
-    let second = or_parts (hits address seen.pc) (any_hit address (seen.discount ∷ seen.referrer ∷ [])) first.1 in
-    let third = or_parts (hits address seen.discount) (any_hit address (seen.referrer ∷ [])) second.1 in
-    let fourth = or_parts (hits address seen.referrer) false third.1 in
-    record { coin = first.0; pc = second.0; referrer = fourth.0 }
+-- where no role's wallet is at the address nothing is taken there or brought there
+module _ (address : Address) (seen : Seen) (t : Transfers) (none : any_hit address (roles_of seen) ≡ false) where
+  misses : (hits address seen.coin ≡ false) × (hits address seen.pc ≡ false) × (hits address seen.referrer ≡ false)
+  misses = no-hits (hits address seen.coin) (hits address seen.pc) (hits address seen.discount) (hits address seen.referrer) none
 
-pub nothing-taken : (address : Address) (seen : Seen) (t : Transfers) → any_hit address (roles_of seen) ≡ false → taken_from seen t address ≡ 0
-nothing-taken address seen t none =
-    let no = no-hits address seen none in
-    omega (arith, no-hit address seen.coin t.coin_in no.coin, no-hit address seen.pc t.pc_in no.pc)
+  pub nothing-taken : taken_from seen t address ≡ 0
+  nothing-taken = omega (arith, no-hit address seen.coin t.coin_in misses.0, no-hit address seen.pc t.pc_in misses.1)
 
-pub nothing-brought : (address : Address) (seen : Seen) (t : Transfers) → any_hit address (roles_of seen) ≡ false → brought_to seen t address ≡ 0
-nothing-brought address seen t none =
-    let no = no-hits address seen none in
-    omega (
-      arith,
-      no-hit address seen.coin t.coin_out no.coin,
-      no-hit address seen.pc t.pc_out no.pc,
-      no-hit address seen.referrer t.referrer_out no.referrer,
-    )
+  pub nothing-brought : brought_to seen t address ≡ 0
+  nothing-brought =
+      omega (arith, no-hit address seen.coin t.coin_out misses.0, no-hit address seen.pc t.pc_out misses.1, no-hit address seen.referrer t.referrer_out misses.2)
 
 pub cell-moves : (seen : Seen) (m : Market) (t : Transfers) (cell : CellState) → RowMoves seen m t → All (IsRight cell) (roles_of seen)
     → (any_hit cell.address (roles_of seen) ≡ true → HasSpare cell) → CellMoves seen m t cell
@@ -126,25 +94,24 @@ cell-moves seen m t cell moves right spare =
     let address : Address = cell.address in
     let taken : ℕ = taken_from seen t address in
     let brought : ℕ = brought_to seen t address in
+    let is_seen : Bool = any_hit address (roles_of seen) in
     record {
       one_way = (moves.moves address).one_way;
       takes = ⊎_elim
-          (λ (hit : any_hit address (roles_of seen) ≡ true).
+          (λ (some : 0 < taken).
+          let hit : is_seen ≡ true = true_from_ne_false is_seen (λ none. omega (arith, some, nothing-taken address seen t none)) in
           let before : balance_seen seen address ≡ balance_of cell.bytes = balance-hit cell (roles_of seen) right hit in
-          inr (spare hit, omega (arith, before, covered address (balance_seen seen address) taken brought (moves.moves address).possible)))
-          (λ (none : any_hit address (roles_of seen) ≡ false). inl (nothing-taken address seen t none))
-          (cases_Bool (any_hit address (roles_of seen)));
+          inr (spare hit, omega (arith, before, covered address (balance_seen seen address) taken brought some (moves.moves address).possible)))
+          (λ (none : taken ≤ 0). inl (omega (arith, none)))
+          (cases_lt 0 taken);
       fits = ⊎_elim
-          (λ (hit : any_hit address (roles_of seen) ≡ true).
-          let before : balance_seen seen address ≡ balance_of cell.bytes = balance-hit cell (roles_of seen) right hit in
-          ⊎_elim
           (λ (some : 0 < brought).
+          let hit : is_seen ≡ true = true_from_ne_false is_seen (λ none. omega (arith, some, nothing-brought address seen t none)) in
+          let before : balance_seen seen address ≡ balance_of cell.bytes = balance-hit cell (roles_of seen) right hit in
           let none : taken ≡ 0 = ⊎_elim (λ (no : taken ≡ 0). no) (λ (no : brought ≡ 0). absurd (omega (arith, no, some))) (moves.moves address).one_way in
           inr (spare hit, omega (arith, before, fits-in address (balance_seen seen address) taken brought none some (moves.moves address).possible)))
           (λ (none : brought ≤ 0). inl (omega (arith, none)))
-          (cases_lt 0 brought))
-          (λ (none : any_hit address (roles_of seen) ≡ false). inl (nothing-brought address seen t none))
-          (cases_Bool (any_hit address (roles_of seen)));
+          (cases_lt 0 brought);
       coin_in = is-of cell m.listing.coin_mint seen.coin t.coin_in (right 0 None (omega arith)) moves.mints.coin_in;
       pc_in = is-of cell m.listing.pc_mint seen.pc t.pc_in (right 1 None (omega arith)) moves.mints.pc_in;
       coin_out = is-of cell m.listing.coin_mint seen.coin t.coin_out (right 0 None (omega arith)) moves.mints.coin_out;
@@ -154,36 +121,36 @@ cell-moves seen m t cell moves right spare =
 
 -- ---- what it gets
 
+-- a part of what is brought can be put into a cell of the mint
+can-put : (mint : Address) (amount brought : ℕ) (cell : CellState) → IsOf mint amount cell → (brought ≡ 0) ⊎ (HasSpare cell × (balance_of cell.bytes + brought < 2 ^ 64))
+    → amount ≤ brought → CanPut mint amount cell
+can-put mint amount brought cell (inl none) fits part = inl none
+can-put mint amount brought cell (inr is) (inl none) part = inl (omega (arith, none, part))
+can-put mint amount brought cell (inr is) (inr can) part = inr (can.0, is, omega (arith, can.1, part))
+
+both-of : (mint : Address) (one other : ℕ) (cell : CellState) → IsOf mint one cell → IsOf mint other cell → IsOf mint (one + other) cell
+both-of mint one other cell (inl none) (inl nothing) = inl (omega (arith, none, nothing))
+both-of mint one other cell (inr is) of = inr is
+both-of mint one other cell of (inr is) = inr is
+
 gets-one : (seen : Seen) (m : Market) (t : Transfers) (cell : CellState) → is_same m.listing.coin_mint m.listing.pc_mint ≡ false → CellMoves seen m t cell
     → CanGet m.listing.coin_mint m.listing.pc_mint (amount_at cell.address seen.coin t.coin_out) (got_at seen t.pc_out t.referrer_out cell) cell
 gets-one seen m t cell apart moves =
     let coin : Address = m.listing.coin_mint in
     let pc : Address = m.listing.pc_mint in
-    let mint : Address = (wallet_words cell.bytes).mint in
     let first : ℕ = amount_at cell.address seen.coin t.coin_out in
-    let second : ℕ = amount_at cell.address seen.pc t.pc_out in
-    let third : ℕ = amount_at cell.address seen.referrer t.referrer_out in
-    let other : coin ≡ mint → pc ≡ mint → ⊥ = λ (a : coin ≡ mint) (b : pc ≡ mint).
-    false≢true (sym apart ∙ ap (is_same coin) (b ∙ sym a) ∙ is_same-refl coin) in
+    let others : ℕ = got_at seen t.pc_out t.referrer_out cell in
+    let brought : ℕ = brought_to seen t cell.address in
+    let of_pc : IsOf pc others cell =
+    both-of pc (amount_at cell.address seen.pc t.pc_out) (amount_at cell.address seen.referrer t.referrer_out) cell moves.pc_out moves.referrer_out in
     ⊎_elim
-    (λ (none : brought_to seen t cell.address ≡ 0). inl (omega (arith, none), inl (omega (arith, none))))
-    (λ (can : HasSpare cell × (balance_of cell.bytes + brought_to seen t cell.address < 2 ^ 64)).
+    (λ (no_coin : first ≡ 0). inl (no_coin, can-put pc others brought cell of_pc moves.fits (omega arith)))
+    (λ (is_coin : coin ≡ (wallet_words cell.bytes).mint).
     ⊎_elim
-    (λ (no_coin : first ≡ 0).
-    inl (
-      no_coin,
-      ⊎_elim
-          (λ (no_pc : second ≡ 0).
-          ⊎_elim (λ (no_referrer : third ≡ 0). inl (omega (arith, no_pc, no_referrer))) (λ (is : pc ≡ mint). inr (can.0, is, omega (arith, can.1, no_coin))) moves.referrer_out)
-          (λ (is : pc ≡ mint). inr (can.0, is, omega (arith, can.1, no_coin)))
-          moves.pc_out,
-    ))
-    (λ (is_coin : coin ≡ mint).
-    let no_pc : second ≡ 0 = ⊎_elim (λ (no : second ≡ 0). no) (λ (is : pc ≡ mint). absurd (other is_coin is)) moves.pc_out in
-    let no_referrer : third ≡ 0 = ⊎_elim (λ (no : third ≡ 0). no) (λ (is : pc ≡ mint). absurd (other is_coin is)) moves.referrer_out in
-    inr (omega (arith, no_pc, no_referrer), inr (can.0, is_coin, omega (arith, can.1, no_pc, no_referrer))))
-    moves.coin_out)
-    moves.fits
+    (λ (no_pc : others ≡ 0). inr (no_pc, can-put coin first brought cell moves.coin_out moves.fits (omega arith)))
+    (λ (is_pc : pc ≡ (wallet_words cell.bytes).mint). absurd (false≢true (sym apart ∙ ap (is_same coin) (is_pc ∙ sym is_coin) ∙ is_same-refl coin)))
+    of_pc)
+    moves.coin_out
 
 -- after it paid
 pub gets-after : (row : PlainRow) (seen : Seen) (m : Market) (t : Transfers) (cell : CellState) → is_same m.listing.coin_mint m.listing.pc_mint ≡ false → CellMoves seen m t cell
@@ -211,17 +178,12 @@ gets-after row seen m t cell apart moves =
 
 pub paid-debit : (row : PlainRow) (seen : Seen) (t : Transfers) (cell : CellState) → 0 < taken_from seen t cell.address → brought_to seen t cell.address ≡ 0
     → cell_paid row seen t cell ≡ cell_moved row Debit (taken_from seen t cell.address) cell
-paid-debit row seen t cell some none = debited (taken_from seen t cell.address) refl some
-  where
-    debited : (n : ℕ) → taken_from seen t cell.address ≡ n → 0 < n → cell_paid row seen t cell ≡ cell_moved row Debit (taken_from seen t cell.address) cell
-    debited zero is lt = absurd (omega arith)
-    debited (suc n) is lt =
-        let paid : CellState = cell_debited row seen t.coin_in t.pc_in cell in
-        let moved : paid ≡ cell_moved row Debit (suc n) cell = ap (λ (x : ℕ). moved_some row Debit x cell) is in
-        let stays : paid.address ≡ cell.address = moved_some-address row Debit (paid_at seen t.coin_in t.pc_in cell) cell in
-        let nothing : amount_at paid.address seen.coin t.coin_out + got_at seen t.pc_out t.referrer_out paid ≡ 0 =
-        ap (λ (a : Address). amount_at a seen.coin t.coin_out + (amount_at a seen.pc t.pc_out + amount_at a seen.referrer t.referrer_out)) stays ∙ omega (arith, none) in
-        ap (λ (x : ℕ). moved_some row Credit x paid) nothing ∙ moved ∙ ap (λ (x : ℕ). cell_moved row Debit x cell) (sym is)
+paid-debit row seen t cell some none =
+    let paid : CellState = cell_debited row seen t.coin_in t.pc_in cell in
+    let stays : paid.address ≡ cell.address = moved_some-address row Debit (paid_at seen t.coin_in t.pc_in cell) cell in
+    let nothing : amount_at paid.address seen.coin t.coin_out + got_at seen t.pc_out t.referrer_out paid ≡ 0 =
+    ap (λ (a : Address). amount_at a seen.coin t.coin_out + (amount_at a seen.pc t.pc_out + amount_at a seen.referrer t.referrer_out)) stays ∙ omega (arith, none) in
+    ap (λ (x : ℕ). moved_some row Credit x paid) nothing ∙ moved_some-some row Debit (taken_from seen t cell.address) cell some
 
 pub paid-not : (row : PlainRow) (seen : Seen) (t : Transfers) (cell : CellState) → taken_from seen t cell.address ≡ 0
     → cell_paid row seen t cell ≡ moved_some row Credit (brought_to seen t cell.address) cell

@@ -1,70 +1,20 @@
 -- A row behind one that shares nothing with it: it sees the same, and can act as before.
-use Rattle.std.proofs.Common.{◌≡◌, ℕ, ◌<◌, Bool, true, cond, List, [], ◌∷◌, get_or, length, map, Option, Some, None, refl, sym, ap, ◌∙◌, subst, arith}
+use Rattle.std.proofs.Common.{◌≡◌, ℕ, ◌<◌, Bool, true, cond, List, [], ◌∷◌, length, map, Option, Some, None, sym, ap, ◌∙◌, subst, arith}
+use Rattle.dex_world.proofs.Common.{All-cons, All-head, All-nil, All-tail, Market, PlainRow, Seen, Transfers, WalletEntry, WalletState, World, acted, is_same, is_same-refl, movement_of, names, row_step, seen_by, wallet_acted, wallet_moved}
 use Rattle.std.specs.List.{All}
-use Rattle.std.proofs.lemmas.List.{get_or-map, length-map}
-use Rattle.std.proofs.lemmas.List.Elements.{All-cons, All-head, All-nil, All-tail}
-use Rattle.dex_types.specs.declared.addresses.Address.{Address}
-use Rattle.dex_types.specs.declared.movements.WalletEntry.{WalletEntry}
-use Rattle.dex_types.specs.declared.rows.Seen.{Seen}
-use Rattle.dex_types.specs.Addresses.{is_same}
-use Rattle.dex_types.specs.Market.{Market}
-use Rattle.dex_types.specs.Rows.{PlainRow}
-use Rattle.dex_types.specs.Transfers.{Transfers}
-use Rattle.dex_types.specs.Wallets.{movement_of}
-use Rattle.dex_laws.proofs.TraderLaws.{is_same-refl}
-use Rattle.dex_history.specs.Journal.{row_step}
 use Rattle.dex_accounts.specs.Decoded.{market_in}
-use Rattle.dex_types.specs.Accounts.{PlainMarketAccounts}
 use Rattle.dex_wallet.specs.CellState.{CellState, HasSpare}
 use Rattle.dex_cell.specs.CellState.{MarketCellState, market_at}
-use Rattle.dex_world.specs.Fold.{acted, names, wallet_acted, wallet_moved}
 use Rattle.dex_world.specs.Items.{ShareNothing, doing}
 use Rattle.dex_world.specs.World as world
-use Rattle.dex_world.specs.World.{WalletState, World, seen_by}
 use Rattle.dex_world.proofs.FarLaws.{seen-far}
-use Rattle.dex_world.proofs.MappedLists.{item_at, map-map}
+use Rattle.dex_world.proofs.MappedLists.{map-map}
 use Rattle.dex_act.specs.declared.places.WalletPlaces.{WalletPlaces}
-use Rattle.dex_act.specs.Steps.{Terms}
 use Rattle.dex_act.specs.Acted.{HaveActed}
-use Rattle.dex_act.specs.Steps.{CanStep, world_in_hand}
-use Rattle.dex_act.specs.Wallets.{ArePlacesAmong, IsRoleAt, made_of, wallet_state_of}
-
--- ---- no row moves a cell
-
--- lists of the same addresses have the same one at each place
-pub same-at : {A : Type 0} (of : A → Address) (xs ys : List A) → map of ys ≡ map of xs → (place : ℕ) (default : A) → place < length xs
-    → (place < length ys) × (of (get_or ys place default) ≡ of (get_or xs place default))
-same-at of xs ys same place default within =
-    let long : length ys ≡ length xs = sym (length-map ys of) ∙ ap (λ (addresses : List Address). length addresses) same ∙ length-map xs of in
-    let within_ys : place < length ys = omega (arith, within, long) in (
-      within_ys,
-      sym (get_or-map of ys place default (of default) within_ys)
-          ∙ ap (λ (addresses : List Address). get_or addresses place (of default)) same
-          ∙ get_or-map of xs place default (of default) within,
-    )
-
--- so the wallets of a row stand where they stood
-module _ (before after : List CellState) (made : map made_of after ≡ map made_of before) where
-  abbrev address_in : CellState → Address
-  address_in cell = cell.address
-
-  same-addresses : map address_in after ≡ map address_in before
-  same-addresses = sym (map-map made_of address_in after) ∙ ap (map address_in) made ∙ map-map made_of address_in before
-
-  role-still : (role : Option Address) (place : ℕ) → IsRoleAt before role place → IsRoleAt after role place
-  role-still None place at = tt
-  role-still (Some address) place at = record {
-    within = (same-at address_in before after same-addresses place (item_at before place at.within) at.within).0;
-    here = λ default. ap (is_same address) (same-at address_in before after same-addresses place default at.within).1 ∙ at.here default;
-  }
-
-  places-still : (row : PlainRow) (places : WalletPlaces) → ArePlacesAmong before row places → ArePlacesAmong after row places
-  places-still row places at = record {
-    coin = role-still row.coin places.coin at.coin;
-    pc = role-still row.pc places.pc at.pc;
-    discount = role-still row.discount places.discount at.discount;
-    referrer = role-still row.referrer places.referrer at.referrer;
-  }
+use Rattle.dex_act.specs.Steps.{CanStep, Terms, world_in_hand}
+use Rattle.dex_act.specs.Wallets.{made_of, wallet_state_of}
+use Rattle.dex_act.proofs.CellLists.{address_in, all-still}
+pub use Rattle.dex_act.proofs.CellLists.{same-at}
 
 -- ---- behind a row that shares nothing with it
 
@@ -124,22 +74,21 @@ module _ (first second : PlainRow) (share : ShareNothing first second) (waits : 
   all-spare _ _ states alike spare = absurd (omega (arith, ap length alike))
 
   pub can-behind : HasMoved → (places : WalletPlaces) (market : MarketCellState) → CanStep second places market before → CanStep second places market after
-  can-behind acts places market can = record {
-    on = can.on;
-    market = can.market;
-    spare = can.spare;
-    wallets = record {
-      apart = acts.apart;
-      kept = acts.kept;
-      spare = all-spare before after acts.states acts.made can.wallets.spare;
-      at = places-still before after acts.made second places can.wallets.at;
-    };
-  }
+  can-behind acts places market can =
+      let same : map address_in after ≡ map address_in before = sym (map-map made_of address_in after) ∙ ap (map address_in) acts.made ∙ map-map made_of address_in before in
+      record {
+        on = can.on;
+        market = can.market;
+        spare = can.spare;
+        wallets = record {
+          apart = acts.apart;
+          kept = acts.kept;
+          spare = all-spare before after acts.states acts.made can.wallets.spare;
+          at = all-still before after same can.wallets.at;
+        };
+      }
 
 -- the market of a row is at its address
-listing-address : (accounts : PlainMarketAccounts) → (market_in accounts).listing.address ≡ accounts.address
-unfolding market_in
-listing-address accounts = refl
-
 pub listed : (row : PlainRow) (market : MarketCellState) → row.market ≡ market.accounts.address → is_same row.market (market_at market).listing.address ≡ true
-listed row market on = ap (is_same row.market) (listing-address market.accounts ∙ sym on) ∙ is_same-refl row.market
+unfolding market_in
+listed row market on = ap (is_same row.market) (sym on) ∙ is_same-refl row.market

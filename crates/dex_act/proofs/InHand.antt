@@ -1,13 +1,8 @@
 -- Where the wallets of a row stand among cells in hand that are those of its wallets, in their order.
-use Rattle.std.proofs.Common.{◌≡◌, ℕ, ◌<◌, List, [], ◌∷◌, length, map, Option, Some, None, sym, ap, ◌∙◌, arith}
+use Rattle.std.proofs.Common.{◌≡◌, ℕ, ◌<◌, List, length, map, Option, Some, None, sym, ap, ◌∙◌, arith}
+use Rattle.dex_world.proofs.Common.{Address, PlainRow, get_or-map, is_same, length-map, row_wallets}
 use Rattle.std.specs.List.{position}
-use Rattle.std.proofs.lemmas.List.{get_or-map, length-map}
 use Rattle.std.proofs.lemmas.List.Quantifiers.{position-Some}
-use Rattle.std.proofs.lemmas.Option.{none-some}
-use Rattle.dex_types.specs.declared.addresses.Address.{Address}
-use Rattle.dex_types.specs.Addresses.{is_same}
-use Rattle.dex_types.specs.Rows.{PlainRow}
-use Rattle.dex_types.specs.Wallets.{row_wallets}
 use Rattle.dex_wallet.specs.CellState.{CellState}
 use Rattle.dex_world.specs.declared.places.RowWallets.{RowWallets}
 use Rattle.dex_world.specs.Places.{AreWalletsAt, IsIndexOf}
@@ -15,15 +10,11 @@ use Rattle.dex_act.specs.Wallets.{ArePlacesAmong, IsAt, IsRoleAt, cell_place, ha
 
 -- a cell stands at its place
 pub stands-at : (address : Address) (cells : List CellState) (place : ℕ) → cell_place address cells ≡ Some place → IsAt address cells place
-stands-at address [] place is = absurd (none-some place is)
-stands-at address (first ∷ others) place is =
+stands-at address cells place is =
     let key : CellState → Address = λ cell. cell.address in
-    let told = position-Some (is_same address) (map key (first ∷ others)) place first.address is in
-    let within : place < length (first ∷ others) = omega (arith, told.0, length-map (first ∷ others) key) in
-    record {
-      within = within;
-      here = λ default. ap (is_same address) (sym (get_or-map key (first ∷ others) place default first.address within)) ∙ told.1;
-    }
+    let told = position-Some (is_same address) (map key cells) place address is in
+    let within : place < length cells = omega (arith, told.0, length-map cells key) in
+    record { within = within; here = λ default. ap (is_same address) (sym (get_or-map key cells place default address within)) ∙ told.1 }
 
 -- the cell of a role's wallet stands at its index among these addresses
 pub role-in-hand : (cells : List CellState) (addresses : List Address) (role : Option Address) (index : ℕ)

@@ -1,26 +1,19 @@
 -- What a row takes from cells and brings to them.
-use Rattle.std.proofs.Common.{◌≡◌, ℕ, zero, suc, ◌+◌, ◌<◌, ◌^◌, ◌⊎◌, inl, inr, Bool, true, false, cond, List, [], ◌∷◌, map, set, get_or, Option, Some, None, refl, sym, ap, ◌∙◌, subst, arith, ⊎_elim}
+use Rattle.std.proofs.Common.{◌≡◌, ℕ, zero, suc, ◌+◌, ◌<◌, ◌^◌, ◌⊎◌, inl, inr, Bool, true, false, cond, List, map, set, get_or, Option, Some, None, refl, sym, ap, ◌∙◌, subst, arith, ⊎_elim}
+use Rattle.dex_world.proofs.Common.{Address, All-map, PlainRow, Seen, WalletSeen, cases_Bool, cond-false, cond-true, false≢true, is_same, is_same-sym, is_same-true}
 use Rattle.std.specs.List.{All}
 use Rattle.std.proofs.Math.Dec.{eqb-suc-zero}
-use Rattle.std.proofs.lemmas.List.Elements.{All-get_or, All-map}
-use Rattle.std.proofs.lemmas.Bool.{cases_Bool, cond-true, cond-false, false≢true}
-use Rattle.dex_types.specs.declared.addresses.Address.{Address}
 use Rattle.dex_types.specs.declared.movements.MoveKind.{MoveKind}
 use Rattle.dex_types.specs.declared.movements.MoveKind.TheVariants.{Debit, Credit}
-use Rattle.dex_types.specs.declared.rows.Seen.{Seen}
-use Rattle.dex_types.specs.declared.rows.WalletSeen.{WalletSeen}
-use Rattle.dex_types.specs.Addresses.{is_same}
-use Rattle.dex_types.specs.Rows.{PlainRow}
 use Rattle.dex_types.specs.Wallets.{address_seen, amount_at}
 use Rattle.dex_token.specs.TokenAccount.{wallet_words}
-use Rattle.dex_laws.proofs.TraderLaws.{is_same-true, is_same-sym}
-use Rattle.dex_wallet.specs.CellState.{CellState, HasSpare, balance_of}
+use Rattle.dex_wallet.specs.CellState.{CellState}
 use Rattle.dex_wallet.specs.TokenAmount.{TokenAmount}
 use Rattle.dex_cell.specs.Paying.{parcel_of}
-use Rattle.dex_world.proofs.MappedLists.{map-agree, map-map}
+use Rattle.dex_world.proofs.MappedLists.{item_at, map-agree, map-map}
 use Rattle.dex_act.specs.declared.places.WalletPlaces.{WalletPlaces}
 use Rattle.dex_act.specs.Wallets.{AreApart, CanCredit, CanGet, CanPay, CanPut, CanTake, IsAt, IsOf, IsRoleAt, NamesFor, amount_in, cell_credited, cell_debited, cell_moved, got_at, is_one, moved_some, pc_credited, role_moved}
-use Rattle.dex_act.proofs.CellLists.{amount_at-nothing, at-any, map-same, moved-here, role_moved-address, role_moved-nothing}
+use Rattle.dex_act.proofs.CellLists.{moved-here, none-at, role_moved-address, role_moved-nothing}
 
 -- ---- parcels
 
@@ -52,22 +45,18 @@ role-at role amount cells place some (inr named) at =
     record { wallet = named.0; is = named.1; at = subst (λ (r : Option WalletSeen). IsRoleAt cells (address_seen r) place) named.1 at }
 
 -- what was taken from it is a parcel of its mint
-pub parcel-here : (mint : Address) (role : Option WalletSeen) (wallet : WalletSeen) (amount : ℕ) (cells : List CellState) (place : ℕ) (parcel : TokenAmount) → role ≡ Some wallet
-    → 0 < amount → IsAt wallet.address cells place
-    → ((default : CellState) → parcel ≡ record { mint = (wallet_words (get_or cells place default).bytes).mint; amount = amount })
+pub parcel-here : (mint : Address) (role : Option WalletSeen) (wallet : WalletSeen) (amount : ℕ) (cells : List CellState) (place : ℕ) (default : CellState) (parcel : TokenAmount)
+    → role ≡ Some wallet → 0 < amount → IsAt wallet.address cells place
+    → parcel ≡ record { mint = (wallet_words (get_or cells place default).bytes).mint; amount = amount }
     → All (λ (cell : CellState). IsOf mint (amount_at cell.address role amount) cell) cells → Some parcel ≡ parcel_of mint amount
-parcel-here mint role wallet amount [] place parcel is some at taken of = absurd (omega (arith, at.within))
-parcel-here mint role wallet amount (first ∷ others) place parcel is some at taken of =
-    let cells : List CellState = first ∷ others in
-    let here : CellState = get_or cells place first in
-    let whole : amount_at here.address role amount ≡ amount = amount-own here.address role wallet amount is (at.here first) in
-    let own : IsOf mint (amount_at here.address role amount) here =
-    All-get_or (λ (cell : CellState). IsOf mint (amount_at cell.address role amount) cell) cells place first at.within of in
+parcel-here mint role wallet amount cells place default parcel is some at taken of =
+    let here : CellState = get_or cells place default in
+    let whole : amount_at here.address role amount ≡ amount = amount-own here.address role wallet amount is (at.here default) in
     let right : mint ≡ (wallet_words here.bytes).mint =
     ⊎_elim (λ (none : amount_at here.address role amount ≡ 0). absurd (omega (arith, whole, none, some)))
-    (λ (one : mint ≡ (wallet_words here.bytes).mint). one) own in
+    (λ (one : mint ≡ (wallet_words here.bytes).mint). one) (of place default at.within) in
     let of_mint : Address → Option TokenAmount = λ m. Some (record { mint = m; amount = amount }) in
-    ap (λ (p : TokenAmount). Some p) (taken first) ∙ ap of_mint (sym right) ∙ sym (parcel_of-some mint amount some)
+    ap (λ (p : TokenAmount). Some p) taken ∙ ap of_mint (sym right) ∙ sym (parcel_of-some mint amount some)
 
 -- the cell of a role's wallet, with a parcel more
 pub credited-here : (row : PlainRow) (role : Option WalletSeen) (given : Option TokenAmount) (parcel : TokenAmount) (cells new : List CellState) (place : ℕ)
@@ -77,8 +66,7 @@ pub credited-here : (row : PlainRow) (role : Option WalletSeen) (given : Option 
 credited-here row role given parcel cells new place is apart can at default moved =
     let may : CanCredit role (Some parcel) cells = subst (λ (p : Option TokenAmount). CanCredit role p cells) is can in
     let here = role-at role parcel.amount cells place may.0 may.1 at in
-    moved-here row Credit role here.wallet parcel.amount cells new place here.is may.0 apart here.at
-    (at-any (cell_moved row Credit parcel.amount) cells new place default here.at.within moved)
+    moved-here row Credit role here.wallet parcel.amount cells new place here.is may.0 apart here.at default moved
     ∙ ap (λ (p : Option TokenAmount). map (role_moved row Credit role (amount_in p)) cells) (sym is)
 
 -- a parcel that is put in is one that can be
@@ -105,14 +93,19 @@ moved-twice row kind first second cell (inr none) =
     let all : first ≡ first + second = omega (arith, none) in
     ap (λ (n : ℕ). moved_some row kind n (moved_some row kind first cell)) none ∙ ap (λ (n : ℕ). moved_some row kind n cell) all
 
--- after the movement of a role
-pub later-moved : (row : PlainRow) (kind : MoveKind) (role : Option WalletSeen) (amount : ℕ) (later : Address → ℕ) (cell : CellState)
-    → (amount_at cell.address role amount ≡ 0) ⊎ (later cell.address ≡ 0)
-    → moved_some row kind (later (role_moved row kind role amount cell).address) (role_moved row kind role amount cell)
-    ≡ moved_some row kind (amount_at cell.address role amount + later cell.address) cell
-later-moved row kind role amount later cell one =
-    ap (λ (a : Address). moved_some row kind (later a) (role_moved row kind role amount cell)) (role_moved-address row kind role amount cell)
-    ∙ moved-twice row kind (amount_at cell.address role amount) (later cell.address) cell one
+-- after the movement of a role, on all cells
+pub moved-together : (row : PlainRow) (kind : MoveKind) (role : Option WalletSeen) (amount : ℕ) (later : Address → ℕ) (cells : List CellState)
+    → All (λ (cell : CellState). (amount_at cell.address role amount ≡ 0) ⊎ (later cell.address ≡ 0)) cells
+    → map (λ (cell : CellState). moved_some row kind (later cell.address) cell) (map (role_moved row kind role amount) cells)
+    ≡ map (λ (cell : CellState). moved_some row kind (amount_at cell.address role amount + later cell.address) cell) cells
+moved-together row kind role amount later cells one =
+    let moved : CellState → CellState = role_moved row kind role amount in
+    map-map moved (λ (cell : CellState). moved_some row kind (later cell.address) cell) cells
+    ∙ map-agree (λ (cell : CellState). moved_some row kind (later (moved cell).address) (moved cell))
+    (λ (cell : CellState). moved_some row kind (amount_at cell.address role amount + later cell.address) cell) cells (λ k default lt.
+    let cell : CellState = get_or cells k default in
+    ap (λ (a : Address). moved_some row kind (later a) (moved cell)) (role_moved-address row kind role amount cell)
+    ∙ moved-twice row kind (amount_at cell.address role amount) (later cell.address) cell (one k default lt))
 
 -- ---- what wallets pay
 
@@ -121,10 +114,6 @@ pub second-All : (row : PlainRow) (seen : Seen) (coin pc : ℕ) (cells : List Ce
     → (pc ≡ 0 → (cell : CellState) → P cell) → All P (map (role_moved row Debit seen.coin coin) cells)
 second-All row seen coin pc cells P (inl none) all otherwise = subst (All P) (sym (role_moved-nothing row Debit seen.coin coin cells none)) all
 second-All row seen coin pc cells P (inr none) all otherwise = λ k default lt. otherwise none (get_or (map (role_moved row Debit seen.coin coin) cells) k default)
-
--- nothing under a role
-pub none-at : (address : Address) (role : Option WalletSeen) (amount : ℕ) → amount ≡ 0 → amount_at address role amount ≡ 0
-none-at address role amount none = ap (amount_at address role) none ∙ amount_at-nothing address role
 
 pub second-can : (row : PlainRow) (seen : Seen) (coin pc : ℕ) (cells : List CellState) (places : WalletPlaces) → CanPay seen places coin pc cells
     → All (λ (cell : CellState). CanTake (amount_at cell.address seen.pc pc) cell) (map (role_moved row Debit seen.coin coin) cells)
@@ -136,10 +125,9 @@ second-can row seen coin pc cells places can =
 pub debited-together : (row : PlainRow) (seen : Seen) (coin pc : ℕ) (cells : List CellState) → (coin ≡ 0) ⊎ (pc ≡ 0)
     → map (role_moved row Debit seen.pc pc) (map (role_moved row Debit seen.coin coin) cells) ≡ map (cell_debited row seen coin pc) cells
 debited-together row seen coin pc cells one =
-    map-map (role_moved row Debit seen.coin coin) (role_moved row Debit seen.pc pc) cells
-    ∙ map-same (λ cell. role_moved row Debit seen.pc pc (role_moved row Debit seen.coin coin cell)) (cell_debited row seen coin pc) cells (λ cell.
-    later-moved row Debit seen.coin coin (λ a. amount_at a seen.pc pc) cell
-    (⊎_elim (λ (none : coin ≡ 0). inl (none-at cell.address seen.coin coin none)) (λ (none : pc ≡ 0). inr (none-at cell.address seen.pc pc none)) one))
+    moved-together row Debit seen.coin coin (λ a. amount_at a seen.pc pc) cells (λ k default lt.
+    let address : Address = (get_or cells k default).address in
+    ⊎_elim (λ (none : coin ≡ 0). inl (none-at address seen.coin coin none)) (λ (none : pc ≡ 0). inr (none-at address seen.pc pc none)) one)
 
 -- ---- what they are paid
 
@@ -173,24 +161,18 @@ pub fits-together : (first second : Option WalletSeen) (a b : ℕ) (mint : Addre
     → IsRoleAt cells (address_seen first) place
     → All (λ (cell : CellState). CanPut mint (amount_at cell.address first a + amount_at cell.address second b) cell) cells → a + b < 2 ^ 64
 fits-together None second a b mint cells place one at each = absurd (false≢true one)
-fits-together (Some wallet) second a b mint [] place one at each = absurd (omega (arith, at.within))
-fits-together (Some wallet) second a b mint (start ∷ others) place one at each =
-    let cells : List CellState = start ∷ others in
-    let P : CellState → Type 0 = λ cell. CanPut mint (amount_at cell.address (Some wallet) a + amount_at cell.address second b) cell in
+fits-together (Some wallet) second a b mint cells place one at each =
+    let start : CellState = item_at cells place at.within in
     let cell : CellState = get_or cells place start in
     let whole : amount_at cell.address (Some wallet) (a + b) ≡ a + b = amount-own cell.address (Some wallet) wallet (a + b) refl (at.here start) in
     let split : amount_at cell.address (Some wallet) (a + b) ≡ amount_at cell.address (Some wallet) a + amount_at cell.address second b =
     one-amount cell.address (Some wallet) second a b one in
-    ⊎_elim (λ (none : amount_at cell.address (Some wallet) a + amount_at cell.address second b ≡ 0). omega (arith, whole, split, none))
-    (λ (some : HasSpare cell × (mint ≡ (wallet_words cell.bytes).mint) × (balance_of cell.bytes + (amount_at cell.address (Some wallet) a + amount_at cell.address second b) < 2 ^ 64)). omega (arith, whole, split, some.2))
-    (All-get_or P cells place start at.within each)
+    ⊎_elim (λ none. omega (arith, whole, split, none)) (λ some. omega (arith, whole, split, some.2)) (each place start at.within)
 
 pub credited-apart : (row : PlainRow) (seen : Seen) (a b : ℕ) (cells : List CellState) → is_one seen.pc seen.referrer ≡ false
     → map (role_moved row Credit seen.referrer b) (map (role_moved row Credit seen.pc a) cells) ≡ map (pc_credited row seen a b) cells
 credited-apart row seen a b cells apart =
-    map-map (role_moved row Credit seen.pc a) (role_moved row Credit seen.referrer b) cells
-    ∙ map-same (λ cell. role_moved row Credit seen.referrer b (role_moved row Credit seen.pc a cell)) (pc_credited row seen a b) cells (λ cell.
-    later-moved row Credit seen.pc a (λ x. amount_at x seen.referrer b) cell (apart-amounts cell.address seen.pc seen.referrer a b apart))
+    moved-together row Credit seen.pc a (λ x. amount_at x seen.referrer b) cells (λ k default lt. apart-amounts (get_or cells k default).address seen.pc seen.referrer a b apart)
 
 -- what can be put into a cell can be after the movement of a role, where one of them is nothing
 put-after : (row : PlainRow) (role : Option WalletSeen) (amount : ℕ) (mint : Address) (later : Address → ℕ) (cell : CellState)
@@ -229,7 +211,5 @@ pub credited-together : (row : PlainRow) (seen : Seen) (coin pc referrer : ℕ) 
     → All (λ (cell : CellState). CanGet coin_mint pc_mint (amount_at cell.address seen.coin coin) (got_at seen pc referrer cell) cell) cells
     → map (pc_credited row seen pc referrer) (map (role_moved row Credit seen.coin coin) cells) ≡ map (cell_credited row seen coin pc referrer) cells
 credited-together row seen coin pc referrer coin_mint pc_mint cells each =
-    map-map (role_moved row Credit seen.coin coin) (pc_credited row seen pc referrer) cells
-    ∙ map-agree (λ cell. pc_credited row seen pc referrer (role_moved row Credit seen.coin coin cell)) (cell_credited row seen coin pc referrer) cells (λ k default lt.
-    later-moved row Credit seen.coin coin (λ x. amount_at x seen.pc pc + amount_at x seen.referrer referrer) (get_or cells k default)
-    (⊎_elim (λ can. inl can.0) (λ can. inr can.0) (each k default lt)))
+    moved-together row Credit seen.coin coin (λ x. amount_at x seen.pc pc + amount_at x seen.referrer referrer) cells
+    (λ k default lt. ⊎_elim (λ can. inl can.0) (λ can. inr can.0) (each k default lt))

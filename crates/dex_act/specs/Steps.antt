@@ -81,6 +81,16 @@ pub record CanStepBoth (terms : Terms) (legs : Legs) (first second : MarketCellS
 abbrev pub made_by : Bool → PlainRow → Seen → Market → Call
 made_by waits row seen m = record (call_made (doing waits row) seen m) { asked = asked_of row }
 
+-- a row entered its market's journal: its call stands after the others, the accounts are those of the market after its
+-- step, or as they were where it is refused or held back, and this is a cell again
+pub record HasEntered (row : PlainRow) (waits : Bool) (seen : Seen) (before after : MarketCellState) : Type 0 where
+  pub calls : after.calls ≡ before.calls ++ made_by waits row seen (market_at before) ∷ []
+  pub market : market_at after ≡ (row_step (doing waits row) seen (market_at before)).market
+  pub kept : IsMarketCell after
+  pub start : after.start ≡ before.start
+  pub room : after.room ≡ before.room
+  pub refused : (waits || is_refusal (row_step (doing waits row) seen (market_at before)).reply) ≡ true → after.accounts ≡ before.accounts
+
 -- a row acted, or was held back, on a market and on the wallets that it names, and this was its reply
 pub record HasDone (row : PlainRow) (waits : Bool) (seen : Seen) (answer : Reply) (before after : MarketCellState)
     (cells left : List CellState) : Type 0 where

@@ -14,14 +14,16 @@ use Rattle.dex_types.specs.Addresses.{is_same}
 use Rattle.dex_types.specs.Rows.{PlainRow, row_of}
 use Rattle.dex_types.specs.Transfers.{Transfers}
 use Rattle.dex_types.specs.Wallets.{address_seen, amount_at, movements}
-use Rattle.dex_history.specs.Journal.{front, places}
+use Rattle.dex_history.specs.Journal.{front, places, row_step}
 use Rattle.dex_token.specs.TokenAccount.{wallet_words}
 use Rattle.dex_movements.specs.Amounts.{is_probe}
 use Rattle.dex_wallet.specs.CellState.{CellState, HasSpare, IsWalletCell, balance_of, moved_by, new_cell, seen_of}
 use Rattle.dex_wallet.specs.TokenAmount.{TokenAmount}
 use Rattle.dex_cell.specs.CellState as market_cell
-use Rattle.dex_cell.specs.CellState.{IsFor, IsMarketCell, MarketCellState, step_on}
+use Rattle.dex_cell.specs.CellState.{IsFor, IsMarketCell, MarketCellState, market_at}
 use Rattle.dex_cell.specs.Paying.{parcel_of}
+use Rattle.dex_world.specs.Fold.{is_role}
+use Rattle.dex_world.specs.Items.{doing}
 use Rattle.dex_world.specs.Places.{place_at}
 use Rattle.dex_world.specs.World.{WalletState}
 use Rattle.dex_act.specs.declared.places.WalletPlaces.{WalletPlaces}
@@ -132,11 +134,6 @@ CanPut mint amount cell =
 -- nothing moves under a role, or it names a wallet
 abbrev pub NamesFor : ℕ → Option WalletSeen → Type 0
 NamesFor amount role = (amount ≡ 0) ⊎ ((wallet : WalletSeen) × (role ≡ Some wallet))
-
--- the cell that a role names is among these
-abbrev pub IsHome : List CellState → Option WalletSeen → Type 0
-IsHome cells None = Unit {0}
-IsHome cells (Some wallet) = is_among wallet.address cells ≡ true
 
 -- nothing moves, or the cell is of this mint
 abbrev pub IsOf : Address → ℕ → CellState → Type 0
@@ -264,16 +261,16 @@ cell_paid row seen t cell =
 abbrev pub cell_acted : PlainRow → Seen → Transfers → CellState → CellState
 cell_acted row seen t cell = moves_probed row (front (places (movements seen t))) (cell_paid row seen t cell)
 
--- the cells of wallets after what a row takes and brings, where its market's cell is this
-abbrev pub cells_paid : Row → Seen → MarketCellState → List CellState → List CellState
-cells_paid row seen market cells = map (cell_paid (row_of row) seen (step_on row seen market).transfers) cells
+-- the cells of wallets after what a row takes and brings, or where it waits, where its market's cell is this
+abbrev pub cells_paid : Bool → Row → Seen → MarketCellState → List CellState → List CellState
+cells_paid waits row seen market cells =
+    map (cell_paid (row_of row) seen (row_step (doing waits (row_of row)) seen (market_at market)).transfers) cells
 
 -- ---- what a row sees of cells
 
 -- a role's wallet is at the address
 abbrev pub hits : Address → Option WalletSeen → Bool
-hits address None = false
-hits address (Some wallet) = is_same address wallet.address
+hits address role = is_role (address_seen role) address
 
 -- one of these roles' wallets is at the address
 abbrev pub any_hit : Address → List (Option WalletSeen) → Bool
@@ -313,7 +310,6 @@ pub record SeesCells (seen : Seen) (cells : List CellState) : Type 0 where
   pub apart : AreApart cells
   pub kept : All IsWalletCell cells
   pub right : All (λ (cell : CellState). All (IsRight cell) (roles_of seen)) cells
-  pub home : All (IsHome cells) (roles_of seen)
   pub fits : All Fits (roles_of seen)
   pub spare : All (λ (cell : CellState). any_hit cell.address (roles_of seen) ≡ true → HasSpare cell) cells
 

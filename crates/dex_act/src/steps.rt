@@ -9,7 +9,7 @@ ghost use Rattle.dex_act.specs.Steps.{CanStep, CanStepBoth, HasDone, IsStepOn, A
 ghost use Rattle.dex_act.specs.Wallets.{CanActAt};
 
 use crate::places::{Asked, WalletPlaces};
-use crate::rows::{act, hold};
+use crate::rows::act;
 use crate::sight::{nothing_seen, see};
 use dex_cell::MarketCell;
 use dex_process::Terms;
@@ -40,25 +40,6 @@ pub struct RowDone {
     pub reply: Reply,
 }
 
-/// A row acts on its market's cell and on the cells of the wallets that it names, or is held back there.
-fn act_or_hold(
-    market: &mut MarketCell,
-    wallets: &mut [WalletCell],
-    asked: &Asked,
-    waits: bool,
-) -> Reply
-    requires can { CanActAt asked.now.row.now asked.now.seen.now asked.now.places.now market.old wallets.old }
-    requires held { waits ≡ true → CanHold asked.now.row.now asked.now.seen.now market.old }
-    ensures { HasDone (row_of asked.now.row.now) waits asked.now.seen.now result market.old market.new
-        wallets.old wallets.new }
-{
-    if waits {
-        hold(market, wallets, asked)
-    } else {
-        act(market, wallets, asked)
-    }
-}
-
 /// A row acts or is held back, and this is what it did.
 fn done(
     market: &mut MarketCell,
@@ -79,7 +60,7 @@ fn done(
         seen,
         places: &asking.places,
     };
-    let reply = act_or_hold(market, wallets, &asked, waits);
+    let reply = act(market, wallets, &asked, waits);
     RowDone {
         seen: Kept::of(seen),
         entry: Kept::of(market.last()),

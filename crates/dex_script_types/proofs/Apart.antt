@@ -1,13 +1,8 @@
 -- Of accepted accounts no two markets and no two wallets have one address.
-use Rattle.std.proofs.Common.{◌≡◌, ◌≤◌, true, false, List, [], ◌∷◌, ◌++◌, map, arith, refl, ⊎_elim}
+use Rattle.std.proofs.Common.{◌≡◌, ◌+◌, ◌≤◌, false, List, [], ◌∷◌, ◌++◌, map, arith, refl}
+use Rattle.dex_world.proofs.Common.{Address, All-cons, All-nil, PlainAccount, PlainAccounts, PlainMarketAccounts, false_from_ne_true, is_same, is_same-refl}
 use Rattle.std.specs.List.{All, AllPairs, flat_map}
-use Rattle.std.proofs.lemmas.Bool.{cases_Bool}
-use Rattle.std.proofs.lemmas.List.Elements.{All-cons, All-nil}
 use Rattle.std.proofs.lemmas.List.Kept.{AllPairs-cons}
-use Rattle.dex_types.specs.declared.addresses.Address.{Address}
-use Rattle.dex_types.specs.Accounts.{PlainAccount, PlainAccounts, PlainMarketAccounts}
-use Rattle.dex_types.specs.Addresses.{is_same}
-use Rattle.dex_laws.proofs.TraderLaws.{is_same-refl}
 use Rattle.dex_market.specs.MarketAccount.{market_words}
 use Rattle.dex_state.specs.Addresses.{address_of, addresses_of, all_of_market, parts_of, times}
 use Rattle.dex_types.specs.declared.limits.Limits.{Limits}
@@ -34,24 +29,20 @@ times-markets address (first ∷ markets) =
     )
 
 module _ (accounts : PlainAccounts) (address : Address) (once : times address (addresses_of accounts) ≤ 1) where
-  pub market-once : times address (map (λ (market : PlainMarketAccounts). market.address) accounts.markets) ≤ 1
-  market-once =
+  few : times address (map address_of accounts.wallets) + times address (flat_map all_of_market accounts.markets) ≤ 1
+  few =
       omega (
         arith,
         once,
-        times-markets address accounts.markets,
         times-append address (map address_of accounts.mints) (map address_of accounts.wallets ++ flat_map all_of_market accounts.markets),
         times-append address (map address_of accounts.wallets) (flat_map all_of_market accounts.markets),
       )
 
+  pub market-once : times address (map (λ (market : PlainMarketAccounts). market.address) accounts.markets) ≤ 1
+  market-once = omega (arith, few, times-markets address accounts.markets)
+
   pub wallet-once : times address (map address_of accounts.wallets) ≤ 1
-  wallet-once =
-      omega (
-        arith,
-        once,
-        times-append address (map address_of accounts.mints) (map address_of accounts.wallets ++ flat_map all_of_market accounts.markets),
-        times-append address (map address_of accounts.wallets) (flat_map all_of_market accounts.markets),
-      )
+  wallet-once = omega (arith, few)
 
 -- ---- so they are apart
 
@@ -61,10 +52,7 @@ none-of address [] none = All-nil (λ (other : Address). is_same address other �
 none-of address (first ∷ others) none =
     let counted = times-cons address first others in
     All-cons (λ (other : Address). is_same address other ≡ false) first others
-    (⊎_elim
-    (λ (same : is_same address first ≡ true). let once : one address first ≡ 1 = rw same refl in absurd (omega (arith, none, counted, once)))
-    (λ (apart : is_same address first ≡ false). apart)
-    (cases_Bool (is_same address first)))
+    (false_from_ne_true (is_same address first) (λ same. let once : one address first ≡ 1 = rw same refl in omega (arith, none, counted, once)))
     (none-of address others (omega (arith, none, counted)))
 
 -- addresses of which each stands once are distinct

@@ -1,17 +1,13 @@
 -- The wallets of four roles, found by their addresses: where each stands, and which of them each role names.
 use Rattle.std.proofs.Common.{◌≡◌, ◌∙◌, ℕ, zero, suc, ◌+◌, ◌<◌, ◌≤◌, ◌&&◌, Bool, true, false, cond, List, [], ◌∷◌, Option, None, Some, IfSome, MatchOption, ap, arith, get_or, is_some, length, refl, replicate, rules, sym, subst, unwrap_or}
+use Rattle.dex_world.proofs.Common.{Address, false_from_ne_true, false≢true, is_role, is_same, is_same-true}
 use Rattle.std.specs.List.{All, list_any, position, position_from}
-use Rattle.std.proofs.lemmas.Bool.{false_from_ne_true, false≢true}
 use Rattle.std.proofs.lemmas.Iterator.Adapters.{position_from-zero}
 use Rattle.std.proofs.lemmas.List.Elements.{All-head, All-nil, All-replicate, All-tail}
 use Rattle.std.proofs.lemmas.List.Quantifiers.{position-Some}
 use Rattle.std.proofs.lemmas.Option.{MatchOption-at_none, MatchOption-at_some}
-use Rattle.dex_types.specs.declared.addresses.Address.{Address}
-use Rattle.dex_types.specs.Addresses.{is_same}
-use Rattle.dex_laws.proofs.TraderLaws.{is_same-true}
 use Rattle.dex_locks.specs.Places.{AreFree, StandInFront, front}
 use Rattle.dex_locks.proofs.PlaceLaws.{length-roles}
-use Rattle.dex_world.specs.Fold.{is_role}
 use Rattle.dex_world.specs.declared.places.RowWallets.{RowWallets}
 use Rattle.dex_world.specs.Places.{ArePlacesOf, AreWalletsAt, IsIndexOf, wallets_of_roles}
 use Rattle.dex_world.proofs.NameLaws.{roles-among, roles-each}
@@ -72,15 +68,12 @@ module _ (place_of : Address → Option ℕ) where
       ap place_of (is_same-true address (get_or addresses index address) at.1)
       ∙ there addresses places index address are at.0
 
-  none-at : (places : List ℕ) (index : ℕ) → All IsNone places → get_or places index 65535 ≡ 65535
-  none-at [] index none = refl
-  none-at (place ∷ places) zero none = All-head IsNone place places none
-  none-at (place ∷ places) (suc index) none = none-at places index (All-tail IsNone place places none)
-
   behind : (addresses : List Address) (places : List ℕ) (index : ℕ) → ArePlacesOf place_of addresses places
       → length addresses ≤ index
       → get_or places index 65535 ≡ 65535
-  behind [] places index are far = none-at places index are
+  behind [] [] index are far = refl
+  behind [] (place ∷ places) zero are far = All-head IsNone place places are
+  behind [] (place ∷ places) (suc index) are far = behind [] places index (All-tail IsNone place places are) (omega arith)
   behind (first ∷ others) [] index are far = absurd are
   behind (first ∷ others) (place ∷ places) zero are far = absurd (omega (arith, far))
   behind (first ∷ others) (place ∷ places) (suc index) are far = behind others places index are.1 (omega (arith, far))

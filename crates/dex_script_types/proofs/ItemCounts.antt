@@ -1,12 +1,12 @@
 -- How many items rows are, counted from the front by the numbers beside them.
 use Rattle.std.proofs.Common.{◌≡◌, ◌∙◌, ◌+◌, ℕ, Bool, true, false, cond, eqb, List, [], ◌∷◌, Option, Some, None, length, map, refl, ap, sym, arith}
-use Rattle.std.proofs.lemmas.List.{length-map}
+use Rattle.dex_world.proofs.Common.{PlainRow, cond_both, length-map}
 use Rattle.dex_world.specs.declared.places.RowPlaces.{RowPlaces}
-use Rattle.dex_types.specs.Rows.{PlainRow}
 use Rattle.dex_world.specs.Groups.{Group, alone, grouped, joined, map_group, members}
 use Rattle.dex_world.specs.Items.{items_of}
 use Rattle.dex_world.proofs.GroupLaws.{grouped-map}
-use Rattle.dex_script_types.specs.Places.{AreBeside, items_at}
+use Rattle.dex_world.proofs.MappedLists.{zip-map}
+use Rattle.dex_script_types.specs.Places.{AreBeside, IsBeside, items_at}
 
 -- an element of this number goes with what stands before it
 abbrev pub goes_with : Option ℕ → ℕ → Bool
@@ -19,22 +19,19 @@ begun last [] = 0
 begun last (at ∷ places) = cond (goes_with last at.number) 0 1 + begun (Some at.number) places
 
 module _ {A : Type 0} (key : A → ℕ) where
-  length-joined : (y x : A) (groups : List (Group A)) → length (joined key y (joined key x groups)) ≡ cond (eqb (key y) (key x)) 0 1 + length (joined key x groups)
-  length-joined y x [] = one (eqb (key y) (key x))
-    where
-      one : (b : Bool) → length (cond b (record { first = y; others = members (alone x) } ∷ []) (alone y ∷ alone x ∷ [])) ≡ cond b 0 1 + 1
-      one true = omega (arith)
-      one false = omega (arith)
-  length-joined y x (group ∷ groups) = two (eqb (key x) (key group.first))
-    where
-      on : (b : Bool) (head : Group A) (rest : List (Group A)) → length (cond b (record { first = y; others = members head } ∷ rest) (alone y ∷ head ∷ rest)) ≡ cond b 0 1 + length (head ∷ rest)
-      on true head rest = omega (arith)
-      on false head rest = omega (arith)
+  -- one element more in front of a group, with its first or alone
+  one-more : (y : A) (together : Bool) (group : Group A) (groups : List (Group A))
+      → length (cond together (record { first = y; others = members group } ∷ groups) (alone y ∷ group ∷ groups)) ≡ cond together 0 1 + length (group ∷ groups)
+  one-more y true group groups = omega (arith)
+  one-more y false group groups = omega (arith)
 
-      two : (b : Bool) → length (joined key y (cond b (record { first = x; others = members group } ∷ groups) (alone x ∷ group ∷ groups)))
-          ≡ cond (eqb (key y) (key x)) 0 1 + length (cond b (record { first = x; others = members group } ∷ groups) (alone x ∷ group ∷ groups))
-      two true = on (eqb (key y) (key x)) (record { first = x; others = members group }) groups
-      two false = on (eqb (key y) (key x)) (alone x) (group ∷ groups)
+  length-joined : (y x : A) (groups : List (Group A)) → length (joined key y (joined key x groups)) ≡ cond (eqb (key y) (key x)) 0 1 + length (joined key x groups)
+  length-joined y x [] = one-more y (eqb (key y) (key x)) (alone x) []
+  length-joined y x (group ∷ groups) =
+      cond_both (eqb (key x) (key group.first)) (record { first = x; others = members group } ∷ groups) (alone x ∷ group ∷ groups)
+      (λ (all : List (Group A)). length (joined key y all) ≡ cond (eqb (key y) (key x)) 0 1 + length all)
+      (λ same. one-more y (eqb (key y) (key x)) (record { first = x; others = members group }) groups)
+      (λ apart. one-more y (eqb (key y) (key x)) (alone x) (group ∷ groups))
 
 -- the number beside a row
 abbrev number_at : RowPlaces → ℕ
@@ -52,13 +49,7 @@ pub begun-all : (places : List RowPlaces) → begun None places ≡ items_at pla
 begun-all [] = refl
 begun-all (at ∷ places) = begun-behind at places
 
--- ---- the numbers beside rows are theirs
-
-numbers : (rows : List PlainRow) (places : List RowPlaces) → AreBeside rows places → map number_at places ≡ map (λ (row : PlainRow). row.number) rows
-numbers [] [] are = refl
-numbers (row ∷ rows) (at ∷ places) (is, are) =
-    ap (λ (n : ℕ). n ∷ map number_at places) is.number ∙ ap (λ (rest : List ℕ). row.number ∷ rest) (numbers rows places are)
-numbers _ _ are = absurd are
+-- ---- by the numbers alone
 
 by-numbers : {A : Type 0} (key : A → ℕ) (xs : List A) → length (grouped key xs) ≡ length (grouped (λ (n : ℕ). n) (map key xs))
 by-numbers key xs = sym (ap length (grouped-map (λ (n : ℕ). n) key xs) ∙ length-map (grouped key xs) (map_group key))
@@ -67,5 +58,5 @@ by-numbers key xs = sym (ap length (grouped-map (λ (n : ℕ). n) key xs) ∙ le
 pub items-beside : (rows : List PlainRow) (places : List RowPlaces) → AreBeside rows places → items_at places ≡ length (items_of rows)
 items-beside rows places are =
     by-numbers number_at places
-    ∙ ap (λ (all : List ℕ). length (grouped (λ (n : ℕ). n) all)) (numbers rows places are)
+    ∙ ap (λ (all : List ℕ). length (grouped (λ (n : ℕ). n) all)) (zip-map IsBeside (λ (row : PlainRow). row.number) number_at (λ row at is. is.number) rows places are)
     ∙ sym (by-numbers (λ (row : PlainRow). row.number) rows)

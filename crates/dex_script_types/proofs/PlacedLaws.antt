@@ -1,18 +1,11 @@
 -- Places of rows, read off a list of them.
 use Rattle.std.proofs.Common.{◌≡◌, ℕ, ◌+◌, ◌<◌, cond, List, [], ◌∷◌, ◌++◌, Option, None, Some, get_or, length, map, arith, refl, sym, ap, subst, ◌∙◌}
+use Rattle.dex_world.proofs.Common.{Address, PlainAccount, PlainAccounts, PlainMarketAccounts, PlainRow, Row, get_or-map, is_same, is_same-true, length-map, row_of, row_wallets}
 use Rattle.std.specs.List.{AllZip, position, position_from}
 use Rattle.std.proofs.lemmas.Iterator.Adapters.{position_from-zero}
-use Rattle.std.proofs.lemmas.List.{get_or-map, length-map}
 use Rattle.std.proofs.lemmas.List.Quantifiers.{position-Some}
 use Rattle.std.proofs.lemmas.Slice.Zip.{AllZip-long, all_zipped_more}
-use Rattle.dex_types.specs.declared.addresses.Address.{Address}
-use Rattle.dex_types.specs.declared.rows.Row.{Row}
 use Rattle.dex_world.specs.declared.places.RowPlaces.{RowPlaces}
-use Rattle.dex_types.specs.Accounts.{PlainAccount, PlainAccounts, PlainMarketAccounts}
-use Rattle.dex_types.specs.Addresses.{is_same}
-use Rattle.dex_types.specs.Rows.{PlainRow, row_of}
-use Rattle.dex_types.specs.Wallets.{row_wallets}
-use Rattle.dex_laws.proofs.TraderLaws.{is_same-true}
 use Rattle.dex_world.specs.Places.{AreWalletsAt, IsIndexOf, place_at}
 use Rattle.dex_world.proofs.MappedLists.{zip-at}
 use Rattle.dex_script_types.specs.PlainScript.{PlainScript}
@@ -47,16 +40,12 @@ beside-push rows places row at are is = all_zipped_more IsBeside rows places row
 
 -- ---- the places of a row's roles
 
--- where a wallet stands among these
-abbrev place_among : List PlainAccount → Address → Option ℕ
-place_among wallets address = wallet_place address wallets
-
 -- the wallet of a role that has an index stands where this tells
 pub role-placed : (start : PlainAccounts) (row : PlainRow) (at : RowPlaces) → IsPlaced start row at → (role : Option Address) (index : ℕ)
     → IsIndexOf (row_wallets row) role index → IsRolePlaced start.wallets role (place_at at.wallets index)
 role-placed start row at is None index of = tt
 role-placed start row at is (Some address) index of =
-    found-at (place_among start.wallets) (row_wallets row) at.wallets.places index address is.wallets.places of
+    found-at (λ (wallet : Address). wallet_place wallet start.wallets) (row_wallets row) at.wallets.places index address is.wallets.places of
 
 -- what stands beside a row whose wallets stand somewhere
 pub stands-beside : (place_of : Address → Option ℕ) (row : PlainRow) (at : RowPlaces)

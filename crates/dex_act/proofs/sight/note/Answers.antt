@@ -1,8 +1,6 @@
 use Rattle.std.proofs.Common.{Option, Some, map, sym, ap, ◌∙◌, subst}
-use Rattle.dex_types.specs.declared.addresses.Address.{Address}
-use Rattle.dex_types.specs.declared.rows.WalletSeen.{WalletSeen}
+use Rattle.dex_world.proofs.Common.{Address, WalletSeen, role_at}
 use Rattle.dex_wallet.specs.CellState.{CellState, seen_of}
-use Rattle.dex_world.specs.World.{role_at}
 use Rattle.dex_act.specs.Wallets.{IsRoleAt, wallet_state_of}
 use Rattle.dex_act.proofs.Seeing.{found-there}
 use Rattle.dex_act.proofs.sight.note.Goals as goal

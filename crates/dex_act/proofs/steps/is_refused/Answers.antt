@@ -1,8 +1,6 @@
 use Rattle.std.proofs.Common.{ap, ◌∙◌}
+use Rattle.dex_world.proofs.Common.{request_of, row_of, why}
 use Rattle.std.specs.Result.{is_err}
-use Rattle.dex_types.specs.Rows.{row_of}
-use Rattle.dex_types.specs.Why.{why}
-use Rattle.dex_history.specs.Journal.{request_of}
 use Rattle.dex_cell.specs.CellState.{market_at}
 use Rattle.dex_cell.proofs.PlanLaws.{answered-refused}
 use Rattle.dex_act.proofs.steps.is_refused.Goals as goal

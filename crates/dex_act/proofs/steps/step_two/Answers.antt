@@ -1,36 +1,26 @@
-use Rattle.std.proofs.Common.{◌≡◌, Bool, is_some, sym, ap, ◌∙◌, subst}
-use Rattle.dex_types.specs.declared.rows.Seen.{Seen}
-use Rattle.dex_types.specs.Rows.{PlainRow, row_of}
-use Rattle.dex_types.specs.Why.{why}
-use Rattle.dex_history.specs.Journal.{request_of, row_step}
+use Rattle.std.proofs.Common.{◌≡◌, is_some, sym, ap, ◌∙◌, subst}
+use Rattle.dex_world.proofs.Common.{PlainRow, Seen, request_of, row_of, row_step, seen_by, why}
 use Rattle.dex_cell.specs.CellState.{market_at}
 use Rattle.dex_world.specs.Items.{doing}
-use Rattle.dex_world.specs.World.{seen_by}
 use Rattle.dex_act.specs.Acted.{HaveActed}
-use Rattle.dex_act.specs.Steps.{CanStep, IsStepOn, world_in_hand}
-use Rattle.dex_act.proofs.StepLaws.{can-act, can-hold, sees-row}
+use Rattle.dex_act.specs.Steps.{CanStep, world_in_hand}
+use Rattle.dex_act.proofs.StepLaws.{can-act, can-hold, sees-row, stepped}
 use Rattle.dex_act.proofs.BehindLaws.{can-behind, listed, seen-behind}
 use Rattle.dex_act.proofs.steps.step_two.Goals as goal
 use Rattle.dex_act.proofs.steps.step_two.Goals.{After-done-one}
 
 pub is_refused-one_refused-requires : goal.is_refused-one_refused-requires
-is_refused-one_refused-requires c = record {
-  market = c.requires.first_can.on;
-  sees = sees-row c.args.terms.now c.args.legs.now.first.row.now c.args.legs.now.first.places c.see.new.seen c.args.first.now c.args.wallets.now c.see.ensures.seen c.requires.first_can;
-}
+is_refused-one_refused-requires c =
+    record { market = c.requires.first_can.on; sees = sees-row c.args.terms.now c.args.legs.now.first.row.now c.see.ensures.seen c.requires.first_can }
 
 pub is_refused-two_refused-requires : goal.is_refused-two_refused-requires
-is_refused-two_refused-requires c = record {
-  market = c.requires.second_can.on;
-  sees = sees-row c.args.terms.now c.args.legs.now.second.row.now c.args.legs.now.second.places c.see-2.new.seen c.args.second.now c.args.wallets.now c.see-2.ensures.seen c.requires.second_can;
-}
+is_refused-two_refused-requires c =
+    record { market = c.requires.second_can.on; sees = sees-row c.args.terms.now c.args.legs.now.second.row.now c.see-2.ensures.seen c.requires.second_can }
 
 -- ---- the first acts or waits
 
 pub done-one-requires-clause-can : goal.done-one-requires-clause-can
-done-one-requires-clause-can c =
-    can-act c.args.terms.now c.args.legs.now.first.row.now c.args.legs.now.first.places c.see.new.seen c.args.first.now c.args.wallets.now c.see.ensures.seen c.requires.first_can
-    c.see.ensures.fits
+done-one-requires-clause-can c = can-act c.args.terms.now c.args.legs.now.first.row.now c.see.ensures.seen c.requires.first_can c.see.ensures.fits
 
 pub done-one-requires-clause-held : goal.done-one-requires-clause-held
 done-one-requires-clause-held c =
@@ -65,8 +55,8 @@ can c =
 
 pub done-two-requires-clause-can : goal.done-two-requires-clause-can
 done-two-requires-clause-can c =
-    can-act c.args.terms.now c.args.legs.now.second.row.now c.args.legs.now.second.places c.see-2.new.seen c.args.second.now c.done-one.new.wallets
-    (c.see-2.ensures.seen ∙ sym (same (goal.at.done-two-requires-clause-can c).After-done-one)) (can (goal.at.done-two-requires-clause-can c).After-done-one) c.see-2.ensures.fits
+    can-act c.args.terms.now c.args.legs.now.second.row.now (c.see-2.ensures.seen ∙ sym (same (goal.at.done-two-requires-clause-can c).After-done-one))
+    (can (goal.at.done-two-requires-clause-can c).After-done-one) c.see-2.ensures.fits
 
 pub done-two-requires-clause-held : goal.done-two-requires-clause-held
 done-two-requires-clause-held c =
@@ -75,31 +65,17 @@ done-two-requires-clause-held c =
 
 pub returns : goal.returns
 returns c =
-    let one_seen = c.done-one.ensures.seen ∙ c.see.ensures.seen in
+    let between = (goal.at.returns c).After-done-one in
     let two_seen = c.done-two.ensures.seen ∙ c.see-2.ensures.seen in
     record {
       one_refused = c.is_refused-one_refused.result;
       two_refused = c.is_refused-two_refused.result;
-      one_is = c.is_refused-one_refused.ensures ∙ ap (λ (seen : Seen). is_some (why (request_of (row_of c.args.legs.now.first.row.now)) seen (market_at c.args.first.now))) (sym c.done-one.ensures.seen);
-      two_is = c.is_refused-two_refused.ensures ∙ ap (λ (seen : Seen). is_some (why (request_of (row_of c.args.legs.now.second.row.now)) seen (market_at c.args.second.now))) (sym c.done-two.ensures.seen);
+      one_is = c.is_refused-one_refused.ensures ∙ ap (λ (seen : Seen). is_some (why (request_of (first between)) seen (market_at c.args.first.now))) (sym c.done-one.ensures.seen);
+      two_is = c.is_refused-two_refused.ensures ∙ ap (λ (seen : Seen). is_some (why (request_of (second between)) seen (market_at c.args.second.now))) (sym c.done-two.ensures.seen);
       between = c.done-one.new.wallets;
-      one = subst
-          (λ (waits : Bool). IsStepOn c.args.terms.now (row_of c.args.legs.now.first.row.now) waits c.done-one.result c.args.first.now c.done-one.new.market c.args.wallets.now c.done-one.new.wallets)
-          c.waits-one_waits.ensures
-          (record {
-            seen = one_seen;
-            sees = sees-row c.args.terms.now c.args.legs.now.first.row.now c.args.legs.now.first.places c.done-one.result.seen.value c.args.first.now c.args.wallets.now one_seen c.requires.first_can;
-            recorded = c.done-one.ensures.recorded;
-            did = c.done-one.ensures.done;
-          });
-      two = subst
-          (λ (waits : Bool). IsStepOn c.args.terms.now (row_of c.args.legs.now.second.row.now) waits c.done-two.result c.args.second.now c.done-two.new.market c.done-one.new.wallets c.done-two.new.wallets)
-          c.waits-two_waits.ensures
-          (record {
-            seen = two_seen ∙ sym (same (goal.at.returns c).After-done-one);
-            sees = sees-row c.args.terms.now c.args.legs.now.second.row.now c.args.legs.now.second.places c.done-two.result.seen.value c.args.second.now c.args.wallets.now two_seen c.requires.second_can;
-            recorded = c.done-two.ensures.recorded;
-            did = c.done-two.ensures.done;
-          });
+      one = stepped c.args.terms.now c.args.legs.now.first.row.now c.done-one.result (c.done-one.ensures.seen ∙ c.see.ensures.seen) c.requires.first_can
+          c.waits-one_waits.ensures c.done-one.ensures.recorded c.done-one.ensures.done;
+      two = stepped c.args.terms.now c.args.legs.now.second.row.now c.done-two.result (two_seen ∙ sym (same between)) (can between)
+          c.waits-two_waits.ensures c.done-two.ensures.recorded c.done-two.ensures.done;
       two_seen = two_seen;
     }

@@ -4,8 +4,8 @@ use Rattle.dex_types.specs.declared.movements.MoveKind.TheVariants.{Credit}
 use Rattle.dex_types.specs.Rows.{row_of}
 use Rattle.dex_types.specs.Wallets.{address_seen, amount_at}
 use Rattle.dex_wallet.specs.CellState.{CellState}
-use Rattle.dex_act.specs.Wallets.{AreApart, CanPut, IsRoleAt, amount_in, is_one, role_moved}
-use Rattle.dex_act.proofs.CellLists.{AreApart-map, IsRoleAt-map, role_moved-address}
+use Rattle.dex_act.specs.Wallets.{CanPut, amount_in, is_one, role_moved}
+use Rattle.dex_act.proofs.CellLists.{apart-moved, role-moved}
 use Rattle.dex_act.proofs.WalletMoves.{can-credit, credited-apart, fits-together, second-put}
 use Rattle.dex_act.proofs.wallets.credit_pc.Goals as goal
 
@@ -22,16 +22,12 @@ join-both-requires c =
 
 pub credit-requires-else-is_one-2-clause-apart : goal.credit-requires-else-is_one-2-clause-apart
 credit-requires-else-is_one-2-clause-apart c =
-    let change = role_moved (row_of c.args.asked.now.row.now) Credit c.args.asked.now.seen.now.pc (amount_in c.args.pc) in
-    subst AreApart (sym c.credit-else-is_one.ensures)
-    (AreApart-map change c.args.cells.now (role_moved-address (row_of c.args.asked.now.row.now) Credit c.args.asked.now.seen.now.pc (amount_in c.args.pc)) c.requires.apart)
+    apart-moved (row_of c.args.asked.now.row.now) Credit c.args.asked.now.seen.now.pc (amount_in c.args.pc) c.args.cells.now _ c.credit-else-is_one.ensures c.requires.apart
 
 pub credit-requires-else-is_one-2-clause-here : goal.credit-requires-else-is_one-2-clause-here
 credit-requires-else-is_one-2-clause-here c =
-    let change = role_moved (row_of c.args.asked.now.row.now) Credit c.args.asked.now.seen.now.pc (amount_in c.args.pc) in
-    subst (λ (cells : List CellState). IsRoleAt cells (address_seen c.args.asked.now.seen.now.referrer) c.args.asked.now.places.now.referrer) (sym c.credit-else-is_one.ensures)
-    (IsRoleAt-map change c.args.cells.now (address_seen c.args.asked.now.seen.now.referrer) c.args.asked.now.places.now.referrer
-    (role_moved-address (row_of c.args.asked.now.row.now) Credit c.args.asked.now.seen.now.pc (amount_in c.args.pc)) c.requires.at.referrer)
+    role-moved (row_of c.args.asked.now.row.now) Credit c.args.asked.now.seen.now.pc (amount_in c.args.pc) c.args.cells.now _ c.credit-else-is_one.ensures
+    (address_seen c.args.asked.now.seen.now.referrer) c.args.asked.now.places.now.referrer c.requires.at.referrer
 
 pub credit-requires-else-is_one-2-clause-can : goal.credit-requires-else-is_one-2-clause-can
 credit-requires-else-is_one-2-clause-can c =

@@ -3,8 +3,8 @@ use Rattle.std.specs.List.{All}
 use Rattle.dex_types.specs.declared.movements.MoveKind.TheVariants.{Credit}
 use Rattle.dex_types.specs.Rows.{row_of}
 use Rattle.dex_wallet.specs.CellState.{CellState}
-use Rattle.dex_act.specs.Wallets.{AreApart, AreSeenAt, CanPut, amount_in, got_at, pc_credited, role_moved}
-use Rattle.dex_act.proofs.CellLists.{AreApart-map, AreSeenAt-map, KeepsAddress, role_moved-address}
+use Rattle.dex_act.specs.Wallets.{CanPut, amount_in, got_at, pc_credited}
+use Rattle.dex_act.proofs.CellLists.{apart-moved, seen-moved}
 use Rattle.dex_act.proofs.WalletMoves.{credited-together, pc-put}
 use Rattle.dex_act.proofs.wallets.credits.Goals as goal
 
@@ -13,15 +13,12 @@ credit_pc-requires c =
     let row = row_of c.args.asked.now.row.now in
     let seen = c.args.asked.now.seen.now in
     let amount = amount_in c.args.payouts.coin in
-    let change = role_moved row Credit seen.coin amount in
-    let keeps : KeepsAddress change = role_moved-address row Credit seen.coin amount in
     record {
       mint = c.requires.pc_mint;
       pc_is = c.requires.pc_is;
       referrer_is = c.requires.referrer_is;
-      apart = subst AreApart (sym c.credit.ensures) (AreApart-map change c.args.cells.now keeps c.requires.apart);
-      at = subst (λ (cells : List CellState). AreSeenAt cells seen c.args.asked.now.places.now) (sym c.credit.ensures)
-          (AreSeenAt-map change c.args.cells.now seen c.args.asked.now.places.now keeps c.requires.at);
+      apart = apart-moved row Credit seen.coin amount c.args.cells.now _ c.credit.ensures c.requires.apart;
+      at = seen-moved row Credit seen.coin amount c.args.cells.now _ c.credit.ensures seen c.args.asked.now.places.now c.requires.at;
       pc_named = c.requires.pc_named;
       referrer_named = c.requires.referrer_named;
       each = subst

@@ -4,23 +4,19 @@ use Rattle.dex_types.specs.declared.movements.MoveKind.TheVariants.{Debit}
 use Rattle.dex_types.specs.Rows.{row_of}
 use Rattle.dex_types.specs.Wallets.{address_seen, amount_at}
 use Rattle.dex_wallet.specs.CellState.{CellState}
-use Rattle.dex_act.specs.Wallets.{AreApart, CanTake, IsOf, IsRoleAt, role_moved}
-use Rattle.dex_act.proofs.CellLists.{AreApart-map, IsRoleAt-map, role_moved-address}
-use Rattle.dex_act.proofs.WalletMoves.{debited-together, none-at, second-All, second-can}
+use Rattle.dex_act.specs.Wallets.{CanTake, IsOf, role_moved}
+use Rattle.dex_act.proofs.CellLists.{apart-moved, none-at, role-moved}
+use Rattle.dex_act.proofs.WalletMoves.{debited-together, second-All, second-can}
 use Rattle.dex_act.proofs.wallets.debits.Goals as goal
 
 pub debit-pc-requires-clause-apart : goal.debit-pc-requires-clause-apart
 debit-pc-requires-clause-apart c =
-    let change = role_moved (row_of c.args.asked.now.row.now) Debit c.args.asked.now.seen.now.coin c.args.amounts.now.coin_in in
-    subst AreApart (sym c.debit-coin.ensures.moved)
-    (AreApart-map change c.args.cells.now (role_moved-address (row_of c.args.asked.now.row.now) Debit c.args.asked.now.seen.now.coin c.args.amounts.now.coin_in) c.requires.apart)
+    apart-moved (row_of c.args.asked.now.row.now) Debit c.args.asked.now.seen.now.coin c.args.amounts.now.coin_in c.args.cells.now _ c.debit-coin.ensures.moved c.requires.apart
 
 pub debit-pc-requires-clause-here : goal.debit-pc-requires-clause-here
 debit-pc-requires-clause-here c =
-    let change = role_moved (row_of c.args.asked.now.row.now) Debit c.args.asked.now.seen.now.coin c.args.amounts.now.coin_in in
-    subst (λ (cells : List CellState). IsRoleAt cells (address_seen c.args.asked.now.seen.now.pc) c.args.asked.now.places.now.pc) (sym c.debit-coin.ensures.moved)
-    (IsRoleAt-map change c.args.cells.now (address_seen c.args.asked.now.seen.now.pc) c.args.asked.now.places.now.pc
-    (role_moved-address (row_of c.args.asked.now.row.now) Debit c.args.asked.now.seen.now.coin c.args.amounts.now.coin_in) c.requires.at.pc)
+    role-moved (row_of c.args.asked.now.row.now) Debit c.args.asked.now.seen.now.coin c.args.amounts.now.coin_in c.args.cells.now _ c.debit-coin.ensures.moved
+    (address_seen c.args.asked.now.seen.now.pc) c.args.asked.now.places.now.pc c.requires.at.pc
 
 pub debit-pc-requires-clause-can : goal.debit-pc-requires-clause-can
 debit-pc-requires-clause-can c =
