@@ -1,12 +1,8 @@
 -- A wallet's journal with one entry more.
-use Rattle.std.proofs.Common.{◌≡◌, ℕ, ◌≤◌, ◌<◌, List, [], ◌∷◌, ◌++◌, length, sym, ap, ◌∙◌, subst, arith}
-use Rattle.std.specs.List.{filter}
+use Rattle.std.proofs.Common.{◌≡◌, ℕ, ◌≤◌, ◌<◌, List, [], ◌∷◌, ◌++◌, length, sym, ap, ◌∙◌, subst, arith, filter}
+use Rattle.dex_world.proofs.Common.{Address, PlainRow, WalletEntry, names}
 use Rattle.std.proofs.lemmas.List.{length_push}
 use Rattle.std.proofs.lemmas.List.Sums.{length-filter}
-use Rattle.dex_types.specs.declared.addresses.Address.{Address}
-use Rattle.dex_types.specs.declared.movements.WalletEntry.{WalletEntry}
-use Rattle.dex_types.specs.Rows.{PlainRow}
-use Rattle.dex_world.specs.Fold.{names}
 use Rattle.dex_wallet.specs.CellState.{CellState, HasSpare, IsWalletCell}
 use Rattle.dex_script_types.specs.PlainScript.{PlainScript}
 use Rattle.dex_world.specs.RowsOf.{rows_naming, rows_of_wallet}

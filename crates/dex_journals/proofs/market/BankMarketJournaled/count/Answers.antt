@@ -1,6 +1,5 @@
 use Rattle.std.proofs.Common.{◌≡◌, length, subst, sym, ap, ◌∙◌}
-use Rattle.std.proofs.lemmas.List.{length-map}
-use Rattle.dex_history.specs.Journal.{Call}
+use Rattle.dex_world.proofs.Common.{Call, length-map}
 use Rattle.dex_cell.specs.CellState.{entries_of}
 use Rattle.dex_journals.specs.Inside.{market_inside}
 use Rattle.dex_journals.specs.Journals.{BankMarketState, market_calls}
