@@ -11,7 +11,8 @@ use Rattle.dex_world.specs.Places.{ArePlacesOf}
 use Rattle.dex_cell.specs.CellState.{MarketCellState}
 use Rattle.dex_wallet.specs.CellState.{CellState}
 use Rattle.dex_world.specs.Items.{Item}
-use Rattle.dex_world.proofs.MappedLists.{filter-of, map-map}
+use Rattle.dex_world.proofs.MappedLists.{filter-of, item_at, map-map}
+use Rattle.std.proofs.lemmas.Slice.Zip.{AllZip-map}
 use Rattle.dex_act.specs.Opened.{market_state_of}
 use Rattle.dex_act.specs.Wallets.{IsAt, cell_place, wallet_state_of}
 use Rattle.dex_act.proofs.InHand.{stands-at}
@@ -24,7 +25,7 @@ use Rattle.dex_replay.proofs.Singles.{singles-act}
 use Rattle.dex_batch.specs.Acting.{AreDistinct, AreDistinctCells, market_addresses, wallet_addresses}
 use Rattle.dex_batch.specs.Groups.{IsOfGroup, IsWalletOf, number_of, sharding_of}
 use Rattle.dex_batch.specs.Parts.{part}
-use Rattle.dex_batch.proofs.PartLaws.{part-filter}
+use Rattle.dex_batch.proofs.PartLaws.{part-filter, zip-of}
 use Rattle.dex_batch.proofs.RoomLaws.{address-stays, listing-address}
 
 -- ---- a group's rows act on its part of the world
@@ -90,25 +91,13 @@ number-there (first ∷ addresses) (n ∷ numbers) address (suc place) d e disti
     ∙ number-there addresses numbers address place d e (λ i j c less inside. distinct (suc i) (suc j) c (omega (arith, less)) (omega (arith, inside))) (omega (arith, within))
     (omega (arith, long)) same
 
-map-at : {A B : Type 0} (f : A → B) (xs : List A) (ys : List B) → length ys ≡ length xs → ((place : ℕ) (d : A) (e : B) → place < length xs → f (get_or xs place d) ≡ get_or ys place e)
-    → map f xs ≡ ys
-map-at f [] [] long each = refl
-map-at f [] (y ∷ ys) long each = absurd (omega (arith, long))
-map-at f (x ∷ xs) [] long each = absurd (omega (arith, long))
-map-at f (x ∷ xs) (y ∷ ys) long each =
-    ap (λ z. z ∷ map f xs) (each 0 x y (omega arith))
-    ∙ ap (λ zs. y ∷ zs) (map-at f xs ys (omega (arith, long)) (λ place d e within. each (suc place) d e (omega (arith, within))))
-
 numbers-there : (addresses : List Address) (numbers : List ℕ) → AreDistinct addresses → length numbers ≡ length addresses → map (number_of addresses numbers) addresses ≡ numbers
 numbers-there addresses numbers distinct long =
-    map-at (number_of addresses numbers) addresses numbers long
-    (λ place d e within. number-there addresses numbers (get_or addresses place d) place e d distinct within long (is_same-refl (get_or addresses place d)))
+    sym (AllZip-map (number_of addresses numbers) addresses numbers
+    (zip-of (λ (address : Address) (number : ℕ). number ≡ number_of addresses numbers address) addresses numbers long
+    (λ place d e within. sym (number-there addresses numbers (get_or addresses place d) place e d distinct within long (is_same-refl (get_or addresses place d))))))
 
 -- ---- a bank in groups
-
-some-of : {A : Type 0} (all : List A) (place : ℕ) → place < length all → A
-some-of [] place none = absurd (omega (arith, none))
-some-of (first ∷ others) place some = first
 
 either : {P : Type 0} (one other : Bool) → (one ≡ true → P) → (other ≡ true → P) → (one || other) ≡ true → P
 either true other left right is = left refl
@@ -143,7 +132,7 @@ module _ (bank : CellsState) (apart : AreDistinctCells bank) (of_markets of_wall
       → groups.wallet wallet ≡ number
   wallet-number number wallet place is of =
       let at : IsAt wallet bank.wallets place = stands-at wallet bank.wallets place is in
-      let d : CellState = some-of bank.wallets place at.within in
+      let d : CellState = item_at bank.wallets place at.within in
       number-there (wallet_addresses world.wallets) of_wallets wallet place 0 wallet apart.wallets (omega (arith, at.within, many-wallets)) (wallets_long ∙ sym many-wallets)
       (ap (is_same wallet) (at-wallet place d wallet at.within) ∙ at.here d)
       ∙ of 0 (omega (arith, at.within, wallets_long))
@@ -172,7 +161,7 @@ module _ (bank : CellsState) (apart : AreDistinctCells bank) (of_markets of_wall
     where
       market : groups.market row.market ≡ number
       market =
-          let d : MarketCellState = some-of bank.markets places.market at.market.within in
+          let d : MarketCellState = item_at bank.markets places.market at.market.within in
           number-there (market_addresses world.markets) of_markets row.market places.market 0 row.market apart.markets (omega (arith, at.market.within, many-markets))
           (markets_long ∙ sym many-markets) (ap (is_same row.market) (at-market places.market d row.market at.market.within) ∙ at.market.here d)
           ∙ of.market 0
@@ -180,11 +169,10 @@ module _ (bank : CellsState) (apart : AreDistinctCells bank) (of_markets of_wall
   pub rows-of : (rows : List PlainRow) (places : List RowPlaces) (numbers : List ℕ) → AllZip (ArePlacesIn bank) rows places
       → AllZip (IsOfGroup of_markets of_wallets) places numbers → AllZip IsRowOf numbers rows
   rows-of [] [] [] at of = tt
-  rows-of [] (p ∷ places) numbers at of = absurd at
-  rows-of (row ∷ rows) [] numbers at of = absurd at
+  rows-of (row ∷ rows) (p ∷ places) (n ∷ numbers) at of = (row-of row p n at.0 of.0, rows-of rows places numbers at.1 of.1)
   rows-of [] [] (n ∷ numbers) at of = absurd of
   rows-of (row ∷ rows) (p ∷ places) [] at of = absurd of
-  rows-of (row ∷ rows) (p ∷ places) (n ∷ numbers) at of = (row-of row p n at.0 of.0, rows-of rows places numbers at.1 of.1)
+  rows-of _ _ numbers at of = absurd at
 
   -- ---- the parts of its world
 

@@ -11,7 +11,7 @@ use Rattle.dex_wallet.specs.CellState as wallet
 use Rattle.dex_wallet.specs.CellState.{CellState}
 use Rattle.dex_world.specs.RowsOf.{rows_naming, rows_on}
 use Rattle.dex_world.specs.World.{market_at}
-use Rattle.dex_world.proofs.MappedLists.{map-map}
+use Rattle.dex_world.proofs.MappedLists.{map-map, zip-weaker}
 use Rattle.dex_act.specs.Opened.{market_state_of}
 use Rattle.dex_act.specs.Wallets.{is_among, made_of, wallet_state_of}
 use Rattle.dex_bank.specs.Cells.{CanAct, CellsState, is_market, opened_of, world_of}
@@ -19,7 +19,6 @@ use Rattle.dex_bank.proofs.Stands.{HasItsAddress}
 use Rattle.dex_bank.proofs.StepWorld.{opened_market, same-wallets}
 use Rattle.dex_batch.specs.Acting.{HaveTheirAddress, IsHere}
 use Rattle.dex_batch.specs.Rooms.{HasRoom, MarketRoom, WalletRoom}
-use Rattle.dex_batch.proofs.PartLaws.{zip-weaker}
 
 pub listing-address : (accounts : PlainMarketAccounts) → (market_in accounts).listing.address ≡ accounts.address
 unfolding market_in
@@ -65,13 +64,12 @@ module _ (row : PlainRow) (rows : List PlainRow) (seen : Seen) where
 
   markets-behind : (states : List MarketState) (rooms : List ℕ) → AllZip (MarketRoom (row ∷ rows)) states rooms → AllZip (MarketRoom rows) (markets_acted row seen states) rooms
   markets-behind [] [] all = tt
-  markets-behind [] (room ∷ rooms) all = absurd all
-  markets-behind (state ∷ states) [] all = absurd all
   markets-behind (state ∷ states) (room ∷ rooms) all =
       cond_both (is_same row.market state.market.listing.address) (market_acted row seen state ∷ states) (state ∷ markets_acted row seen states)
       (λ (list : List MarketState). AllZip (MarketRoom rows) list (room ∷ rooms))
       (λ same. (own-market state room all.0 same, zip-weaker (MarketRoom (row ∷ rows)) (MarketRoom rows) (market-fewer row rows) states rooms all.1))
       (λ apart. (market-fewer row rows state room all.0, markets-behind states rooms all.1))
+  markets-behind _ _ all = absurd all
 
   own-wallet : (t : Transfers) (state : WalletState) (room : ℕ) → WalletRoom (row ∷ rows) state room → WalletRoom rows (wallet_acted row seen t state) room
   own-wallet t state room is =
@@ -87,9 +85,8 @@ module _ (row : PlainRow) (rows : List PlainRow) (seen : Seen) where
   wallets-behind : (t : Transfers) (states : List WalletState) (rooms : List ℕ) → AllZip (WalletRoom (row ∷ rows)) states rooms
       → AllZip (WalletRoom rows) (map (wallet_acted row seen t) states) rooms
   wallets-behind t [] [] all = tt
-  wallets-behind t [] (room ∷ rooms) all = absurd all
-  wallets-behind t (state ∷ states) [] all = absurd all
   wallets-behind t (state ∷ states) (room ∷ rooms) all = (own-wallet t state room all.0, wallets-behind t states rooms all.1)
+  wallets-behind t _ _ all = absurd all
 
 -- ---- on cells
 
