@@ -1,15 +1,9 @@
 -- Rows that act one after the other.
 use Rattle.std.proofs.Common.{◌≡◌, ℕ, ◌+◌, ◌<◌, ◌≤◌, true, false, cond, eqb, List, [], ◌∷◌, ◌++◌, drop, get_or, length, map, take, refl, sym, ap, ◌∙◌, subst, arith}
 use Rattle.std.proofs.lemmas.List.{append_assoc, drop-map, drop_more, get_or-map, length-map, length-take-le, take-append-drop, take-map, take_all, take_more}
-use Rattle.std.proofs.lemmas.Bool.{cond-false, cond-true}
+use Rattle.dex_world.proofs.Common.{AllZip-long, PlainRow, Reply, Row, World, cond-false, cond-true, fold, row_of}
 use Rattle.std.proofs.lemmas.List.Elements.{All-drop, All-take, All-weaker}
-use Rattle.std.proofs.lemmas.Slice.Zip.{AllZip-long}
-use Rattle.dex_types.specs.declared.replies.Reply.{Reply}
-use Rattle.dex_types.specs.declared.rows.Row.{Row}
 use Rattle.dex_world.specs.declared.places.RowPlaces.{RowPlaces}
-use Rattle.dex_types.specs.Rows.{PlainRow, row_of}
-use Rattle.dex_world.specs.Fold.{fold}
-use Rattle.dex_world.specs.World.{World}
 use Rattle.dex_world.proofs.FoldLaws.{fold-append}
 use Rattle.dex_bank.specs.Cells.{CanAct, CellsState, world_of}
 use Rattle.dex_bank.specs.Places.{ArePlacesIn}

@@ -1,22 +1,16 @@
 -- Groups: each row is of one, and acts on that alone.
-use Rattle.std.proofs.Common.{◌≡◌, ℕ, zero, suc, ◌<◌, Bool, true, false, ◌||◌, eqb, List, [], ◌∷◌, get_or, length, map, Option, None, Some, refl, sym, ap, ◌∙◌, arith}
-use Rattle.std.specs.List.{All, AllZip, list_any}
-use Rattle.std.proofs.lemmas.Bool.{cond-false, cond-true, cond_both, false≢true}
-use Rattle.dex_world.proofs.Common.{Address, All-cons, All-head, All-map, All-nil, All-tail, All-weaker, Market, MarketState, PlainRow, WalletState, World, acted, alone, fold, fold_items, get_or-map, is_same, is_same-refl, is_same-sym, is_same-true, length-map, markets_acted, market_acted, seen_by}
+use Rattle.std.proofs.Common.{◌≡◌, ℕ, zero, suc, ◌<◌, true, false, eqb, List, [], ◌∷◌, get_or, length, map, Option, None, Some, refl, sym, ap, ◌∙◌, arith, All, ⊎_elim}
+use Rattle.std.proofs.lemmas.Bool.{or_cases}
+use Rattle.dex_replay.proofs.Common.{CellState, CellsState, MarketCellState, world_of}
+use Rattle.dex_world.proofs.Common.{Address, All-cons, All-head, All-map, All-nil, All-tail, All-weaker, Market, MarketState, PlainRow, WalletState, World, acted, alone, fold, fold_items, get_or-map, is_same, is_same-refl, is_same-sym, is_same-true, length-map, markets_acted, market_acted, seen_by, AllZip, Seen, WalletSeen, cond-false, cond-true, cond_both, false≢true, list_any, row_wallets}
 use Rattle.dex_world.specs.declared.places.RowPlaces.{RowPlaces}
-use Rattle.dex_types.specs.declared.rows.Seen.{Seen}
-use Rattle.dex_types.specs.declared.rows.WalletSeen.{WalletSeen}
-use Rattle.dex_types.specs.Wallets.{row_wallets}
 use Rattle.dex_world.specs.Places.{ArePlacesOf}
-use Rattle.dex_cell.specs.CellState.{MarketCellState}
-use Rattle.dex_wallet.specs.CellState.{CellState}
 use Rattle.dex_world.specs.Items.{Item}
 use Rattle.dex_world.proofs.MappedLists.{filter-of, item_at, map-map}
 use Rattle.std.proofs.lemmas.Slice.Zip.{AllZip-map}
 use Rattle.dex_act.specs.Opened.{market_state_of}
 use Rattle.dex_act.specs.Wallets.{IsAt, cell_place, wallet_state_of}
 use Rattle.dex_act.proofs.InHand.{stands-at}
-use Rattle.dex_bank.specs.Cells.{CellsState, world_of}
 use Rattle.dex_bank.specs.Places.{ArePlacesIn}
 use Rattle.dex_parts.specs.Shards.{IsItemOfOneShard, IsOfOneShard, Sharding, rows_in, world_in}
 use Rattle.dex_parts.proofs.KeptLaws.{items-keep, msrm-kept, named, named-kept, program-kept, srm-kept}
@@ -99,10 +93,6 @@ numbers-there addresses numbers distinct long =
 
 -- ---- a bank in groups
 
-either : {P : Type 0} (one other : Bool) → (one ≡ true → P) → (other ≡ true → P) → (one || other) ≡ true → P
-either true other left right is = left refl
-either false other left right is = right is
-
 module _ (bank : CellsState) (apart : AreDistinctCells bank) (of_markets of_wallets : List ℕ) (markets_long : length of_markets ≡ length bank.markets)
     (wallets_long : length of_wallets ≡ length bank.wallets) where
   abbrev world : World
@@ -142,12 +132,12 @@ module _ (bank : CellsState) (apart : AreDistinctCells bank) (of_markets of_wall
   wallets-number number [] places at of wallet among = absurd (false≢true among)
   wallets-number number (first ∷ others) [] at of wallet among = absurd at
   wallets-number number (first ∷ others) (place ∷ places) at of wallet among =
-      either (is_same wallet first) (list_any (is_same wallet) others)
-      (λ same.
+      ⊎_elim
+      (λ (same : is_same wallet first ≡ true).
       wallet-number number wallet place (ap (λ (a : Address). cell_place a bank.wallets) (is_same-true wallet first same) ∙ at.0)
       (All-head (IsWalletOf of_wallets number) place places of))
-      (λ behind. wallets-number number others places at.1 (All-tail (IsWalletOf of_wallets number) place places of) wallet behind)
-      among
+      (λ (behind : list_any (is_same wallet) others ≡ true). wallets-number number others places at.1 (All-tail (IsWalletOf of_wallets number) place places of) wallet behind)
+      (or_cases (is_same wallet first) (list_any (is_same wallet) others) among)
 
   -- a row's market is of its group, and so are its wallets
   abbrev pub IsRowOf : ℕ → PlainRow → Type 0

@@ -1,9 +1,7 @@
 -- Lists in parts.
-use Rattle.std.proofs.Common.{◌≡◌, ℕ, zero, suc, ◌+◌, ◌<◌, Bool, true, false, cond, eqb, List, [], ◌∷◌, ◌++◌, drop, get_or, length, map, take, refl, sym, ap, subst, arith}
-use Rattle.std.specs.List.{All, AllZip, filter}
-use Rattle.std.proofs.lemmas.Bool.{cond_both, eq-eqb, false≢true}
+use Rattle.std.proofs.Common.{◌≡◌, ℕ, zero, suc, ◌+◌, ◌<◌, Bool, true, false, cond, eqb, List, [], ◌∷◌, ◌++◌, drop, get_or, length, map, take, refl, sym, ap, subst, arith, All, eq-eqb, filter}
+use Rattle.dex_world.proofs.Common.{AllZip, AllZip-long, cond_both, false≢true}
 use Rattle.std.proofs.lemmas.List.Elements.{All-cons, All-head, All-tail, same_from_all_zip}
-use Rattle.std.proofs.lemmas.Slice.Zip.{AllZip-long}
 use Rattle.dex_batch.specs.Parts.{part}
 
 -- a part of what is made of a list is made of its part

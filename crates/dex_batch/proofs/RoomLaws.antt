@@ -1,20 +1,15 @@
 -- Room for entries, row by row.
-use Rattle.std.proofs.Common.{◌≡◌, ℕ, ◌+◌, ◌≤◌, Bool, true, ◌||◌, cond, List, [], ◌∷◌, ◌++◌, length, map, Option, None, Some, refl, sym, ap, ◌∙◌, subst, arith}
-use Rattle.std.specs.List.{All, AllZip}
-use Rattle.dex_world.proofs.Common.{Address, All-cons, All-head, All-nil, All-tail, All-weaker, Call, Listing, Market, MarketState, Movement, PlainRow, Seen, Step, Transfers, WalletState, World, act, acted, cond_both, entry_by, is_same, length-map, market_acted, markets_acted, movement_of, names, request_of, row_step, row_wallets, seen_by, step-keeps, sum_by-append, sum_by-cons, wallet_acted, wallet_entry_by, wallet_moved}
-use Rattle.std.proofs.lemmas.List.{length-append}
-use Rattle.dex_types.specs.Accounts.{PlainMarketAccounts}
+use Rattle.std.proofs.Common.{◌≡◌, ℕ, ◌+◌, ◌≤◌, Bool, true, ◌||◌, cond, List, [], ◌∷◌, ◌++◌, length, map, Option, None, Some, refl, sym, ap, ◌∙◌, subst, arith, All, length-append}
+use Rattle.dex_replay.proofs.Common.{CanAct, CellState, CellsState, MarketCellState, is_market, opened_of, world_of}
+use Rattle.dex_world.proofs.Common.{Address, All-cons, All-head, All-nil, All-tail, All-weaker, Call, Listing, Market, MarketState, Movement, PlainRow, Seen, Step, Transfers, WalletState, World, act, acted, cond_both, entry_by, is_same, length-map, market_acted, markets_acted, movement_of, names, request_of, row_step, row_wallets, seen_by, step-keeps, sum_by-append, sum_by-cons, wallet_acted, wallet_entry_by, wallet_moved, AllZip, PlainMarketAccounts}
 use Rattle.dex_accounts.specs.Decoded.{market_in}
 use Rattle.dex_cell.specs.CellState as market
-use Rattle.dex_cell.specs.CellState.{MarketCellState}
 use Rattle.dex_wallet.specs.CellState as wallet
-use Rattle.dex_wallet.specs.CellState.{CellState}
 use Rattle.dex_world.specs.RowsOf.{rows_naming, rows_on}
 use Rattle.dex_world.specs.World.{market_at}
 use Rattle.dex_world.proofs.MappedLists.{map-map, zip-weaker}
 use Rattle.dex_act.specs.Opened.{market_state_of}
 use Rattle.dex_act.specs.Wallets.{is_among, made_of, wallet_state_of}
-use Rattle.dex_bank.specs.Cells.{CanAct, CellsState, is_market, opened_of, world_of}
 use Rattle.dex_bank.proofs.Stands.{HasItsAddress}
 use Rattle.dex_bank.proofs.StepWorld.{opened_market, same-wallets}
 use Rattle.dex_batch.specs.Acting.{HaveTheirAddress, IsHere}

@@ -1,16 +1,13 @@
 -- Shares of a bank: ready, and what they leave together.
-use Rattle.std.proofs.Common.{◌≡◌, ℕ, ◌<◌, Bool, true, false, ◌||◌, cond, eqb, List, [], ◌∷◌, ◌++◌, get_or, length, map, refl, sym, ap, ◌∙◌, subst, arith}
-use Rattle.std.specs.List.{All, AllZip, filter, list_any}
-use Rattle.std.proofs.lemmas.Bool.{cond_both, eq-eqb, false≢true, or_left, or_parts, or_right}
-use Rattle.dex_world.proofs.Common.{Address, All-cons, All-head, All-nil, All-tail, All-weaker, AllZip-long, MarketState, PlainRow, WalletState, World, fold, get_or-map, is_same, is_same-refl, is_same-true, length-map, names, row_wallets}
+use Rattle.std.proofs.Common.{◌≡◌, ℕ, ◌<◌, Bool, true, false, ◌||◌, eqb, List, [], ◌∷◌, ◌++◌, get_or, length, map, refl, sym, ap, ◌∙◌, subst, arith, All, eq-eqb, filter}
+use Rattle.dex_replay.proofs.Common.{AreCells, CellState, CellsState, IsMarketCell, IsWalletCell, MarketCellState, is_market, opened_of, world_of}
+use Rattle.dex_world.proofs.Common.{Address, All-cons, All-head, All-nil, All-tail, AllZip-long, MarketState, PlainRow, WalletState, World, fold, get_or-map, is_same, is_same-refl, is_same-true, length-map, list_any_at, names, row_wallets, AllZip, cond_both, list_any, or_parts}
 use Rattle.dex_world.specs.declared.places.RowPlaces.{RowPlaces}
-use Rattle.dex_cell.specs.CellState.{IsMarketCell, MarketCellState}
-use Rattle.dex_wallet.specs.CellState.{CellState, IsWalletCell}
 use Rattle.dex_world.proofs.MappedLists.{All-second, list_any-map, map-map, zip-at}
 use Rattle.dex_act.specs.Opened.{market_state_of}
 use Rattle.dex_act.specs.Wallets.{AreApart, is_among, made_of, wallet_state_of}
+use Rattle.std.proofs.lemmas.Map.Views.{any-filter_same}
 use Rattle.dex_act.proofs.CellLists.{is_among-any}
-use Rattle.dex_bank.specs.Cells.{AreCells, CellsState, is_market, opened_of, world_of}
 use Rattle.dex_bank.proofs.Stands.{its-address}
 use Rattle.dex_bank.proofs.StepWorld.{among-opened, opened_market}
 use Rattle.dex_parts.specs.Shards.{IsOfOneShard, Sharding, rows_in, world_in}
@@ -28,28 +25,6 @@ use Rattle.dex_batch.proofs.PartLaws.{part-all, part-filter, part-long, part-map
 use Rattle.dex_batch.proofs.RoomLaws.{listing-address, market_room, wallet_room}
 
 -- ---- lists
-
--- what passes a test stays where the list is filtered by a weaker one
-any-filter : {A : Type 0} (p q : A → Bool) → ((x : A) → p x ≡ true → q x ≡ true) → (xs : List A) → list_any p xs ≡ true → list_any p (filter q xs) ≡ true
-any-filter p q passes [] any = any
-any-filter p q passes (x ∷ xs) any =
-    cond_both (p x) true (list_any p xs) (λ (b : Bool). b ≡ true → list_any p (filter q (x ∷ xs)) ≡ true)
-    (λ here _. cond_both (q x) (x ∷ filter q xs) (filter q xs) (λ list. list_any p list ≡ true) (λ own. or_left (p x) (list_any p (filter q xs)) here) (λ away. absurd (false≢true (sym away ∙ passes x here))))
-    (λ away there. cond_both (q x) (x ∷ filter q xs) (filter q xs) (λ list. list_any p list ≡ true)
-    (λ own. or_right (p x) (list_any p (filter q xs)) (any-filter p q passes xs there)) (λ not. any-filter p q passes xs there))
-    (either (p x) any)
-  where
-    either : (b : Bool) → (b || list_any p xs) ≡ true → cond b true (list_any p xs) ≡ true
-    either true is = is
-    either false is = is
-
--- each of some addresses is among them
-each-any : (addresses : List Address) → All (λ (address : Address). list_any (is_same address) addresses ≡ true) addresses
-each-any [] = All-nil _
-each-any (first ∷ others) =
-    All-cons (λ (address : Address). list_any (is_same address) (first ∷ others) ≡ true) first others (or_left (is_same first first) (list_any (is_same first) others) (is_same-refl first))
-    (All-weaker (λ (address : Address). list_any (is_same address) others ≡ true) (λ (address : Address). list_any (is_same address) (first ∷ others) ≡ true)
-    (λ address among. or_right (is_same address first) (list_any (is_same address) others) among) others (each-any others))
 
 -- parts of what is made of one list
 both-map : {A B C : Type 0} (R : B → C → Type 0) (f : A → B) (g : A → C) (numbers : List ℕ) (number : ℕ) (xs : List A)
@@ -186,13 +161,13 @@ module _ {bank : CellsState} {terms : Terms} {rows : List PlainRow} {numbers : L
   here-own : (number : ℕ) (row : PlainRow) → IsRowOf number row → IsHere bank row → IsHere (own number) row
   here-own number row is here = record {
     market = subst (λ (cells : List MarketCellState). is_market row.market cells ≡ true) (sym (own-markets number))
-        (any-filter (λ (cell : MarketCellState). is_same row.market cell.accounts.address) (λ (cell : MarketCellState). eqb (cell_key cell) number)
-        (λ cell same. eq-eqb (cell_key cell) number (ap groups.market (listing-address cell.accounts ∙ sym (is_same-true row.market cell.accounts.address same)) ∙ is.0)) bank.markets here.market);
+        (any-filter_same (λ (cell : MarketCellState). is_same row.market cell.accounts.address) (λ (cell : MarketCellState). eqb (cell_key cell) number) true
+        (λ cell same. eq-eqb (cell_key cell) number (ap groups.market (listing-address cell.accounts ∙ sym (is_same-true row.market cell.accounts.address same)) ∙ is.0)) bank.markets ∙ here.market);
     wallets = λ k d within. wallet (get_or (row_wallets row) k d) (named k d within) (here.wallets k d within);
   }
     where
       named : (k : ℕ) (d : Address) → k < length (row_wallets row) → names row (get_or (row_wallets row) k d) ≡ true
-      named k d within = each-any (row_wallets row) k d within
+      named k d within = list_any_at (is_same (get_or (row_wallets row) k d)) (row_wallets row) k d within (is_same-refl (get_or (row_wallets row) k d))
 
       wallet : (address : Address) → names row address ≡ true → is_among address bank.wallets ≡ true → is_among address (part gw number bank.wallets) ≡ true
       wallet address named among =
@@ -201,9 +176,9 @@ module _ {bank : CellsState} {terms : Terms} {rows : List PlainRow} {numbers : L
           λ cells. is_among-any address cells ∙ list_any-map (is_same address) (λ (cell : CellState). cell.address) cells in
           any (part gw number bank.wallets)
           ∙ ap (list_any p) (own-wallets number)
-          ∙ any-filter p (λ (cell : CellState). eqb (wallet_cell_key cell) number)
+          ∙ any-filter_same p (λ (cell : CellState). eqb (wallet_cell_key cell) number) true
           (λ cell same. eq-eqb (wallet_cell_key cell) number (ap groups.wallet (sym (is_same-true address cell.address same)) ∙ is.1 address named ∙ is.0)) bank.wallets
-          (sym (any bank.wallets) ∙ among)
+          ∙ sym (any bank.wallets) ∙ among
 
   here-all : (number : ℕ) (ns : List ℕ) (rs : List PlainRow) → AllZip IsRowOf ns rs → All (IsHere bank) rs → AllZip (λ (n : ℕ) (row : PlainRow). n ≡ number → IsHere (own number) row) ns rs
   here-all number [] [] all here = tt

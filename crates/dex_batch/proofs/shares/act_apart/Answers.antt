@@ -1,8 +1,6 @@
-use Rattle.std.proofs.Common.{◌≡◌, ◌<◌, ℕ, List, length, map, sym, subst, ap, ◌∙◌}
-use Rattle.std.specs.List.{All}
+use Rattle.std.proofs.Common.{◌≡◌, ◌<◌, ℕ, List, length, map, sym, subst, ap, ◌∙◌, All}
+use Rattle.dex_replay.proofs.Common.{CellState, MarketCellState}
 use Rattle.dex_types.specs.Rows.{row_of}
-use Rattle.dex_cell.specs.CellState.{MarketCellState}
-use Rattle.dex_wallet.specs.CellState.{CellState}
 use Rattle.dex_batch.specs.Acting.{HaveActed}
 use Rattle.dex_batch.specs.Parts.{AreAsLong, AreParts}
 use Rattle.dex_batch.proofs.ShareLaws.{AreDealt, all-kept, all-ready, as-long, below, left-acted, left-kept}

@@ -1,9 +1,7 @@
 use Rattle.std.proofs.Common.{◌≡◌, [], ◌∷◌, ◌++◌, List, ap, sym, subst, ◌∙◌}
 use Rattle.std.proofs.lemmas.List.{map-append}
 use Rattle.std.proofs.lemmas.List.Elements.{All-push}
-use Rattle.dex_cell.specs.CellState.{MarketCellState}
-use Rattle.dex_wallet.specs.CellState.{CellState}
-use Rattle.dex_bank.specs.Cells.{AreCells}
+use Rattle.dex_replay.proofs.Common.{AreCells, CellState, MarketCellState}
 use Rattle.dex_batch.specs.Shares.{ShareState}
 use Rattle.dex_batch.proofs.shares.piles.Goals as goal
 

@@ -1,10 +1,6 @@
-use Rattle.std.proofs.Common.{◌≡◌, ◌+◌, ℕ, [], List, arith, get_or, length, map, ap, sym, subst, ◌∙◌}
-use Rattle.std.proofs.lemmas.List.{get_or-set_other, length-append, length-set}
-use Rattle.dex_types.specs.Accounts.{named_of}
-use Rattle.dex_types.specs.Rows.{row_of}
-use Rattle.dex_cell.specs.CellState.{MarketCellState}
-use Rattle.dex_wallet.specs.CellState.{CellState}
-use Rattle.dex_bank.specs.Cells.{AreCells}
+use Rattle.std.proofs.Common.{◌≡◌, ◌+◌, ℕ, [], List, arith, get_or, length, map, ap, sym, subst, ◌∙◌, get_or-set_other, length-append, length-set}
+use Rattle.dex_world.proofs.Common.{named_of, row_of}
+use Rattle.dex_replay.proofs.Common.{AreCells, CellState, MarketCellState}
 use Rattle.dex_batch.specs.Shares.{ShareState, own_cells, share, share_at}
 use Rattle.dex_world.proofs.MappedLists.{zip-at}
 use Rattle.dex_batch.proofs.PartLaws.{each-more}

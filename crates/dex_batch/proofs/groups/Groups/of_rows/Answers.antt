@@ -1,6 +1,5 @@
 use Rattle.std.proofs.Common.{[], ◌∷◌, ◌++◌, List, arith, sym, subst, take}
-use Rattle.std.specs.List.{AllZip}
-use Rattle.std.proofs.lemmas.List.{take_more}
+use Rattle.dex_world.proofs.Common.{AllZip, take_more}
 use Rattle.dex_world.specs.declared.places.RowPlaces.{RowPlaces}
 use Rattle.dex_batch.specs.Groups.{IsOfGroup}
 use Rattle.std.proofs.lemmas.Slice.Zip.{all_zipped_more}
