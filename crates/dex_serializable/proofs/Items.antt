@@ -1,9 +1,8 @@
 -- The calls of all lanes, each with its row.
-use Rattle.std.proofs.Common.{◌≡◌, ℕ, ◌≤◌, eqb, List, [], ◌∷◌, ◌++◌, length, map, refl, ap, ◌∙◌, arith}
+use Rattle.std.proofs.Common.{◌≡◌, ℕ, ◌≤◌, eqb, List, [], ◌∷◌, ◌++◌, length, map, refl, ap, ◌∙◌, arith, All}
 use Rattle.dex_world.proofs.Common.{All-filter, All-head, All-tail, AllZip, Asked, Call, PlainRow, asked_of, flat_map, rows_of_lane, take_all}
 use Rattle.dex_replay.proofs.Common.{IsRowOf, IsSight, PlainScript}
 use Rattle.dex_serializable.proofs.Common.{IsLaneDone, Lane, Stamped, head-same, tail-same}
-use Rattle.std.specs.List.{All}
 use Rattle.std.proofs.lemmas.List.{map-append}
 
 -- a row of the script asked for a call, which saw what a row of it may see

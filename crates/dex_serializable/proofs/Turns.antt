@@ -1,14 +1,12 @@
 -- The items of all lanes: calls of one number with their rows. Each has one stamp.
-use Rattle.std.proofs.Common.{◌≡◌, ℕ, zero, suc, ◌+◌, ◌<◌, Bool, true, false, ◌||◌, cond, eqb, List, [], ◌∷◌, ◌++◌, map, refl, sym, ap, ◌∙◌, subst, arith, ⊎_elim}
+use Rattle.std.proofs.Common.{◌≡◌, ℕ, zero, suc, ◌+◌, ◌<◌, Bool, true, false, ◌||◌, cond, eqb, List, [], ◌∷◌, ◌++◌, map, refl, sym, ap, ◌∙◌, subst, arith, ⊎_elim, All, append-nil}
 use Rattle.dex_world.proofs.Common.{All-cons, All-head, All-nil, All-tail, All-weaker, Asked, EachApart, EachTwo, Goes, Group, PlainRow, Rise, cases_Bool, eqb-false, eqb-true, filter, filter-append, filter_passes, flat_map, flat_map-append, grouped, grouped-firsts, grouped-flat, grouped-rise, list_any, members, ne_eqb, range_with_len, rows_of_lane}
 use Rattle.dex_replay.proofs.Common.{AreRows, PlainScript}
 use Rattle.dex_serializable.proofs.Common.{All-unmap, AreAllOrNone, IsAsOthers, IsBefore, IsLaneDone, Lane, each-two, each-two-weaker, filter-all, filter-none, head-same, number_in, tail-same}
-use Rattle.std.specs.List.{All}
-use Rattle.std.proofs.lemmas.List.{append-nil}
 use Rattle.dex_world.specs.Groups.{map_group}
 use Rattle.dex_world.specs.Items as item
 use Rattle.dex_world.specs.Items.{items_of}
-use Rattle.dex_world.proofs.GroupLaws.{IsOneStamp, grouped-agree, grouped-map, grouped-stamps}
+use Rattle.dex_world.proofs.GroupLaws.{grouped-agree, grouped-map, grouped-stamps}
 use Rattle.dex_replay.proofs.Orders.{items-apart}
 use Rattle.dex_serializable.proofs.Items.{Item, all_items, call_in, lane-calls, lane-rows, lane_items, row_in, stamp_in}
 use Rattle.dex_serializable.proofs.Sorted.{Rises}
@@ -117,30 +115,25 @@ module _ (script : PlainScript) (facts : AreRows script) where
         All-unmap (λ (one : item.Item). EachApart (members one)) (map_group row_in) groups
         (subst (All (λ (one : item.Item). EachApart (members one))) (sym rows-grouped) (items-apart script facts lane.number))
 
-    pub all-turns : (some : List (Group (Item script))) → All (IsOneStamp number_of stamp_in) some
-        → All (λ (group : Group (Item script)). All (λ (one : Item script). IsAsOthers (map call_in (members group)) one.call) (members group)) some
-        → All (λ (group : Group (Item script)). EachApart (map row_in (members group))) some → All (IsTurn script) some
-    all-turns some stamps choice far k d within = record { stamps = stamps k d within; choice = choice k d within; legs = far k d within }
+    pub are-turns : All (IsTurn script) groups
+    are-turns k d within = record { stamps = grouped-stamps number_of stamp_in own goes k d within; choice = choices k d within; legs = apart k d within }
 
     abbrev pub lane_turns : List (Turn script)
-    lane_turns = turned script groups (all-turns groups (grouped-stamps number_of stamp_in own goes) choices apart)
+    lane_turns = turned script groups are-turns
 
     pub lane-flat : flat_map items_in lane_turns ≡ lane_items script facts.each lane done
-    lane-flat =
-        turned-items script groups (all-turns groups (grouped-stamps number_of stamp_in own goes) choices apart) ∙ grouped-flat number_of own
+    lane-flat = turned-items script groups are-turns ∙ grouped-flat number_of own
 
     pub lane-items : map item_in lane_turns ≡ items_of (rows_of_lane lane.number script.rows)
-    lane-items = turned-rows script groups (all-turns groups (grouped-stamps number_of stamp_in own goes) choices apart) ∙ rows-grouped
+    lane-items = turned-rows script groups are-turns ∙ rows-grouped
 
     pub lane-rises : Rises stamp_of lane_turns
-    lane-rises =
-        turned-rises script groups (all-turns groups (grouped-stamps number_of stamp_in own goes) choices apart) (grouped-rise number_of stamp_in own goes)
+    lane-rises = turned-rises script groups are-turns (grouped-rise number_of stamp_in own goes)
 
     -- each is of the lane
     lane-numbers : All (λ (turn : Turn script). eqb turn.group.first.row.lane lane.number ≡ true) lane_turns
     lane-numbers =
-        turned-each script (λ (group : Group (Item script)). eqb group.first.row.lane lane.number ≡ true) groups
-        (all-turns groups (grouped-stamps number_of stamp_in own goes) choices apart)
+        turned-each script (λ (group : Group (Item script)). eqb group.first.row.lane lane.number ≡ true) groups are-turns
         (grouped-firsts number_of (λ (one : Item script). eqb one.row.lane lane.number ≡ true) own
         (All-unmap (λ (row : PlainRow). eqb row.lane lane.number ≡ true) row_in own
         (subst (All (λ (row : PlainRow). eqb row.lane lane.number ≡ true)) (sym (lane-rows script facts.each lane done))
