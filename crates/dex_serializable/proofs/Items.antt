@@ -97,5 +97,4 @@ module _ (script : PlainScript) (fit : All (IsRowOf script.start) script.rows) w
       let here : IsLaneDone script lane = All-head (IsLaneDone script) lane lanes done in
       let rest : All (IsLaneDone script) lanes = All-tail (IsLaneDone script) lane lanes done in
       map-append call_in (lane_items lane here) (all_items lanes rest)
-      ∙ ap (λ (some : List (Stamped Call)). some ++ map call_in (all_items lanes rest)) (lane-calls lane here)
-      ∙ ap (λ (some : List (Stamped Call)). lane.calls ++ some) (calls-all lanes rest)
+      ∙ (λ i. lane-calls lane here i ++ calls-all lanes rest i)

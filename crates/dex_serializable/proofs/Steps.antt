@@ -81,13 +81,11 @@ module _ (row : PlainRow) (call : Stamped Call) (m : Market) (acts : Acts row ca
       let own : state.market ≡ m = cc in
       let one : ◌≡◌ {A = ℕ} (cond (is_same row.market accounts.address) 1 0) 1 = ap (λ (b : Bool). cond b 1 0) (sym address ∙ here) in
       cond-true test (market_acted row seen state ∷ states) (state ∷ markets_acted row seen states) here
-      ∙ ap (λ (some : MarketState). some ∷ states) (market-acts accounts (sym address ∙ here) own)
-      ∙ ap (λ (some : List MarketState). market_front then accounts ∷ some) (markets-stay all (omega (arith, once, counted, one))))
+      ∙ (λ i. market-acts accounts (sym address ∙ here) own i ∷ markets-stay all (omega (arith, once, counted, one)) i))
       (λ (apart : is_same row.market state.market.listing.address ≡ false).
       let rest : market_at row.market states ≡ Some m = sym (cond-false test (Some state.market) (market_at row.market states) apart) ∙ at in
       cond-false test (market_acted row seen state ∷ states) (state ∷ markets_acted row seen states) apart
-      ∙ ap (λ (some : MarketState). some ∷ markets_acted row seen states) (market-stays accounts (sym address ∙ apart))
-      ∙ ap (λ (some : List MarketState). market_front then accounts ∷ some) (markets-act all rest (omega (arith, once, counted))))
+      ∙ (λ i. market-stays accounts (sym address ∙ apart) i ∷ markets-act all rest (omega (arith, once, counted)) i))
       (cases_Bool (is_same row.market state.market.listing.address))
 
   -- a wallet

@@ -152,8 +152,7 @@ module _ (script : PlainScript) (facts : AreRows script) where
       let here : IsLaneDone script lane = All-head (IsLaneDone script) lane lanes done in
       let rest : All (IsLaneDone script) lanes = All-tail (IsLaneDone script) lane lanes done in
       flat_map-append items_in (lane_turns lane here) (all_turns lanes rest)
-      ∙ ap (λ (some : List (Item script)). some ++ flat_map items_in (all_turns lanes rest)) (lane-flat lane here)
-      ∙ ap (λ (some : List (Item script)). lane_items script facts.each lane here ++ some) (all-flat lanes rest)
+      ∙ (λ i. lane-flat lane here i ++ all-flat lanes rest i)
 
   abbrev pub IsOf : ℕ → Turn script → Bool
   IsOf number turn = eqb turn.group.first.row.lane number
@@ -177,8 +176,7 @@ module _ (script : PlainScript) (facts : AreRows script) where
   none-below number first (suc count) (lane ∷ lanes) done below numbers =
       let here : IsLaneDone script lane = All-head (IsLaneDone script) lane lanes done in
       let rest : All (IsLaneDone script) lanes = All-tail (IsLaneDone script) lane lanes done in
-      let mine : lane.number ≡ first =
-      head-same numbers in
+      let mine : lane.number ≡ first = head-same numbers in
       filter-append (IsOf number) (lane_turns lane here) (all_turns lanes rest)
       ∙ ap (λ (some : List (Turn script)). some ++ filter (IsOf number) (all_turns lanes rest))
       (lane-other number lane here (λ same. absurd (omega (arith, same, mine, below))))
@@ -197,10 +195,8 @@ module _ (script : PlainScript) (facts : AreRows script) where
   part number first (suc count) (lane ∷ lanes) done numbers =
       let here : IsLaneDone script lane = All-head (IsLaneDone script) lane lanes done in
       let rest : All (IsLaneDone script) lanes = All-tail (IsLaneDone script) lane lanes done in
-      let mine : lane.number ≡ first =
-      head-same numbers in
-      let later : map (λ (one : Lane). one.number) lanes ≡ range_with_len (first + 1) count =
-      tail-same numbers in
+      let mine : lane.number ≡ first = head-same numbers in
+      let later : map (λ (one : Lane). one.number) lanes ≡ range_with_len (first + 1) count = tail-same numbers in
       let split = filter-append (IsOf number) (lane_turns lane here) (all_turns lanes rest) in
       let there : Bool = list_any (eqb number) (range_with_len (first + 1) count) in
       ⊎_elim
@@ -208,8 +204,7 @@ module _ (script : PlainScript) (facts : AreRows script) where
       let same : number ≡ first = eqb-true number first yes in
       let none : filter (IsOf number) (all_turns lanes rest) ≡ [] = none-below number (first + 1) count lanes rest (omega (arith, same)) later in
       let is : filter (IsOf number) (lane_turns lane here ++ all_turns lanes rest) ≡ lane_turns lane here =
-      split ∙ ap (λ (some : List (Turn script)). some ++ filter (IsOf number) (all_turns lanes rest)) (lane-whole number lane here (mine ∙ sym same))
-      ∙ ap (λ (some : List (Turn script)). lane_turns lane here ++ some) none ∙ append-nil (lane_turns lane here) in
+      split ∙ (λ i. lane-whole number lane here (mine ∙ sym same) i ++ none i) ∙ append-nil (lane_turns lane here) in
       record {
         rises = subst (Rises stamp_of) (sym is) (lane-rises lane here);
         items = ap (map item_in) is ∙ lane-items lane here ∙ ap (λ (n : ℕ). items_of (rows_of_lane n script.rows)) (mine ∙ sym same)
