@@ -69,8 +69,7 @@ module _ (script : PlainScript) (is : IsScript script) where
 
   start-markets : (accounts : List PlainMarketAccounts) → market_addresses (map market_state accounts) ≡ map (λ (one : PlainMarketAccounts). one.address) accounts
   start-markets [] = refl
-  start-markets (one ∷ others) =
-      ap (λ (a : Address). a ∷ market_addresses (map market_state others)) (listing-address one) ∙ ap (λ (list : List Address). one.address ∷ list) (start-markets others)
+  start-markets (one ∷ others) = λ i. listing-address one i ∷ start-markets others i
 
   all-apart : AreDistinctCells first
   all-apart = record {

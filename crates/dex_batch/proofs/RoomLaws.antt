@@ -157,9 +157,8 @@ room-behind row rows before after has acts kept =
 
 market-opened : (address : Address) (cells : List MarketCellState) → All HasItsAddress cells → is_market address (map opened_market cells) ≡ is_market address cells
 market-opened address [] all = refl
-market-opened address (cell ∷ cells) all =
-    ap (λ (a : Address). is_same address a || is_market address (map opened_market cells)) (sym (All-head HasItsAddress cell cells all))
-    ∙ ap (λ (b : Bool). is_same address cell.accounts.address || b) (market-opened address cells (All-tail HasItsAddress cell cells all))
+market-opened address (cell ∷ cells) all = λ i.
+    is_same address (sym (All-head HasItsAddress cell cells all) i) || market-opened address cells (All-tail HasItsAddress cell cells all) i
 
 -- a row names what is here behind other rows as well
 pub here-still : (row : PlainRow) (first cells : CellsState) → HaveTheirAddress first → HaveTheirAddress cells → opened_of cells ≡ opened_of first → IsHere first row → IsHere cells row
