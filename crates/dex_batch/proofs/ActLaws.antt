@@ -1,15 +1,9 @@
 -- Rows that act one after the other.
 use Rattle.std.proofs.Common.{◌≡◌, ℕ, ◌+◌, ◌<◌, ◌≤◌, true, false, cond, eqb, List, [], ◌∷◌, ◌++◌, drop, get_or, length, map, take, refl, sym, ap, ◌∙◌, subst, arith}
 use Rattle.std.proofs.lemmas.List.{append_assoc, drop-map, drop_more, get_or-map, length-map, length-take-le, take-append-drop, take-map, take_all, take_more}
-use Rattle.std.proofs.lemmas.Bool.{cond-false, cond-true}
+use Rattle.dex_world.proofs.Common.{AllZip-long, PlainRow, Reply, Row, World, cond-false, cond-true, fold, row_of}
 use Rattle.std.proofs.lemmas.List.Elements.{All-drop, All-take, All-weaker}
-use Rattle.std.proofs.lemmas.Slice.Zip.{AllZip-long}
-use Rattle.dex_types.specs.declared.replies.Reply.{Reply}
-use Rattle.dex_types.specs.declared.rows.Row.{Row}
 use Rattle.dex_world.specs.declared.places.RowPlaces.{RowPlaces}
-use Rattle.dex_types.specs.Rows.{PlainRow, row_of}
-use Rattle.dex_world.specs.Fold.{fold}
-use Rattle.dex_world.specs.World.{World}
 use Rattle.dex_world.proofs.FoldLaws.{fold-append}
 use Rattle.dex_bank.specs.Cells.{CanAct, CellsState, world_of}
 use Rattle.dex_bank.specs.Places.{ArePlacesIn}
@@ -20,7 +14,8 @@ use Rattle.dex_batch.specs.Parts.{part}
 use Rattle.dex_batch.specs.Rooms.{HasRoom}
 use Rattle.dex_batch.specs.Shares.{IsReady, share}
 use Rattle.dex_batch.proofs.GroupLaws.{fold-markets, fold-wallets}
-use Rattle.dex_batch.proofs.PartLaws.{part-append, zip-at, zip-drop, zip-take}
+use Rattle.dex_world.proofs.MappedLists.{zip-at}
+use Rattle.dex_batch.proofs.PartLaws.{part-append, zip-drop, zip-take}
 use Rattle.dex_batch.proofs.RoomLaws.{can-act, here-still, room-behind, room-front, room-skip}
 
 -- ---- none, one, and more
@@ -82,7 +77,7 @@ module _ (rows : List Row) (place : ℕ) (row : Row) (within : place < length ro
       → (at : RowPlaces) → at ≡ get_or places place at → ArePlacesIn now (row_of row) at
   next-stands places before now can so at at_is =
       let there : ArePlacesIn before (row_of row) at =
-      subst (ArePlacesIn before (row_of row)) (sym at_is) (subst (λ (r : PlainRow). ArePlacesIn before r (get_or places place at)) row-at (zip-at (ArePlacesIn before) all places can.placed place (row_of row) at inside)) in
+      subst (ArePlacesIn before (row_of row)) (sym at_is) (subst (λ (r : PlainRow). ArePlacesIn before r (get_or places place at)) row-at (zip-at (ArePlacesIn before) all places place (row_of row) at can.placed inside)) in
       stands-still before now can.their so.their so.kept (row_of row) at there
 
   pub all-more : (before now after : CellsState) (reply : Reply) → HaveActed (take place all) (take place all) before now → HasStepped (row_of row) reply now after
@@ -112,7 +107,7 @@ module _ (rows : List Row) (place : ℕ) (row : Row) (within : place < length ro
     pub own-can : (now : CellsState) → So now → n ≡ number → CanAct (row_of row) now
     own-can now so own =
         can-act (row_of row) (drop (place + 1) all) first now ready.their so.their so.kept
-        (subst (IsHere first) row-at (zip-at (λ (m : ℕ) (r : PlainRow). m ≡ number → IsHere first r) numbers all ready.here place n (row_of row) (omega (arith, inside, beside)) (sym n_is ∙ own)))
+        (subst (IsHere first) row-at (zip-at (λ (m : ℕ) (r : PlainRow). m ≡ number → IsHere first r) numbers all place n (row_of row) ready.here (omega (arith, inside, beside)) (sym n_is ∙ own)))
         (room-at (part (take place numbers) number (take place all)) first now ready.room so)
 
     pub own-more : (now after : CellsState) (reply : Reply) → So now → eqb n number ≡ true → HasStepped (row_of row) reply now after

@@ -1,21 +1,16 @@
 -- Groups: each row is of one, and acts on that alone.
-use Rattle.std.proofs.Common.{◌≡◌, ℕ, zero, suc, ◌<◌, Bool, true, false, ◌||◌, eqb, List, [], ◌∷◌, get_or, length, map, Option, None, Some, refl, sym, ap, ◌∙◌, arith}
-use Rattle.std.specs.List.{All, AllZip, list_any}
-use Rattle.std.proofs.lemmas.Bool.{cond-false, cond-true, cond_both, false≢true}
-use Rattle.dex_world.proofs.Common.{Address, All-cons, All-head, All-map, All-nil, All-tail, All-weaker, Market, MarketState, PlainRow, WalletState, World, acted, alone, fold, fold_items, get_or-map, is_same, is_same-refl, is_same-sym, is_same-true, length-map, markets_acted, market_acted, seen_by}
+use Rattle.std.proofs.Common.{◌≡◌, ℕ, zero, suc, ◌<◌, true, false, eqb, List, [], ◌∷◌, get_or, length, map, Option, None, Some, refl, sym, ap, ◌∙◌, arith, All, ⊎_elim}
+use Rattle.std.proofs.lemmas.Bool.{or_cases}
+use Rattle.dex_replay.proofs.Common.{CellState, CellsState, MarketCellState, world_of}
+use Rattle.dex_world.proofs.Common.{Address, All-cons, All-head, All-map, All-nil, All-tail, All-weaker, Market, MarketState, PlainRow, WalletState, World, acted, alone, fold, fold_items, get_or-map, is_same, is_same-refl, is_same-sym, is_same-true, length-map, markets_acted, market_acted, seen_by, AllZip, Seen, WalletSeen, cond-false, cond-true, cond_both, false≢true, list_any, row_wallets}
 use Rattle.dex_world.specs.declared.places.RowPlaces.{RowPlaces}
-use Rattle.dex_types.specs.declared.rows.Seen.{Seen}
-use Rattle.dex_types.specs.declared.rows.WalletSeen.{WalletSeen}
-use Rattle.dex_types.specs.Wallets.{row_wallets}
 use Rattle.dex_world.specs.Places.{ArePlacesOf}
-use Rattle.dex_cell.specs.CellState.{MarketCellState}
-use Rattle.dex_wallet.specs.CellState.{CellState}
 use Rattle.dex_world.specs.Items.{Item}
-use Rattle.dex_world.proofs.MappedLists.{filter-of, map-map}
+use Rattle.dex_world.proofs.MappedLists.{filter-of, item_at, map-map}
+use Rattle.std.proofs.lemmas.Slice.Zip.{AllZip-map}
 use Rattle.dex_act.specs.Opened.{market_state_of}
 use Rattle.dex_act.specs.Wallets.{IsAt, cell_place, wallet_state_of}
 use Rattle.dex_act.proofs.InHand.{stands-at}
-use Rattle.dex_bank.specs.Cells.{CellsState, world_of}
 use Rattle.dex_bank.specs.Places.{ArePlacesIn}
 use Rattle.dex_parts.specs.Shards.{IsItemOfOneShard, IsOfOneShard, Sharding, rows_in, world_in}
 use Rattle.dex_parts.proofs.KeptLaws.{items-keep, msrm-kept, named, named-kept, program-kept, srm-kept}
@@ -24,7 +19,7 @@ use Rattle.dex_replay.proofs.Singles.{singles-act}
 use Rattle.dex_batch.specs.Acting.{AreDistinct, AreDistinctCells, market_addresses, wallet_addresses}
 use Rattle.dex_batch.specs.Groups.{IsOfGroup, IsWalletOf, number_of, sharding_of}
 use Rattle.dex_batch.specs.Parts.{part}
-use Rattle.dex_batch.proofs.PartLaws.{part-filter}
+use Rattle.dex_batch.proofs.PartLaws.{part-filter, zip-of}
 use Rattle.dex_batch.proofs.RoomLaws.{address-stays, listing-address}
 
 -- ---- a group's rows act on its part of the world
@@ -90,29 +85,13 @@ number-there (first ∷ addresses) (n ∷ numbers) address (suc place) d e disti
     ∙ number-there addresses numbers address place d e (λ i j c less inside. distinct (suc i) (suc j) c (omega (arith, less)) (omega (arith, inside))) (omega (arith, within))
     (omega (arith, long)) same
 
-map-at : {A B : Type 0} (f : A → B) (xs : List A) (ys : List B) → length ys ≡ length xs → ((place : ℕ) (d : A) (e : B) → place < length xs → f (get_or xs place d) ≡ get_or ys place e)
-    → map f xs ≡ ys
-map-at f [] [] long each = refl
-map-at f [] (y ∷ ys) long each = absurd (omega (arith, long))
-map-at f (x ∷ xs) [] long each = absurd (omega (arith, long))
-map-at f (x ∷ xs) (y ∷ ys) long each =
-    ap (λ z. z ∷ map f xs) (each 0 x y (omega arith))
-    ∙ ap (λ zs. y ∷ zs) (map-at f xs ys (omega (arith, long)) (λ place d e within. each (suc place) d e (omega (arith, within))))
-
 numbers-there : (addresses : List Address) (numbers : List ℕ) → AreDistinct addresses → length numbers ≡ length addresses → map (number_of addresses numbers) addresses ≡ numbers
 numbers-there addresses numbers distinct long =
-    map-at (number_of addresses numbers) addresses numbers long
-    (λ place d e within. number-there addresses numbers (get_or addresses place d) place e d distinct within long (is_same-refl (get_or addresses place d)))
+    sym (AllZip-map (number_of addresses numbers) addresses numbers
+    (zip-of (λ (address : Address) (number : ℕ). number ≡ number_of addresses numbers address) addresses numbers long
+    (λ place d e within. sym (number-there addresses numbers (get_or addresses place d) place e d distinct within long (is_same-refl (get_or addresses place d))))))
 
 -- ---- a bank in groups
-
-some-of : {A : Type 0} (all : List A) (place : ℕ) → place < length all → A
-some-of [] place none = absurd (omega (arith, none))
-some-of (first ∷ others) place some = first
-
-either : {P : Type 0} (one other : Bool) → (one ≡ true → P) → (other ≡ true → P) → (one || other) ≡ true → P
-either true other left right is = left refl
-either false other left right is = right is
 
 module _ (bank : CellsState) (apart : AreDistinctCells bank) (of_markets of_wallets : List ℕ) (markets_long : length of_markets ≡ length bank.markets)
     (wallets_long : length of_wallets ≡ length bank.wallets) where
@@ -143,7 +122,7 @@ module _ (bank : CellsState) (apart : AreDistinctCells bank) (of_markets of_wall
       → groups.wallet wallet ≡ number
   wallet-number number wallet place is of =
       let at : IsAt wallet bank.wallets place = stands-at wallet bank.wallets place is in
-      let d : CellState = some-of bank.wallets place at.within in
+      let d : CellState = item_at bank.wallets place at.within in
       number-there (wallet_addresses world.wallets) of_wallets wallet place 0 wallet apart.wallets (omega (arith, at.within, many-wallets)) (wallets_long ∙ sym many-wallets)
       (ap (is_same wallet) (at-wallet place d wallet at.within) ∙ at.here d)
       ∙ of 0 (omega (arith, at.within, wallets_long))
@@ -153,12 +132,12 @@ module _ (bank : CellsState) (apart : AreDistinctCells bank) (of_markets of_wall
   wallets-number number [] places at of wallet among = absurd (false≢true among)
   wallets-number number (first ∷ others) [] at of wallet among = absurd at
   wallets-number number (first ∷ others) (place ∷ places) at of wallet among =
-      either (is_same wallet first) (list_any (is_same wallet) others)
-      (λ same.
+      ⊎_elim
+      (λ (same : is_same wallet first ≡ true).
       wallet-number number wallet place (ap (λ (a : Address). cell_place a bank.wallets) (is_same-true wallet first same) ∙ at.0)
       (All-head (IsWalletOf of_wallets number) place places of))
-      (λ behind. wallets-number number others places at.1 (All-tail (IsWalletOf of_wallets number) place places of) wallet behind)
-      among
+      (λ (behind : list_any (is_same wallet) others ≡ true). wallets-number number others places at.1 (All-tail (IsWalletOf of_wallets number) place places of) wallet behind)
+      (or_cases (is_same wallet first) (list_any (is_same wallet) others) among)
 
   -- a row's market is of its group, and so are its wallets
   abbrev pub IsRowOf : ℕ → PlainRow → Type 0
@@ -172,7 +151,7 @@ module _ (bank : CellsState) (apart : AreDistinctCells bank) (of_markets of_wall
     where
       market : groups.market row.market ≡ number
       market =
-          let d : MarketCellState = some-of bank.markets places.market at.market.within in
+          let d : MarketCellState = item_at bank.markets places.market at.market.within in
           number-there (market_addresses world.markets) of_markets row.market places.market 0 row.market apart.markets (omega (arith, at.market.within, many-markets))
           (markets_long ∙ sym many-markets) (ap (is_same row.market) (at-market places.market d row.market at.market.within) ∙ at.market.here d)
           ∙ of.market 0
@@ -180,11 +159,10 @@ module _ (bank : CellsState) (apart : AreDistinctCells bank) (of_markets of_wall
   pub rows-of : (rows : List PlainRow) (places : List RowPlaces) (numbers : List ℕ) → AllZip (ArePlacesIn bank) rows places
       → AllZip (IsOfGroup of_markets of_wallets) places numbers → AllZip IsRowOf numbers rows
   rows-of [] [] [] at of = tt
-  rows-of [] (p ∷ places) numbers at of = absurd at
-  rows-of (row ∷ rows) [] numbers at of = absurd at
+  rows-of (row ∷ rows) (p ∷ places) (n ∷ numbers) at of = (row-of row p n at.0 of.0, rows-of rows places numbers at.1 of.1)
   rows-of [] [] (n ∷ numbers) at of = absurd of
   rows-of (row ∷ rows) (p ∷ places) [] at of = absurd of
-  rows-of (row ∷ rows) (p ∷ places) (n ∷ numbers) at of = (row-of row p n at.0 of.0, rows-of rows places numbers at.1 of.1)
+  rows-of _ _ numbers at of = absurd at
 
   -- ---- the parts of its world
 

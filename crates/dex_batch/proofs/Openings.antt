@@ -1,33 +1,17 @@
 -- The cells with which a script starts: all its rows can act on them.
-use Rattle.std.proofs.Common.{◌≡◌, ◌+◌, ◌≤◌, true, List, [], ◌∷◌, map, refl, sym, ap, ◌∙◌, subst, arith}
-use Rattle.std.specs.List.{All, AllZip, list_any}
-use Rattle.std.proofs.lemmas.List.Elements.{All-weaker}
-use Rattle.dex_types.specs.declared.addresses.Address.{Address}
+use Rattle.std.proofs.Common.{◌≡◌, ◌+◌, ◌≤◌, true, List, [], ◌∷◌, map, refl, sym, ap, ◌∙◌, subst, arith, All}
+use Rattle.dex_world.proofs.Common.{Address, All-weaker, AllZip, PlainAccount, PlainMarketAccounts, PlainRow, WalletState, World, fold, is_same, list_any}
+use Rattle.dex_replay.proofs.Common.{AreCells, CellsState, HasNoSwap, IsReplayOf, IsRowOf, IsScript, MarketCellState, PlainScript, address_of, closed, has_account, is_among, is_market, opened, wallet_state_of}
 use Rattle.dex_world.specs.declared.places.RowPlaces.{RowPlaces}
-use Rattle.dex_types.specs.Accounts.{PlainAccount, PlainMarketAccounts}
-use Rattle.dex_types.specs.Addresses.{is_same}
-use Rattle.dex_types.specs.Rows.{PlainRow}
-use Rattle.dex_cell.specs.CellState.{MarketCellState}
-use Rattle.dex_world.specs.Fold.{fold}
 use Rattle.dex_world.specs.Items.{items_of}
 use Rattle.dex_world.specs.RowsOf.{rows_on}
-use Rattle.dex_world.specs.World.{WalletState, World}
 use Rattle.dex_world.proofs.MappedLists.{list_any-map, map-map}
 use Rattle.dex_act.specs.Opened.{market_opened, market_state_of, wallet_opened}
-use Rattle.dex_act.specs.Wallets.{is_among, wallet_state_of}
 use Rattle.dex_act.proofs.CellLists.{is_among-any}
-use Rattle.dex_state.specs.Addresses.{address_of}
-use Rattle.dex_bank.specs.Cells.{AreCells, CellsState, is_market}
-use Rattle.dex_bank.specs.Closed.{closed}
-use Rattle.dex_bank.specs.Opened.{opened}
 use Rattle.dex_bank.specs.Places.{ArePlacedIn}
-use Rattle.dex_replay.specs.Replays.{IsReplayOf}
 use Rattle.dex_replay.proofs.Ends.{is-left}
 use Rattle.dex_replay.proofs.Singles.{script-acts}
 use Rattle.dex_replay.proofs.Starts.{AreOfScript, are-of-script, market-addresses, opened-address, opened-opened, opened-world, wallet-addresses}
-use Rattle.dex_script_types.specs.PlainScript.{PlainScript}
-use Rattle.dex_script_types.specs.Facts.{HasNoSwap, IsRowOf, IsScript}
-use Rattle.dex_script_types.specs.Known.{has_account}
 use Rattle.dex_script_types.specs.Starts.{market_state, wallet_state}
 use Rattle.dex_script_types.proofs.Apart.{markets-distinct, wallets-distinct}
 use Rattle.dex_script_types.proofs.Roles.{roles-all}
@@ -85,8 +69,7 @@ module _ (script : PlainScript) (is : IsScript script) where
 
   start-markets : (accounts : List PlainMarketAccounts) → market_addresses (map market_state accounts) ≡ map (λ (one : PlainMarketAccounts). one.address) accounts
   start-markets [] = refl
-  start-markets (one ∷ others) =
-      ap (λ (a : Address). a ∷ market_addresses (map market_state others)) (listing-address one) ∙ ap (λ (list : List Address). one.address ∷ list) (start-markets others)
+  start-markets (one ∷ others) = λ i. listing-address one i ∷ start-markets others i
 
   all-apart : AreDistinctCells first
   all-apart = record {

@@ -1,8 +1,7 @@
 -- Lists in parts.
-use Rattle.std.proofs.Common.{◌≡◌, ℕ, zero, suc, ◌+◌, ◌<◌, Bool, true, false, cond, eqb, List, [], ◌∷◌, ◌++◌, drop, get_or, length, map, take, refl, ap, ◌∙◌, subst, arith}
-use Rattle.std.specs.List.{All, AllZip, filter}
-use Rattle.std.proofs.lemmas.Bool.{cond_both, eq-eqb, false≢true}
-use Rattle.std.proofs.lemmas.List.Elements.{All-cons, All-head, All-tail}
+use Rattle.std.proofs.Common.{◌≡◌, ℕ, zero, suc, ◌+◌, ◌<◌, Bool, true, false, cond, eqb, List, [], ◌∷◌, ◌++◌, drop, get_or, length, map, take, refl, sym, ap, subst, arith, All, eq-eqb, filter}
+use Rattle.dex_world.proofs.Common.{AllZip, AllZip-long, cond_both, false≢true}
+use Rattle.std.proofs.lemmas.List.Elements.{All-cons, All-head, All-tail, same_from_all_zip}
 use Rattle.dex_batch.specs.Parts.{part}
 
 -- a part of what is made of a list is made of its part
@@ -24,8 +23,6 @@ part-filter f number (x ∷ xs) = ap (λ ys. cond (eqb (f x) number) (x ∷ ys) 
 pub part-append : {A : Type 0} (numbers more : List ℕ) (number : ℕ) (xs ys : List A) → length numbers ≡ length xs
     → part (numbers ++ more) number (xs ++ ys) ≡ part numbers number xs ++ part more number ys
 part-append [] more number [] ys long = refl
-part-append [] more number (x ∷ xs) ys long = absurd (omega (arith, long))
-part-append (n ∷ numbers) more number [] ys long = absurd (omega (arith, long))
 part-append (n ∷ numbers) more number (x ∷ xs) ys long = either (eqb n number) (part-append numbers more number xs ys (omega (arith, long)))
   where
     either : (b : Bool) → part (numbers ++ more) number (xs ++ ys) ≡ part numbers number xs ++ part more number ys
@@ -33,21 +30,7 @@ part-append (n ∷ numbers) more number (x ∷ xs) ys long = either (eqb n numbe
         ≡ cond b (x ∷ part numbers number xs) (part numbers number xs) ++ part more number ys
     either true rest = ap (λ zs. x ∷ zs) rest
     either false rest = rest
-
--- parts by the same numbers are as long
-as-long : {A B : Type 0} (numbers : List ℕ) (number : ℕ) (xs : List A) (ys : List B) → length xs ≡ length numbers → length ys ≡ length numbers
-    → length (part numbers number xs) ≡ length (part numbers number ys)
-as-long [] number xs ys long also = refl
-as-long (n ∷ numbers) number [] ys long also = absurd (omega (arith, long))
-as-long (n ∷ numbers) number (x ∷ xs) [] long also = absurd (omega (arith, also))
-as-long (n ∷ numbers) number (x ∷ xs) (y ∷ ys) long also = either (eqb n number) (as-long numbers number xs ys (omega (arith, long)) (omega (arith, also)))
-  where
-    either : (b : Bool) → length (part numbers number xs) ≡ length (part numbers number ys) → length (cond b (x ∷ part numbers number xs) (part numbers number xs)) ≡ length (cond b (y ∷ part numbers number ys) (part numbers number ys))
-    either true rest = ap suc rest
-    either false rest = rest
-
-pub part-long : {A : Type 0} (numbers : List ℕ) (number : ℕ) (xs : List A) → length xs ≡ length numbers → length (part numbers number xs) ≡ length (part numbers number numbers)
-part-long numbers number xs long = as-long numbers number xs numbers long refl
+part-append _ more number _ ys long = absurd (omega (arith, long))
 
 -- what holds of all holds of a part
 pub part-all : {A : Type 0} (P : A → Type 0) (numbers : List ℕ) (number : ℕ) (xs : List A) → All P xs → All P (part numbers number xs)
@@ -62,13 +45,12 @@ pub part-zip : {A B : Type 0} (R : A → B → Type 0) (numbers : List ℕ) (num
     → AllZip R (part numbers number xs) (part numbers number ys)
 part-zip R [] number xs ys all = tt
 part-zip R (n ∷ numbers) number [] [] all = tt
-part-zip R (n ∷ numbers) number [] (y ∷ ys) all = absurd all
-part-zip R (n ∷ numbers) number (x ∷ xs) [] all = absurd all
 part-zip R (n ∷ numbers) number (x ∷ xs) (y ∷ ys) all = either (eqb n number) (part-zip R numbers number xs ys all.1)
   where
     either : (b : Bool) → AllZip R (part numbers number xs) (part numbers number ys) → AllZip R (cond b (x ∷ part numbers number xs) (part numbers number xs)) (cond b (y ∷ part numbers number ys) (part numbers number ys))
     either true rest = (all.0, rest)
     either false rest = rest
+part-zip R (n ∷ numbers) number _ _ all = absurd all
 
 -- ---- a whole is determined by its parts
 
@@ -80,10 +62,6 @@ module _ {A B : Type 0} (R : A → B → Type 0) (count : ℕ) where
   pub parts-zip : (numbers : List ℕ) (xs : List A) (ys : List B) → AreBelow count numbers → length xs ≡ length numbers → length ys ≡ length numbers
       → ((number : ℕ) → number < count → AllZip R (part numbers number xs) (part numbers number ys)) → AllZip R xs ys
   parts-zip [] [] [] below long also each = tt
-  parts-zip [] (x ∷ xs) ys below long also each = absurd (omega (arith, long))
-  parts-zip [] [] (y ∷ ys) below long also each = absurd (omega (arith, also))
-  parts-zip (n ∷ numbers) [] ys below long also each = absurd (omega (arith, long))
-  parts-zip (n ∷ numbers) (x ∷ xs) [] below long also each = absurd (omega (arith, also))
   parts-zip (n ∷ numbers) (x ∷ xs) (y ∷ ys) below long also each = (
     (own (eqb n n) (eq-eqb n n refl) (each n (All-head (λ (m : ℕ). m < count) n numbers below))).0,
     parts-zip numbers xs ys (All-tail (λ (m : ℕ). m < count) n numbers below) (omega (arith, long)) (omega (arith, also))
@@ -100,12 +78,7 @@ module _ {A B : Type 0} (R : A → B → Type 0) (count : ℕ) where
           → AllZip R (part numbers number xs) (part numbers number ys)
       behind number true all = all.1
       behind number false all = all
-
-zip-same : {A : Type 0} (xs ys : List A) → AllZip (λ x y. x ≡ y) xs ys → xs ≡ ys
-zip-same [] [] all = refl
-zip-same [] (y ∷ ys) all = absurd all
-zip-same (x ∷ xs) [] all = absurd all
-zip-same (x ∷ xs) (y ∷ ys) all = ap (λ z. z ∷ xs) all.0 ∙ ap (λ zs. y ∷ zs) (zip-same xs ys all.1)
+  parts-zip _ _ _ below long also each = absurd (omega (arith, long, also))
 
 same-zip : {A : Type 0} (xs ys : List A) → xs ≡ ys → AllZip (λ x y. x ≡ y) xs ys
 same-zip {A} xs ys same = subst (AllZip (λ (x y : A). x ≡ y) xs) same (own xs)
@@ -118,48 +91,35 @@ same-zip {A} xs ys same = subst (AllZip (λ (x y : A). x ≡ y) xs) same (own xs
 pub parts-same : {A : Type 0} (count : ℕ) (numbers : List ℕ) (xs ys : List A) → AreBelow count numbers → length xs ≡ length numbers → length ys ≡ length numbers
     → ((number : ℕ) → number < count → part numbers number xs ≡ part numbers number ys) → xs ≡ ys
 parts-same {A} count numbers xs ys below long also each =
-    zip-same xs ys (parts-zip (λ (x y : A). x ≡ y) count numbers xs ys below long also (λ number within. same-zip (part numbers number xs) (part numbers number ys) (each number within)))
+    sym (same_from_all_zip (λ (x y : A). x ≡ y) xs ys
+    (parts-zip (λ (x y : A). x ≡ y) count numbers xs ys below long also (λ number within. same-zip (part numbers number xs) (part numbers number ys) (each number within)))
+    (λ x y same. sym same))
 
 -- ---- side by side
-
-pub zip-at : {A B : Type 0} (R : A → B → Type 0) (xs : List A) (ys : List B) → AllZip R xs ys → (k : ℕ) (d : A) (e : B) → k < length xs → R (get_or xs k d) (get_or ys k e)
-zip-at R [] ys all k d e within = absurd (omega (arith, within))
-zip-at R (x ∷ xs) [] all k d e within = absurd all
-zip-at R (x ∷ xs) (y ∷ ys) all zero d e within = all.0
-zip-at R (x ∷ xs) (y ∷ ys) all (suc k) d e within = zip-at R xs ys all.1 k d e (omega (arith, within))
 
 pub zip-of : {A B : Type 0} (R : A → B → Type 0) (xs : List A) (ys : List B) → length ys ≡ length xs
     → ((k : ℕ) (d : A) (e : B) → k < length xs → R (get_or xs k d) (get_or ys k e)) → AllZip R xs ys
 zip-of R [] [] long each = tt
-zip-of R [] (y ∷ ys) long each = absurd (omega (arith, long))
-zip-of R (x ∷ xs) [] long each = absurd (omega (arith, long))
 zip-of R (x ∷ xs) (y ∷ ys) long each = (each 0 x y (omega arith), zip-of R xs ys (omega (arith, long)) (λ k d e within. each (suc k) d e (omega (arith, within))))
+zip-of R _ _ long each = absurd (omega (arith, long))
 
-pub zip-more : {A B : Type 0} (R : A → B → Type 0) (xs : List A) (ys : List B) (x : A) (y : B) → AllZip R xs ys → R x y → AllZip R (xs ++ x ∷ []) (ys ++ y ∷ [])
-zip-more R [] [] x y all is = (is, tt)
-zip-more R [] (z ∷ ys) x y all is = absurd all
-zip-more R (z ∷ xs) [] x y all is = absurd all
-zip-more R (z ∷ xs) (w ∷ ys) x y all is = (all.0, zip-more R xs ys x y all.1 is)
-
-pub zip-weaker : {A B : Type 0} (R S : A → B → Type 0) → ((x : A) (y : B) → R x y → S x y) → (xs : List A) (ys : List B) → AllZip R xs ys → AllZip S xs ys
-zip-weaker R S each [] [] all = tt
-zip-weaker R S each [] (y ∷ ys) all = absurd all
-zip-weaker R S each (x ∷ xs) [] all = absurd all
-zip-weaker R S each (x ∷ xs) (y ∷ ys) all = (each x y all.0, zip-weaker R S each xs ys all.1)
+-- parts by the same numbers are as long
+pub part-long : {A : Type 0} (numbers : List ℕ) (number : ℕ) (xs : List A) → length xs ≡ length numbers → length (part numbers number xs) ≡ length (part numbers number numbers)
+part-long {A} numbers number xs long =
+    let Any : ℕ → A → Type 0 = λ n x. Unit {0} in
+    AllZip-long Any (part numbers number numbers) (part numbers number xs) (part-zip Any numbers number numbers xs (zip-of Any numbers xs long (λ k d e within. tt)))
 
 pub zip-take : {A B : Type 0} (R : A → B → Type 0) (n : ℕ) (xs : List A) (ys : List B) → AllZip R xs ys → AllZip R (take n xs) (take n ys)
 zip-take R zero xs ys all = tt
 zip-take R (suc n) [] [] all = tt
-zip-take R (suc n) [] (y ∷ ys) all = absurd all
-zip-take R (suc n) (x ∷ xs) [] all = absurd all
 zip-take R (suc n) (x ∷ xs) (y ∷ ys) all = (all.0, zip-take R n xs ys all.1)
+zip-take R (suc n) _ _ all = absurd all
 
 pub zip-drop : {A B : Type 0} (R : A → B → Type 0) (n : ℕ) (xs : List A) (ys : List B) → AllZip R xs ys → AllZip R (drop n xs) (drop n ys)
 zip-drop R zero xs ys all = all
 zip-drop R (suc n) [] [] all = tt
-zip-drop R (suc n) [] (y ∷ ys) all = absurd all
-zip-drop R (suc n) (x ∷ xs) [] all = absurd all
 zip-drop R (suc n) (x ∷ xs) (y ∷ ys) all = zip-drop R n xs ys all.1
+zip-drop R (suc n) _ _ all = absurd all
 
 -- what is told of each of some elements by its place, and of one more
 pub each-more : {A : Type 0} (told : ℕ → A) (xs : List A) (x : A) → ((k : ℕ) (d : A) → k < length xs → get_or xs k d ≡ told k) → x ≡ told (length xs)

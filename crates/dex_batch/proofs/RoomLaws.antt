@@ -1,25 +1,19 @@
 -- Room for entries, row by row.
-use Rattle.std.proofs.Common.{◌≡◌, ℕ, ◌+◌, ◌≤◌, Bool, true, ◌||◌, cond, List, [], ◌∷◌, ◌++◌, length, map, Option, None, Some, refl, sym, ap, ◌∙◌, subst, arith}
-use Rattle.std.specs.List.{All, AllZip}
-use Rattle.dex_world.proofs.Common.{Address, All-cons, All-head, All-nil, All-tail, All-weaker, Call, Listing, Market, MarketState, Movement, PlainRow, Seen, Step, Transfers, WalletState, World, act, acted, cond_both, entry_by, is_same, length-map, market_acted, markets_acted, movement_of, names, request_of, row_step, row_wallets, seen_by, step-keeps, sum_by-append, sum_by-cons, wallet_acted, wallet_entry_by, wallet_moved}
-use Rattle.std.proofs.lemmas.List.{length-append}
-use Rattle.dex_types.specs.Accounts.{PlainMarketAccounts}
+use Rattle.std.proofs.Common.{◌≡◌, ℕ, ◌+◌, ◌≤◌, Bool, true, ◌||◌, cond, List, [], ◌∷◌, ◌++◌, length, map, Option, None, Some, refl, sym, ap, ◌∙◌, subst, arith, All, length-append}
+use Rattle.dex_replay.proofs.Common.{CanAct, CellState, CellsState, MarketCellState, is_market, opened_of, world_of}
+use Rattle.dex_world.proofs.Common.{Address, All-cons, All-head, All-nil, All-tail, All-weaker, Call, Listing, Market, MarketState, Movement, PlainRow, Seen, Step, Transfers, WalletState, World, act, acted, cond_both, entry_by, is_same, length-map, market_acted, markets_acted, movement_of, names, request_of, row_step, row_wallets, seen_by, step-keeps, sum_by-append, sum_by-cons, wallet_acted, wallet_entry_by, wallet_moved, AllZip, PlainMarketAccounts}
 use Rattle.dex_accounts.specs.Decoded.{market_in}
 use Rattle.dex_cell.specs.CellState as market
-use Rattle.dex_cell.specs.CellState.{MarketCellState}
 use Rattle.dex_wallet.specs.CellState as wallet
-use Rattle.dex_wallet.specs.CellState.{CellState}
 use Rattle.dex_world.specs.RowsOf.{rows_naming, rows_on}
 use Rattle.dex_world.specs.World.{market_at}
-use Rattle.dex_world.proofs.MappedLists.{map-map}
+use Rattle.dex_world.proofs.MappedLists.{map-map, zip-weaker}
 use Rattle.dex_act.specs.Opened.{market_state_of}
 use Rattle.dex_act.specs.Wallets.{is_among, made_of, wallet_state_of}
-use Rattle.dex_bank.specs.Cells.{CanAct, CellsState, is_market, opened_of, world_of}
 use Rattle.dex_bank.proofs.Stands.{HasItsAddress}
 use Rattle.dex_bank.proofs.StepWorld.{opened_market, same-wallets}
 use Rattle.dex_batch.specs.Acting.{HaveTheirAddress, IsHere}
 use Rattle.dex_batch.specs.Rooms.{HasRoom, MarketRoom, WalletRoom}
-use Rattle.dex_batch.proofs.PartLaws.{zip-weaker}
 
 pub listing-address : (accounts : PlainMarketAccounts) → (market_in accounts).listing.address ≡ accounts.address
 unfolding market_in
@@ -65,13 +59,12 @@ module _ (row : PlainRow) (rows : List PlainRow) (seen : Seen) where
 
   markets-behind : (states : List MarketState) (rooms : List ℕ) → AllZip (MarketRoom (row ∷ rows)) states rooms → AllZip (MarketRoom rows) (markets_acted row seen states) rooms
   markets-behind [] [] all = tt
-  markets-behind [] (room ∷ rooms) all = absurd all
-  markets-behind (state ∷ states) [] all = absurd all
   markets-behind (state ∷ states) (room ∷ rooms) all =
       cond_both (is_same row.market state.market.listing.address) (market_acted row seen state ∷ states) (state ∷ markets_acted row seen states)
       (λ (list : List MarketState). AllZip (MarketRoom rows) list (room ∷ rooms))
       (λ same. (own-market state room all.0 same, zip-weaker (MarketRoom (row ∷ rows)) (MarketRoom rows) (market-fewer row rows) states rooms all.1))
       (λ apart. (market-fewer row rows state room all.0, markets-behind states rooms all.1))
+  markets-behind _ _ all = absurd all
 
   own-wallet : (t : Transfers) (state : WalletState) (room : ℕ) → WalletRoom (row ∷ rows) state room → WalletRoom rows (wallet_acted row seen t state) room
   own-wallet t state room is =
@@ -87,9 +80,8 @@ module _ (row : PlainRow) (rows : List PlainRow) (seen : Seen) where
   wallets-behind : (t : Transfers) (states : List WalletState) (rooms : List ℕ) → AllZip (WalletRoom (row ∷ rows)) states rooms
       → AllZip (WalletRoom rows) (map (wallet_acted row seen t) states) rooms
   wallets-behind t [] [] all = tt
-  wallets-behind t [] (room ∷ rooms) all = absurd all
-  wallets-behind t (state ∷ states) [] all = absurd all
   wallets-behind t (state ∷ states) (room ∷ rooms) all = (own-wallet t state room all.0, wallets-behind t states rooms all.1)
+  wallets-behind t _ _ all = absurd all
 
 -- ---- on cells
 
@@ -165,9 +157,8 @@ room-behind row rows before after has acts kept =
 
 market-opened : (address : Address) (cells : List MarketCellState) → All HasItsAddress cells → is_market address (map opened_market cells) ≡ is_market address cells
 market-opened address [] all = refl
-market-opened address (cell ∷ cells) all =
-    ap (λ (a : Address). is_same address a || is_market address (map opened_market cells)) (sym (All-head HasItsAddress cell cells all))
-    ∙ ap (λ (b : Bool). is_same address cell.accounts.address || b) (market-opened address cells (All-tail HasItsAddress cell cells all))
+market-opened address (cell ∷ cells) all = λ i.
+    is_same address (sym (All-head HasItsAddress cell cells all) i) || market-opened address cells (All-tail HasItsAddress cell cells all) i
 
 -- a row names what is here behind other rows as well
 pub here-still : (row : PlainRow) (first cells : CellsState) → HaveTheirAddress first → HaveTheirAddress cells → opened_of cells ≡ opened_of first → IsHere first row → IsHere cells row

@@ -1,55 +1,30 @@
 -- Shares of a bank: ready, and what they leave together.
-use Rattle.std.proofs.Common.{◌≡◌, ℕ, ◌<◌, Bool, true, false, ◌||◌, cond, eqb, List, [], ◌∷◌, ◌++◌, get_or, length, map, Option, refl, sym, ap, ◌∙◌, subst, arith}
-use Rattle.std.specs.List.{All, AllZip, filter, list_any}
-use Rattle.std.proofs.lemmas.Bool.{cond_both, eq-eqb, false≢true, or_left, or_parts, or_right}
-use Rattle.dex_world.proofs.Common.{Address, All-cons, All-head, All-nil, All-tail, All-weaker, AllZip-long, MarketState, PlainRow, WalletState, World, fold, get_or-map, is_same, is_same-refl, is_same-true, length-map, names, row_wallets}
+use Rattle.std.proofs.Common.{◌≡◌, ℕ, ◌<◌, Bool, true, false, ◌||◌, eqb, List, [], ◌∷◌, ◌++◌, get_or, length, map, refl, sym, ap, ◌∙◌, subst, arith, All, eq-eqb, filter}
+use Rattle.dex_replay.proofs.Common.{AreCells, CellState, CellsState, IsMarketCell, IsWalletCell, MarketCellState, is_market, opened_of, world_of}
+use Rattle.dex_world.proofs.Common.{Address, All-cons, All-head, All-nil, All-tail, AllZip-long, MarketState, PlainRow, WalletState, World, fold, get_or-map, is_same, is_same-refl, is_same-true, length-map, list_any_at, names, row_wallets, AllZip, cond_both, list_any, or_parts}
 use Rattle.dex_world.specs.declared.places.RowPlaces.{RowPlaces}
-use Rattle.dex_types.specs.declared.terms.Program.{Program}
-use Rattle.dex_cell.specs.CellState.{IsMarketCell, MarketCellState}
-use Rattle.dex_wallet.specs.CellState.{CellState, IsWalletCell}
-use Rattle.dex_world.proofs.MappedLists.{All-second, list_any-map, map-map}
+use Rattle.dex_world.proofs.MappedLists.{All-second, list_any-map, map-map, zip-at}
 use Rattle.dex_act.specs.Opened.{market_state_of}
 use Rattle.dex_act.specs.Wallets.{AreApart, is_among, made_of, wallet_state_of}
+use Rattle.std.proofs.lemmas.Map.Views.{any-filter_same}
 use Rattle.dex_act.proofs.CellLists.{is_among-any}
-use Rattle.dex_bank.specs.Cells.{AreCells, CellsState, is_market, opened_of, world_of}
 use Rattle.dex_bank.proofs.Stands.{its-address}
 use Rattle.dex_bank.proofs.StepWorld.{among-opened, opened_market}
 use Rattle.dex_parts.specs.Shards.{IsOfOneShard, Sharding, rows_in, world_in}
 use Rattle.dex_act.specs.Steps.{Terms}
 use Rattle.dex_bank.specs.CellsInside.{terms_of}
 use Rattle.dex_batch.specs.Acting.{CanAllAct, HaveActed, IsHere}
-use Rattle.dex_batch.specs.Groups.{IsOfGroup}
+use Rattle.dex_batch.specs.Groups.{AreGroups, IsOfGroup}
+use Rattle.dex_batch.specs.declared.groups.Groups.{Groups}
 use Rattle.dex_batch.specs.Parts.{AreAsLong, AreParts, part}
 use Rattle.dex_batch.specs.Rooms.{HasRoom, MarketRoom, WalletRoom}
 use Rattle.dex_batch.specs.Shares.{AreShares, HasRun, IsReady, ShareState, own_cells, share}
 use Rattle.dex_batch.proofs.GroupLaws as group
 use Rattle.dex_batch.proofs.GroupLaws.{fold-markets, fold-wallets, group-acts}
-use Rattle.dex_batch.proofs.PartLaws.{part-all, part-filter, part-long, part-map, part-zip, parts-same, parts-zip, zip-at, zip-of}
+use Rattle.dex_batch.proofs.PartLaws.{part-all, part-filter, part-long, part-map, part-zip, parts-same, parts-zip, zip-of}
 use Rattle.dex_batch.proofs.RoomLaws.{listing-address, market_room, wallet_room}
 
 -- ---- lists
-
--- what passes a test stays where the list is filtered by a weaker one
-any-filter : {A : Type 0} (p q : A → Bool) → ((x : A) → p x ≡ true → q x ≡ true) → (xs : List A) → list_any p xs ≡ true → list_any p (filter q xs) ≡ true
-any-filter p q passes [] any = any
-any-filter p q passes (x ∷ xs) any =
-    cond_both (p x) true (list_any p xs) (λ (b : Bool). b ≡ true → list_any p (filter q (x ∷ xs)) ≡ true)
-    (λ here _. cond_both (q x) (x ∷ filter q xs) (filter q xs) (λ list. list_any p list ≡ true) (λ own. or_left (p x) (list_any p (filter q xs)) here) (λ away. absurd (false≢true (sym away ∙ passes x here))))
-    (λ away there. cond_both (q x) (x ∷ filter q xs) (filter q xs) (λ list. list_any p list ≡ true)
-    (λ own. or_right (p x) (list_any p (filter q xs)) (any-filter p q passes xs there)) (λ not. any-filter p q passes xs there))
-    (either (p x) any)
-  where
-    either : (b : Bool) → (b || list_any p xs) ≡ true → cond b true (list_any p xs) ≡ true
-    either true is = is
-    either false is = is
-
--- each of some addresses is among them
-each-any : (addresses : List Address) → All (λ (address : Address). list_any (is_same address) addresses ≡ true) addresses
-each-any [] = All-nil _
-each-any (first ∷ others) =
-    All-cons (λ (address : Address). list_any (is_same address) (first ∷ others) ≡ true) first others (or_left (is_same first first) (list_any (is_same first) others) (is_same-refl first))
-    (All-weaker (λ (address : Address). list_any (is_same address) others ≡ true) (λ (address : Address). list_any (is_same address) (first ∷ others) ≡ true)
-    (λ address among. or_right (is_same address first) (list_any (is_same address) others) among) others (each-any others))
 
 -- parts of what is made of one list
 both-map : {A B C : Type 0} (R : B → C → Type 0) (f : A → B) (g : A → C) (numbers : List ℕ) (number : ℕ) (xs : List A)
@@ -83,10 +58,33 @@ apart-opened : (cells : List CellState) → AreApart cells → AreApart (map mad
 apart-opened [] apart = tt
 apart-opened (cell ∷ cells) apart = (among-opened cell.address cells ∙ apart.0, apart-opened cells apart.1)
 
-module _ (bank : CellsState) (terms : Terms) (terms_in : terms ≡ terms_of bank) (rows : List PlainRow) (places : List RowPlaces) (can : CanAllAct rows places bank) (kept : AreCells bank)
-    (count : ℕ) (gm gw : List ℕ) (gm_long : length gm ≡ length bank.markets) (gw_long : length gw ≡ length bank.wallets)
-    (gm_below : All (λ (n : ℕ). n < count) gm) (gw_below : All (λ (n : ℕ). n < count) gw)
-    (numbers : List ℕ) (of : AllZip (IsOfGroup gm gw) places numbers) where
+-- a bank's cells are dealt into piles by groups, of one of which each row is
+pub record AreDealt (bank : CellsState) (terms : Terms) (rows : List PlainRow) (numbers : List ℕ) (by : Groups) (of_markets : List (List MarketCellState))
+    (of_wallets : List (List CellState)) : Type 0 where
+  pub terms_in : terms ≡ terms_of bank
+  pub kept : AreCells bank
+  pub groups : AreGroups (length bank.markets) (length bank.wallets) by
+  pub can : (places : List RowPlaces) × CanAllAct rows places bank × AllZip (IsOfGroup by.markets.items by.wallets.items) places numbers
+  pub many_markets : length of_markets ≡ by.count
+  pub many_wallets : length of_wallets ≡ by.count
+  pub in_markets : AreParts MarketCellState by.markets.items bank.markets of_markets
+  pub in_wallets : AreParts CellState by.wallets.items bank.wallets of_wallets
+
+-- the cells of shares
+abbrev pub own_markets : ShareState → List MarketCellState
+own_markets one = one.cells.markets
+
+abbrev pub own_wallets_of : ShareState → List CellState
+own_wallets_of one = one.cells.wallets
+
+module _ {bank : CellsState} {terms : Terms} {rows : List PlainRow} {numbers : List ℕ} {by : Groups} {of_markets : List (List MarketCellState)} {of_wallets : List (List CellState)}
+    (dealt : AreDealt bank terms rows numbers by of_markets of_wallets) where
+  abbrev gm : List ℕ
+  gm = by.markets.items
+
+  abbrev gw : List ℕ
+  gw = by.wallets.items
+
   abbrev world : World
   world = world_of bank
 
@@ -94,7 +92,7 @@ module _ (bank : CellsState) (terms : Terms) (terms_in : terms ≡ terms_of bank
   last = fold rows world
 
   abbrev groups : Sharding
-  groups = group.groups bank can.apart gm gw gm_long gw_long
+  groups = group.groups bank dealt.can.1.apart gm gw dealt.groups.markets_long dealt.groups.wallets_long
 
   abbrev own : ℕ → CellsState
   own number = own_cells terms (part gm number bank.markets) (part gw number bank.wallets)
@@ -103,15 +101,12 @@ module _ (bank : CellsState) (terms : Terms) (terms_in : terms ≡ terms_of bank
   IsRowOf number row = (groups.market row.market ≡ number) × IsOfOneShard groups row
 
   rows-of : AllZip IsRowOf numbers rows
-  rows-of = group.rows-of bank can.apart gm gw gm_long gw_long rows places numbers can.placed of
+  rows-of = group.rows-of bank dealt.can.1.apart gm gw dealt.groups.markets_long dealt.groups.wallets_long rows dealt.can.0 numbers dealt.can.1.placed dealt.can.2
 
   each-one : (ns : List ℕ) (rs : List PlainRow) → AllZip IsRowOf ns rs → All (IsOfOneShard groups) rs × (ns ≡ map (λ (row : PlainRow). groups.market row.market) rs)
   each-one [] [] all = (All-nil _, refl)
-  each-one [] (r ∷ rs) all = absurd all
-  each-one (n ∷ ns) [] all = absurd all
-  each-one (n ∷ ns) (r ∷ rs) all =
-      let rest = each-one ns rs all.1 in
-      (All-cons (IsOfOneShard groups) r rs all.0.1 rest.0, ap (λ m. m ∷ ns) (sym all.0.0) ∙ ap (λ ms. groups.market r.market ∷ ms) rest.1)
+  each-one (n ∷ ns) (r ∷ rs) all = let rest = each-one ns rs all.1 in (All-cons (IsOfOneShard groups) r rs all.0.1 rest.0, (λ i. sym all.0.0 i ∷ rest.1 i))
+  each-one _ _ all = absurd all
 
   own-rows : (number : ℕ) → part numbers number rows ≡ rows_in groups number rows
   own-rows number =
@@ -120,30 +115,27 @@ module _ (bank : CellsState) (terms : Terms) (terms_in : terms ≡ terms_of bank
   -- ---- the world of a share
 
   markets-part : (number : ℕ) → part gm number world.markets ≡ (world_in groups number world).markets
-  markets-part number = group.markets-part bank can.apart gm gw gm_long gw_long world refl refl number
+  markets-part number = group.markets-part bank dealt.can.1.apart gm gw dealt.groups.markets_long dealt.groups.wallets_long world refl refl number
 
   wallets-part : (number : ℕ) → part gw number world.wallets ≡ (world_in groups number world).wallets
-  wallets-part number = group.wallets-part bank can.apart gm gw gm_long gw_long world refl refl number
+  wallets-part number = group.wallets-part bank dealt.can.1.apart gm gw dealt.groups.markets_long dealt.groups.wallets_long world refl refl number
 
   own-world : (number : ℕ) → world_of (own number) ≡ world_in groups number world
-  own-world number =
-      let make : List MarketState → List WalletState → Option Address → Option Address → Program → World = λ m w s t p.
-      record { markets = m; wallets = w; srm = s; msrm = t; program = p } in
-      let ws : List WalletState = map wallet_state_of (part gw number bank.wallets) in
-      let ms : List MarketState = (world_in groups number world).markets in
-      ap (λ (m : List MarketState). make m ws terms.srm terms.msrm terms.program) (sym (part-map market_state_of gm number bank.markets) ∙ markets-part number)
-      ∙ ap (λ (w : List WalletState). make ms w terms.srm terms.msrm terms.program) (sym (part-map wallet_state_of gw number bank.wallets) ∙ wallets-part number)
-      ∙ ap (λ (s : Option Address). make ms (world_in groups number world).wallets s terms.msrm terms.program) (ap (λ (t : Terms). t.srm) terms_in)
-      ∙ ap (λ (t : Option Address). make ms (world_in groups number world).wallets bank.srm t terms.program) (ap (λ (t : Terms). t.msrm) terms_in)
-      ∙ ap (λ (p : Program). make ms (world_in groups number world).wallets bank.srm bank.msrm p) (ap (λ (t : Terms). t.program) terms_in)
+  own-world number = λ i. record {
+    markets = (sym (part-map market_state_of gm number bank.markets) ∙ markets-part number) i;
+    wallets = (sym (part-map wallet_state_of gw number bank.wallets) ∙ wallets-part number) i;
+    srm = (dealt.terms_in i).srm;
+    msrm = (dealt.terms_in i).msrm;
+    program = (dealt.terms_in i).program;
+  }
 
   -- ---- it is ready
 
   pub own-kept : (number : ℕ) → AreCells (own number)
   own-kept number = record {
-    markets = part-all IsMarketCell gm number bank.markets kept.markets;
-    wallets = part-all IsWalletCell gw number bank.wallets kept.wallets;
-    apart = part-apart gw number bank.wallets kept.apart;
+    markets = part-all IsMarketCell gm number bank.markets dealt.kept.markets;
+    wallets = part-all IsWalletCell gw number bank.wallets dealt.kept.wallets;
+    apart = part-apart gw number bank.wallets dealt.kept.apart;
   }
 
   abbrev cell_key : MarketCellState → ℕ
@@ -156,26 +148,26 @@ module _ (bank : CellsState) (terms : Terms) (terms_in : terms ≡ terms_of bank
   own-markets number =
       ap (λ ns. part ns number bank.markets)
       (sym (sym (map-map market_state_of (λ (state : MarketState). groups.market state.market.listing.address) bank.markets)
-      ∙ group.market-keys bank can.apart gm gw gm_long gw_long world refl refl))
+      ∙ group.market-keys bank dealt.can.1.apart gm gw dealt.groups.markets_long dealt.groups.wallets_long world refl refl))
       ∙ part-filter cell_key number bank.markets
 
   own-wallets : (number : ℕ) → part gw number bank.wallets ≡ filter (λ (cell : CellState). eqb (wallet_cell_key cell) number) bank.wallets
   own-wallets number =
       ap (λ ns. part ns number bank.wallets)
       (sym (sym (map-map wallet_state_of (λ (state : WalletState). groups.wallet state.seen.address) bank.wallets)
-      ∙ group.wallet-keys bank can.apart gm gw gm_long gw_long world refl refl))
+      ∙ group.wallet-keys bank dealt.can.1.apart gm gw dealt.groups.markets_long dealt.groups.wallets_long world refl refl))
       ∙ part-filter wallet_cell_key number bank.wallets
 
   here-own : (number : ℕ) (row : PlainRow) → IsRowOf number row → IsHere bank row → IsHere (own number) row
   here-own number row is here = record {
     market = subst (λ (cells : List MarketCellState). is_market row.market cells ≡ true) (sym (own-markets number))
-        (any-filter (λ (cell : MarketCellState). is_same row.market cell.accounts.address) (λ (cell : MarketCellState). eqb (cell_key cell) number)
-        (λ cell same. eq-eqb (cell_key cell) number (ap groups.market (listing-address cell.accounts ∙ sym (is_same-true row.market cell.accounts.address same)) ∙ is.0)) bank.markets here.market);
+        (any-filter_same (λ (cell : MarketCellState). is_same row.market cell.accounts.address) (λ (cell : MarketCellState). eqb (cell_key cell) number) true
+        (λ cell same. eq-eqb (cell_key cell) number (ap groups.market (listing-address cell.accounts ∙ sym (is_same-true row.market cell.accounts.address same)) ∙ is.0)) bank.markets ∙ here.market);
     wallets = λ k d within. wallet (get_or (row_wallets row) k d) (named k d within) (here.wallets k d within);
   }
     where
       named : (k : ℕ) (d : Address) → k < length (row_wallets row) → names row (get_or (row_wallets row) k d) ≡ true
-      named k d within = each-any (row_wallets row) k d within
+      named k d within = list_any_at (is_same (get_or (row_wallets row) k d)) (row_wallets row) k d within (is_same-refl (get_or (row_wallets row) k d))
 
       wallet : (address : Address) → names row address ≡ true → is_among address bank.wallets ≡ true → is_among address (part gw number bank.wallets) ≡ true
       wallet address named among =
@@ -184,18 +176,17 @@ module _ (bank : CellsState) (terms : Terms) (terms_in : terms ≡ terms_of bank
           λ cells. is_among-any address cells ∙ list_any-map (is_same address) (λ (cell : CellState). cell.address) cells in
           any (part gw number bank.wallets)
           ∙ ap (list_any p) (own-wallets number)
-          ∙ any-filter p (λ (cell : CellState). eqb (wallet_cell_key cell) number)
+          ∙ any-filter_same p (λ (cell : CellState). eqb (wallet_cell_key cell) number) true
           (λ cell same. eq-eqb (wallet_cell_key cell) number (ap groups.wallet (sym (is_same-true address cell.address same)) ∙ is.1 address named ∙ is.0)) bank.wallets
-          (sym (any bank.wallets) ∙ among)
+          ∙ sym (any bank.wallets) ∙ among
 
   here-all : (number : ℕ) (ns : List ℕ) (rs : List PlainRow) → AllZip IsRowOf ns rs → All (IsHere bank) rs → AllZip (λ (n : ℕ) (row : PlainRow). n ≡ number → IsHere (own number) row) ns rs
   here-all number [] [] all here = tt
-  here-all number [] (r ∷ rs) all here = absurd all
-  here-all number (n ∷ ns) [] all here = absurd all
   here-all number (n ∷ ns) (r ∷ rs) all here = (
     (λ same. here-own number r (all.0.0 ∙ same, all.0.1) (All-head (IsHere bank) r rs here)),
     here-all number ns rs all.1 (All-tail (IsHere bank) r rs here),
   )
+  here-all number _ _ all here = absurd all
 
   own-room : (number : ℕ) (some : List PlainRow) → HasRoom some bank → HasRoom some (own number)
   own-room number some has = record {
@@ -208,224 +199,183 @@ module _ (bank : CellsState) (terms : Terms) (terms_in : terms ≡ terms_of bank
   }
 
   pub ready : (number : ℕ) → IsReady (share rows numbers number (own number))
-  ready number = record { their = its-address (own number) (own-kept number); here = here-all number numbers rows rows-of can.here; room = own-room number rows can.room }
+  ready number = record { their = its-address (own number) (own-kept number); here = here-all number numbers rows rows-of dealt.can.1.here; room = own-room number rows dealt.can.1.room }
 
   -- ---- the shares of piles
 
-  module _ (of_markets : List (List MarketCellState)) (of_wallets : List (List CellState)) (many_markets : length of_markets ≡ count) (many_wallets : length of_wallets ≡ count)
-      (are_markets : AreParts MarketCellState gm bank.markets of_markets) (are_wallets : AreParts CellState gw bank.wallets of_wallets) where
-    pub all-kept : AllZip (λ (m : List MarketCellState) (w : List CellState). AreCells (own_cells terms m w)) of_markets of_wallets
-    all-kept =
-        zip-of (λ (m : List MarketCellState) (w : List CellState). AreCells (own_cells terms m w)) of_markets of_wallets (omega (arith, many_markets, many_wallets))
-        (λ k d e within.
-        subst (λ (m : List MarketCellState). AreCells (own_cells terms m (get_or of_wallets k e))) (sym (are_markets.each k d within))
-        (subst (λ (w : List CellState). AreCells (own_cells terms (part gm k bank.markets) w)) (sym (are_wallets.each k e (omega (arith, within, many_markets, many_wallets)))) (own-kept k)))
+  pub all-kept : AllZip (λ (m : List MarketCellState) (w : List CellState). AreCells (own_cells terms m w)) of_markets of_wallets
+  all-kept =
+      zip-of (λ (m : List MarketCellState) (w : List CellState). AreCells (own_cells terms m w)) of_markets of_wallets (omega (arith, dealt.many_markets, dealt.many_wallets))
+      (λ k d e within.
+      subst AreCells
+      (λ i. own_cells terms (sym (dealt.in_markets.each k d within) i) (sym (dealt.in_wallets.each k e (omega (arith, within, dealt.many_markets, dealt.many_wallets))) i)) (own-kept k))
 
-    module _ (shares : List ShareState) (are : AreShares rows numbers terms of_markets of_wallets shares) where
-      share-is : (k : ℕ) (d : ShareState) → k < count → get_or shares k d ≡ share rows numbers k (own k)
-      share-is k d within =
-          are.each k d (omega (arith, within, are.long, many_markets))
-          ∙ ap (λ (m : List MarketCellState). share rows numbers k (own_cells terms m (get_or of_wallets k []))) (are_markets.each k [] (omega (arith, within, many_markets)))
-          ∙ ap (λ (w : List CellState). share rows numbers k (own_cells terms (part gm k bank.markets) w)) (are_wallets.each k [] (omega (arith, within, many_wallets)))
+  module _ (shares : List ShareState) (are : AreShares rows numbers terms of_markets of_wallets shares) where
+    share-is : (k : ℕ) (d : ShareState) → k < by.count → get_or shares k d ≡ share rows numbers k (own k)
+    share-is k d within =
+        are.each k d (omega (arith, within, are.long, dealt.many_markets))
+        ∙ (λ i. share rows numbers k (own_cells terms (dealt.in_markets.each k [] (omega (arith, within, dealt.many_markets)) i)
+        (dealt.in_wallets.each k [] (omega (arith, within, dealt.many_wallets)) i)))
 
-      pub all-ready : All IsReady shares
-      all-ready k d within = subst IsReady (sym (share-is k d (omega (arith, within, are.long, many_markets)))) (ready k)
+    pub all-ready : All IsReady shares
+    all-ready k d within = subst IsReady (sym (share-is k d (omega (arith, within, are.long, dealt.many_markets)))) (ready k)
 
-      pub all-ran : (after : List ShareState) → AllZip HasRun shares after → (d : ShareState) (k : ℕ) → k < count
-          → HaveActed (part numbers k rows) rows (own k) (get_or after k d).cells
-      all-ran after ran d k within =
-          subst (λ (s : ShareState). HasRun s (get_or after k d)) (share-is k d within) (zip-at HasRun shares after ran k d d (omega (arith, within, are.long, many_markets)))
+    -- ---- what they leave together
 
-  -- ---- what shares leave together
+    module _ (after : List ShareState) (ran : AllZip HasRun shares after) where
+      abbrev none : ShareState
+      none = share rows numbers 0 bank
 
-  module _ (end : ℕ → CellsState) (ran : (number : ℕ) → number < count → HaveActed (part numbers number rows) rows (own number) (end number))
-      (end_kept : (number : ℕ) → number < count → AreCells (end number)) where
-    end-world : (number : ℕ) → number < count → world_of (end number) ≡ world_in groups number last
-    end-world number within =
-        (ran number within).acted
-        ∙ ap (λ (some : List PlainRow). fold some (world_of (own number))) (own-rows number)
-        ∙ ap (fold (rows_in groups number rows)) (own-world number)
-        ∙ group-acts groups number rows world (each-one numbers rows rows-of).0
+      abbrev end : ℕ → CellsState
+      end number = (get_or after number none).cells
 
-    last-markets : (number : ℕ) → part gm number last.markets ≡ (world_in groups number last).markets
-    last-markets number = group.markets-part bank can.apart gm gw gm_long gw_long last (fold-markets rows world) (fold-wallets rows world) number
+      many : length after ≡ by.count
+      many = AllZip-long HasRun shares after ran ∙ are.long ∙ dealt.many_markets
 
-    last-wallets : (number : ℕ) → part gw number last.wallets ≡ (world_in groups number last).wallets
-    last-wallets number = group.wallets-part bank can.apart gm gw gm_long gw_long last (fold-markets rows world) (fold-wallets rows world) number
+      end-ran : (number : ℕ) → number < by.count → HaveActed (part numbers number rows) rows (own number) (end number)
+      end-ran number within =
+          subst (λ (s : ShareState). HasRun s (get_or after number none)) (share-is number none within)
+          (zip-at HasRun shares after number none none ran (omega (arith, within, are.long, dealt.many_markets)))
 
-    opened-end : (number : ℕ) → number < count
-        → (map opened_market (end number).markets ≡ part gm number (map opened_market bank.markets)) × (map made_of (end number).wallets ≡ part gw number (map made_of bank.wallets))
-    opened-end number within = (
-      ap (λ (c : CellsState). c.markets) (ran number within).kept ∙ sym (part-map opened_market gm number bank.markets),
-      ap (λ (c : CellsState). c.wallets) (ran number within).kept ∙ sym (part-map made_of gw number bank.wallets),
-    )
-
-    -- each part of the cells is as long as before
-    pub end-long : (number : ℕ) → number < count
-        → (length (end number).markets ≡ length (part gm number gm)) × (length (end number).wallets ≡ length (part gw number gw))
-    end-long number within = (
-      sym (length-map (end number).markets opened_market)
-          ∙ ap length (ap (λ (c : CellsState). c.markets) (ran number within).kept)
-          ∙ length-map (part gm number bank.markets) opened_market
-          ∙ part-long gm number bank.markets (sym gm_long),
-      sym (length-map (end number).wallets made_of)
-          ∙ ap length (ap (λ (c : CellsState). c.wallets) (ran number within).kept)
-          ∙ length-map (part gw number bank.wallets) made_of
-          ∙ part-long gw number bank.wallets (sym gw_long),
-    )
-
-    module _ (markets : List MarketCellState) (wallets : List CellState) (m_long : length markets ≡ length gm) (w_long : length wallets ≡ length gw)
-        (m_parts : (number : ℕ) → number < count → part gm number markets ≡ (end number).markets)
-        (w_parts : (number : ℕ) → number < count → part gw number wallets ≡ (end number).wallets) where
-      abbrev left : CellsState
-      left = record { mints = bank.mints; srm = terms.srm; msrm = terms.msrm; markets = markets; wallets = wallets; program = terms.program }
-
-      last-long : (length last.markets ≡ length gm) × (length last.wallets ≡ length gw)
-      last-long = (
-        sym (length-map last.markets (λ (state : MarketState). state.market.listing.address)) ∙ ap length (fold-markets rows world)
-            ∙ length-map world.markets (λ (state : MarketState). state.market.listing.address) ∙ length-map bank.markets market_state_of ∙ sym gm_long,
-        sym (length-map last.wallets (λ (state : WalletState). state.seen.address)) ∙ ap length (fold-wallets rows world)
-            ∙ length-map world.wallets (λ (state : WalletState). state.seen.address) ∙ length-map bank.wallets wallet_state_of ∙ sym gw_long,
+      pub below : (All (λ (n : ℕ). n < length (map own_markets after)) gm) × (All (λ (n : ℕ). n < length (map own_wallets_of after)) gw)
+      below = (
+        subst (λ (m : ℕ). All (λ (n : ℕ). n < m) gm) (sym (length-map after own_markets ∙ many)) dealt.groups.markets_within,
+        subst (λ (m : ℕ). All (λ (n : ℕ). n < m) gw) (sym (length-map after own_wallets_of ∙ many)) dealt.groups.wallets_within,
       )
 
-      market-states : map market_state_of markets ≡ last.markets
-      market-states =
-          parts-same count gm (map market_state_of markets) last.markets gm_below (length-map markets market_state_of ∙ m_long) last-long.0
-          (λ number within. part-map market_state_of gm number markets ∙ ap (map market_state_of) (m_parts number within)
-          ∙ ap (λ (w : World). w.markets) (end-world number within) ∙ sym (last-markets number))
+      end-world : (number : ℕ) → number < by.count → world_of (end number) ≡ world_in groups number last
+      end-world number within =
+          (end-ran number within).acted
+          ∙ (λ i. fold (own-rows number i) (own-world number i))
+          ∙ group-acts groups number rows world (each-one numbers rows rows-of).0
 
-      wallet-states : map wallet_state_of wallets ≡ last.wallets
-      wallet-states =
-          parts-same count gw (map wallet_state_of wallets) last.wallets gw_below (length-map wallets wallet_state_of ∙ w_long) last-long.1
-          (λ number within. part-map wallet_state_of gw number wallets ∙ ap (map wallet_state_of) (w_parts number within)
-          ∙ ap (λ (w : World). w.wallets) (end-world number within) ∙ sym (last-wallets number))
+      last-markets : (number : ℕ) → part gm number last.markets ≡ (world_in groups number last).markets
+      last-markets number = group.markets-part bank dealt.can.1.apart gm gw dealt.groups.markets_long dealt.groups.wallets_long last (fold-markets rows world) (fold-wallets rows world) number
 
-      opened-markets : map opened_market markets ≡ map opened_market bank.markets
-      opened-markets =
-          parts-same count gm (map opened_market markets) (map opened_market bank.markets) gm_below (length-map markets opened_market ∙ m_long)
-          (length-map bank.markets opened_market ∙ sym gm_long)
-          (λ number within. part-map opened_market gm number markets ∙ ap (map opened_market) (m_parts number within) ∙ (opened-end number within).0)
+      last-wallets : (number : ℕ) → part gw number last.wallets ≡ (world_in groups number last).wallets
+      last-wallets number = group.wallets-part bank dealt.can.1.apart gm gw dealt.groups.markets_long dealt.groups.wallets_long last (fold-markets rows world) (fold-wallets rows world) number
 
-      opened-wallets : map made_of wallets ≡ map made_of bank.wallets
-      opened-wallets =
-          parts-same count gw (map made_of wallets) (map made_of bank.wallets) gw_below (length-map wallets made_of ∙ w_long) (length-map bank.wallets made_of ∙ sym gw_long)
-          (λ number within. part-map made_of gw number wallets ∙ ap (map made_of) (w_parts number within) ∙ (opened-end number within).1)
-
-      last-rest : (last.srm ≡ bank.srm) × (last.msrm ≡ bank.msrm) × (last.program ≡ bank.program)
-      last-rest = group.fold-rest rows world
-
-      ended : world_of left ≡ last
-      ended =
-          let make : List MarketState → List WalletState → Option Address → Option Address → Program → World = λ m w s t p.
-          record { markets = m; wallets = w; srm = s; msrm = t; program = p } in
-          ap (λ (m : List MarketState). make m (map wallet_state_of wallets) terms.srm terms.msrm terms.program) market-states
-          ∙ ap (λ (w : List WalletState). make last.markets w terms.srm terms.msrm terms.program) wallet-states
-          ∙ ap (λ (s : Option Address). make last.markets last.wallets s terms.msrm terms.program) ((ap (λ (t : Terms). t.srm) terms_in) ∙ sym last-rest.0)
-          ∙ ap (λ (t : Option Address). make last.markets last.wallets last.srm t terms.program) ((ap (λ (t : Terms). t.msrm) terms_in) ∙ sym last-rest.1)
-          ∙ ap (λ (p : Program). make last.markets last.wallets last.srm last.msrm p) ((ap (λ (t : Terms). t.program) terms_in) ∙ sym last-rest.2)
-
-      same-opened : opened_of left ≡ opened_of bank
-      same-opened =
-          let make : List MarketCellState → List CellState → Option Address → Option Address → Program → CellsState = λ m w s t p.
-          record { mints = bank.mints; srm = s; msrm = t; markets = m; wallets = w; program = p } in
-          let ms : List MarketCellState = map opened_market bank.markets in
-          let ws : List CellState = map made_of bank.wallets in
-          ap (λ (m : List MarketCellState). make m (map made_of wallets) terms.srm terms.msrm terms.program) opened-markets
-          ∙ ap (λ (w : List CellState). make ms w terms.srm terms.msrm terms.program) opened-wallets
-          ∙ ap (λ (s : Option Address). make ms ws s terms.msrm terms.program) (ap (λ (t : Terms). t.srm) terms_in)
-          ∙ ap (λ (t : Option Address). make ms ws bank.srm t terms.program) (ap (λ (t : Terms). t.msrm) terms_in)
-          ∙ ap (λ (p : Program). make ms ws bank.srm bank.msrm p) (ap (λ (t : Terms). t.program) terms_in)
-
-      all-parts : {A : Type 0} (P : A → Type 0) (ns : List ℕ) (xs : List A) → All (λ (n : ℕ). n < count) ns → length xs ≡ length ns
-          → ((number : ℕ) → number < count → All P (part ns number xs)) → All P xs
-      all-parts {A} P ns xs below long each =
-          All-second (λ (x y : A). P y) P (λ x y is. is) xs xs
-          (parts-zip (λ (x y : A). P y) count ns xs xs below long long (λ number within. twice (part ns number xs) (each number within)))
-        where
-          twice : (ys : List A) → All P ys → AllZip (λ (x y : A). P y) ys ys
-          twice [] all = tt
-          twice (y ∷ ys) all = (All-head P y ys all, twice ys (All-tail P y ys all))
-
-      pub left-kept : AreCells left
-      left-kept = record {
-        markets = all-parts IsMarketCell gm markets gm_below m_long (λ number within. subst (All IsMarketCell) (sym (m_parts number within)) (end_kept number within).markets);
-        wallets = all-parts IsWalletCell gw wallets gw_below w_long (λ number within. subst (All IsWalletCell) (sym (w_parts number within)) (end_kept number within).wallets);
-        apart = opened-apart wallets (subst AreApart (sym opened-wallets) (apart-opened bank.wallets kept.apart));
-      }
-
-      pub left-acted : HaveActed rows rows bank left
-      left-acted = record {
-        acted = ended;
-        kept = same-opened;
-        their = its-address left left-kept;
-        room = λ later has. record {
-          markets = parts-zip (MarketRoom later) count gm (map market_state_of markets) (map market_room markets) gm_below (length-map markets market_state_of ∙ m_long)
-              (length-map markets market_room ∙ m_long)
-              (λ number within. both-map (MarketRoom later) market_state_of market_room gm number markets
-              (subst (λ (cells : List MarketCellState). AllZip (MarketRoom later) (map market_state_of cells) (map market_room cells)) (sym (m_parts number within)) ((ran number within).room later (own-room number (rows ++ later) has)).markets));
-          wallets = parts-zip (WalletRoom later) count gw (map wallet_state_of wallets) (map wallet_room wallets) gw_below (length-map wallets wallet_state_of ∙ w_long)
-              (length-map wallets wallet_room ∙ w_long)
-              (λ number within. both-map (WalletRoom later) wallet_state_of wallet_room gw number wallets
-              (subst (λ (cells : List CellState). AllZip (WalletRoom later) (map wallet_state_of cells) (map wallet_room cells)) (sym (w_parts number within)) ((ran number within).room later (own-room number (rows ++ later) has)).wallets));
-        };
-      }
-
-  -- ---- home
-
-  abbrev pub at_home : List MarketCellState → List CellState → CellsState
-  at_home markets wallets = record { mints = bank.mints; srm = terms.srm; msrm = terms.msrm; markets = markets; wallets = wallets; program = terms.program }
-
-  abbrev own_markets : ShareState → List MarketCellState
-  own_markets one = one.cells.markets
-
-  abbrev own_wallets_of : ShareState → List CellState
-  own_wallets_of one = one.cells.wallets
-
-  module _ (of_markets : List (List MarketCellState)) (of_wallets : List (List CellState)) (many_markets : length of_markets ≡ count) (many_wallets : length of_wallets ≡ count)
-      (are_markets : AreParts MarketCellState gm bank.markets of_markets) (are_wallets : AreParts CellState gw bank.wallets of_wallets)
-      (shares : List ShareState) (are : AreShares rows numbers terms of_markets of_wallets shares) (after : List ShareState) (ran : AllZip HasRun shares after) where
-    abbrev none : ShareState
-    none = share rows numbers 0 bank
-
-    abbrev end : ℕ → CellsState
-    end number = (get_or after number none).cells
-
-    many : length after ≡ count
-    many = AllZip-long HasRun shares after ran ∙ are.long ∙ many_markets
-
-    end-ran : (number : ℕ) → number < count → HaveActed (part numbers number rows) rows (own number) (end number)
-    end-ran number within = all-ran of_markets of_wallets many_markets many_wallets are_markets are_wallets shares are after ran none number within
-
-    pub below : (All (λ (n : ℕ). n < length (map own_markets after)) gm) × (All (λ (n : ℕ). n < length (map own_wallets_of after)) gw)
-    below = (
-      subst (λ (m : ℕ). All (λ (n : ℕ). n < m) gm) (sym (length-map after own_markets ∙ many)) gm_below,
-      subst (λ (m : ℕ). All (λ (n : ℕ). n < m) gw) (sym (length-map after own_wallets_of ∙ many)) gw_below,
-    )
-
-    module _ (end_kept : All (λ (one : ShareState). AreCells one.cells) after) where
-      kept-at : (number : ℕ) → number < count → AreCells (end number)
-      kept-at number within = end_kept number none (omega (arith, within, many))
-
+      -- each part of the cells is as long as before
       pub as-long : AreAsLong gm (map own_markets after) × AreAsLong gw (map own_wallets_of after)
       as-long = (
         (λ k d within. let inside : k < length after = omega (arith, within, length-map after own_markets) in
-            ap length (get_or-map own_markets after k none d inside) ∙ (end-long end end-ran kept-at k (omega (arith, inside, many))).0),
+            ap length (get_or-map own_markets after k none d inside)
+            ∙ sym (length-map (end k).markets opened_market)
+            ∙ ap (λ (c : CellsState). length c.markets) (end-ran k (omega (arith, inside, many))).kept
+            ∙ length-map (part gm k bank.markets) opened_market
+            ∙ part-long gm k bank.markets (sym dealt.groups.markets_long)),
         (λ k d within. let inside : k < length after = omega (arith, within, length-map after own_wallets_of) in
-            ap length (get_or-map own_wallets_of after k none d inside) ∙ (end-long end end-ran kept-at k (omega (arith, inside, many))).1),
+            ap length (get_or-map own_wallets_of after k none d inside)
+            ∙ sym (length-map (end k).wallets made_of)
+            ∙ ap (λ (c : CellsState). length c.wallets) (end-ran k (omega (arith, inside, many))).kept
+            ∙ length-map (part gw k bank.wallets) made_of
+            ∙ part-long gw k bank.wallets (sym dealt.groups.wallets_long)),
       )
 
-      module _ (markets : List MarketCellState) (wallets : List CellState) (m_parts : AreParts MarketCellState gm markets (map own_markets after))
-          (w_parts : AreParts CellState gw wallets (map own_wallets_of after)) where
-        market-part : (number : ℕ) → number < count → part gm number markets ≡ (end number).markets
-        market-part number within =
-            sym (m_parts.each number [] (omega (arith, within, many, length-map after own_markets))) ∙ get_or-map own_markets after number none [] (omega (arith, within, many))
+      module _ (end_kept : All (λ (one : ShareState). AreCells one.cells) after) (markets : List MarketCellState) (wallets : List CellState)
+          (in_markets : AreParts MarketCellState gm markets (map own_markets after)) (in_wallets : AreParts CellState gw wallets (map own_wallets_of after)) where
+        abbrev pub left : CellsState
+        left = record { mints = bank.mints; srm = terms.srm; msrm = terms.msrm; markets = markets; wallets = wallets; program = terms.program }
 
-        wallet-part : (number : ℕ) → number < count → part gw number wallets ≡ (end number).wallets
-        wallet-part number within =
-            sym (w_parts.each number [] (omega (arith, within, many, length-map after own_wallets_of))) ∙ get_or-map own_wallets_of after number none [] (omega (arith, within, many))
+        m_parts : (number : ℕ) → number < by.count → part gm number markets ≡ (end number).markets
+        m_parts number within =
+            sym (in_markets.each number [] (omega (arith, within, many, length-map after own_markets))) ∙ get_or-map own_markets after number none [] (omega (arith, within, many))
 
-        pub home-kept : AreCells (at_home markets wallets)
-        home-kept = left-kept end end-ran kept-at markets wallets m_parts.long w_parts.long market-part wallet-part
+        w_parts : (number : ℕ) → number < by.count → part gw number wallets ≡ (end number).wallets
+        w_parts number within =
+            sym (in_wallets.each number [] (omega (arith, within, many, length-map after own_wallets_of))) ∙ get_or-map own_wallets_of after number none [] (omega (arith, within, many))
 
-        pub home-acted : HaveActed rows rows bank (at_home markets wallets)
-        home-acted = left-acted end end-ran kept-at markets wallets m_parts.long w_parts.long market-part wallet-part
+        kept-at : (number : ℕ) → number < by.count → AreCells (end number)
+        kept-at number within = end_kept number none (omega (arith, within, many))
+
+        last-long : (length last.markets ≡ length gm) × (length last.wallets ≡ length gw)
+        last-long = (
+          sym (length-map last.markets (λ (state : MarketState). state.market.listing.address)) ∙ ap length (fold-markets rows world)
+              ∙ length-map world.markets (λ (state : MarketState). state.market.listing.address) ∙ length-map bank.markets market_state_of ∙ sym dealt.groups.markets_long,
+          sym (length-map last.wallets (λ (state : WalletState). state.seen.address)) ∙ ap length (fold-wallets rows world)
+              ∙ length-map world.wallets (λ (state : WalletState). state.seen.address) ∙ length-map bank.wallets wallet_state_of ∙ sym dealt.groups.wallets_long,
+        )
+
+        -- what is made of all is what is made of each part
+        whole-markets : {B : Type 0} (f : MarketCellState → B) (all : List B) → length all ≡ length gm
+            → ((number : ℕ) → number < by.count → map f (end number).markets ≡ part gm number all) → map f markets ≡ all
+        whole-markets f all long each =
+            parts-same by.count gm (map f markets) all dealt.groups.markets_within (length-map markets f ∙ in_markets.long) long
+            (λ number within. part-map f gm number markets ∙ ap (map f) (m_parts number within) ∙ each number within)
+
+        whole-wallets : {B : Type 0} (f : CellState → B) (all : List B) → length all ≡ length gw
+            → ((number : ℕ) → number < by.count → map f (end number).wallets ≡ part gw number all) → map f wallets ≡ all
+        whole-wallets f all long each =
+            parts-same by.count gw (map f wallets) all dealt.groups.wallets_within (length-map wallets f ∙ in_wallets.long) long
+            (λ number within. part-map f gw number wallets ∙ ap (map f) (w_parts number within) ∙ each number within)
+
+        opened-markets : map opened_market markets ≡ map opened_market bank.markets
+        opened-markets =
+            whole-markets opened_market (map opened_market bank.markets) (length-map bank.markets opened_market ∙ sym dealt.groups.markets_long)
+            (λ number within. ap (λ (c : CellsState). c.markets) (end-ran number within).kept ∙ sym (part-map opened_market gm number bank.markets))
+
+        opened-wallets : map made_of wallets ≡ map made_of bank.wallets
+        opened-wallets =
+            whole-wallets made_of (map made_of bank.wallets) (length-map bank.wallets made_of ∙ sym dealt.groups.wallets_long)
+            (λ number within. ap (λ (c : CellsState). c.wallets) (end-ran number within).kept ∙ sym (part-map made_of gw number bank.wallets))
+
+        ended : world_of left ≡ last
+        ended =
+            let states = whole-markets market_state_of last.markets last-long.0 (λ number within. ap (λ (w : World). w.markets) (end-world number within) ∙ sym (last-markets number)) in
+            let seen = whole-wallets wallet_state_of last.wallets last-long.1 (λ number within. ap (λ (w : World). w.wallets) (end-world number within) ∙ sym (last-wallets number)) in
+            let rest = group.fold-rest rows world in
+            λ i. record {
+              markets = states i;
+              wallets = seen i;
+              srm = (ap (λ (t : Terms). t.srm) dealt.terms_in ∙ sym rest.0) i;
+              msrm = (ap (λ (t : Terms). t.msrm) dealt.terms_in ∙ sym rest.1) i;
+              program = (ap (λ (t : Terms). t.program) dealt.terms_in ∙ sym rest.2) i;
+            }
+
+        same-opened : opened_of left ≡ opened_of bank
+        same-opened = λ i. record {
+          mints = bank.mints;
+          srm = (dealt.terms_in i).srm;
+          msrm = (dealt.terms_in i).msrm;
+          markets = opened-markets i;
+          wallets = opened-wallets i;
+          program = (dealt.terms_in i).program;
+        }
+
+        all-parts : {A : Type 0} (P : A → Type 0) (ns : List ℕ) (xs : List A) → All (λ (n : ℕ). n < by.count) ns → length xs ≡ length ns
+            → ((number : ℕ) → number < by.count → All P (part ns number xs)) → All P xs
+        all-parts {A} P ns xs below long each =
+            All-second (λ (x y : A). P y) P (λ x y is. is) xs xs
+            (parts-zip (λ (x y : A). P y) by.count ns xs xs below long long (λ number within. twice (part ns number xs) (each number within)))
+          where
+            twice : (ys : List A) → All P ys → AllZip (λ (x y : A). P y) ys ys
+            twice [] all = tt
+            twice (y ∷ ys) all = (All-head P y ys all, twice ys (All-tail P y ys all))
+
+        pub left-kept : AreCells left
+        left-kept = record {
+          markets = all-parts IsMarketCell gm markets dealt.groups.markets_within in_markets.long
+              (λ number within. subst (All IsMarketCell) (sym (m_parts number within)) (kept-at number within).markets);
+          wallets = all-parts IsWalletCell gw wallets dealt.groups.wallets_within in_wallets.long
+              (λ number within. subst (All IsWalletCell) (sym (w_parts number within)) (kept-at number within).wallets);
+          apart = opened-apart wallets (subst AreApart (sym opened-wallets) (apart-opened bank.wallets dealt.kept.apart));
+        }
+
+        pub left-acted : HaveActed rows rows bank left
+        left-acted = record {
+          acted = ended;
+          kept = same-opened;
+          their = its-address left left-kept;
+          room = λ later has. record {
+            markets = parts-zip (MarketRoom later) by.count gm (map market_state_of markets) (map market_room markets) dealt.groups.markets_within
+                (length-map markets market_state_of ∙ in_markets.long) (length-map markets market_room ∙ in_markets.long)
+                (λ number within. both-map (MarketRoom later) market_state_of market_room gm number markets
+                (subst (λ (cells : List MarketCellState). AllZip (MarketRoom later) (map market_state_of cells) (map market_room cells)) (sym (m_parts number within))
+                ((end-ran number within).room later (own-room number (rows ++ later) has)).markets));
+            wallets = parts-zip (WalletRoom later) by.count gw (map wallet_state_of wallets) (map wallet_room wallets) dealt.groups.wallets_within
+                (length-map wallets wallet_state_of ∙ in_wallets.long) (length-map wallets wallet_room ∙ in_wallets.long)
+                (λ number within. both-map (WalletRoom later) wallet_state_of wallet_room gw number wallets
+                (subst (λ (cells : List CellState). AllZip (WalletRoom later) (map wallet_state_of cells) (map wallet_room cells)) (sym (w_parts number within))
+                ((end-ran number within).room later (own-room number (rows ++ later) has)).wallets));
+          };
+        }

@@ -1,9 +1,7 @@
 -- Of two lists of which each has lanes, the one with no more of each lane and fewer of one lane is the shorter one.
-use Rattle.std.proofs.Common.{◌≡◌, ℕ, ◌+◌, ◌-◌, ◌≤◌, ◌<◌, Bool, true, false, cond, List, [], ◌∷◌, map, length, refl, arith}
+use Rattle.std.proofs.Common.{◌≡◌, ℕ, ◌+◌, ◌-◌, ◌≤◌, ◌<◌, Bool, true, false, cond, List, [], ◌∷◌, map, length, refl, arith, eqb-true, filter}
 use Rattle.std.specs.Prelude.{◌==◌}
-use Rattle.std.specs.List.{filter}
-use Rattle.std.proofs.lemmas.List.{length-map}
-use Rattle.std.proofs.lemmas.Bool.{eqb-false, eqb-true}
+use Rattle.dex_world.proofs.Common.{eqb-false, length-map}
 
 -- ---- numbers in a list
 
@@ -28,38 +26,30 @@ one-same a b = by-case (a == b) refl
     by-case true is = let e = eqb-true a b is in omega (arith, e)
     by-case false is = let e : a ≡ b → ⊥ = eqb-false a b is in omega (arith, e)
 
-times-without : (n m : ℕ) (ks : List ℕ) → 0 < times n ks → times m (without n ks) + same n m ≡ times m ks
-times-without n m [] some = absurd (omega (arith, some))
-times-without n m (k ∷ ks) some = by-case (λ more. times-without n m ks more) (k == n) refl
+-- it is shorter by one, and has that number once less
+without-one : (n : ℕ) (ks : List ℕ) → 0 < times n ks
+    → ((m : ℕ) → times m (without n ks) + same n m ≡ times m ks) × (length (without n ks) + 1 ≡ length ks)
+without-one n [] some = absurd (omega (arith, some))
+without-one n (k ∷ ks) some = by-case (λ more. without-one n ks more) (k == n) refl
   where
-    by-case : (0 < times n ks → times m (without n ks) + same n m ≡ times m ks) → (test : Bool) → (k == n) ≡ test
-        → times m (cond test ks (k ∷ without n ks)) + same n m ≡ times m (k ∷ ks)
-    by-case left true is = let e = eqb-true k n is in omega (arith, e)
+    by-case : (0 < times n ks → ((m : ℕ) → times m (without n ks) + same n m ≡ times m ks) × (length (without n ks) + 1 ≡ length ks))
+        → (test : Bool) → (k == n) ≡ test
+        → ((m : ℕ) → times m (cond test ks (k ∷ without n ks)) + same n m ≡ times m (k ∷ ks))
+        × (length (cond test ks (k ∷ without n ks)) + 1 ≡ length (k ∷ ks))
+    by-case left true is = let e = eqb-true k n is in ((λ m. omega (arith, e)), omega arith)
     by-case left false is =
         let e : k ≡ n → ⊥ = eqb-false k n is in
-        omega (arith, left (omega (arith, e, some)))
-
-length-without : (n : ℕ) (ks : List ℕ) → 0 < times n ks → length (without n ks) + 1 ≡ length ks
-length-without n [] some = absurd (omega (arith, some))
-length-without n (k ∷ ks) some = by-case (λ more. length-without n ks more) (k == n) refl
-  where
-    by-case : (0 < times n ks → length (without n ks) + 1 ≡ length ks) → (test : Bool) → (k == n) ≡ test
-        → length (cond test ks (k ∷ without n ks)) + 1 ≡ length (k ∷ ks)
-    by-case left true is = omega arith
-    by-case left false is =
-        let e : k ≡ n → ⊥ = eqb-false k n is in
-        omega (arith, left (omega (arith, e, some)))
+        let rest = left (omega (arith, e, some)) in
+        ((λ m. omega (arith, e, rest.0 m)), omega (arith, rest.1))
 
 fewer-numbers : (ks others : List ℕ) → ((n : ℕ) → times n ks ≤ times n others)
     → (n : ℕ) → times n ks < times n others → length ks < length others
 fewer-numbers [] [] each n one = absurd (omega (arith, one))
 fewer-numbers [] (k ∷ others) each n one = omega arith
 fewer-numbers (k ∷ ks) others each n one =
-    let some : 0 < times k others = omega (arith, each k) in
-    let fewer = fewer-numbers ks (without k others)
-    (λ m. omega (arith, each m, times-without k m others some))
-    n (omega (arith, one, times-without k n others some)) in
-    omega (arith, fewer, length-without k others some)
+    let out = without-one k others (omega (arith, each k)) in
+    let fewer = fewer-numbers ks (without k others) (λ m. omega (arith, each m, out.0 m)) n (omega (arith, one, out.0 n)) in
+    omega (arith, fewer, out.1)
 
 -- ---- items with lanes
 

@@ -1,12 +1,11 @@
 -- A lane, and an item more of it.
-use Rattle.std.proofs.Common.{◌≡◌, ℕ, suc, ◌<◌, ◌+◌, false, eqb, List, [], ◌∷◌, ◌++◌, length, map, take, get_or, refl, sym, ap, ◌∙◌, subst, arith}
+use Rattle.std.proofs.Common.{◌≡◌, ℕ, suc, ◌<◌, ◌+◌, false, eqb, List, [], ◌∷◌, ◌++◌, length, map, take, get_or, refl, sym, ap, ◌∙◌, subst, arith, All}
 use Rattle.dex_world.proofs.Common.{All-append, All-cons, All-head, All-nil, All-tail, All-weaker, AllPairs, Asked, Call, Group, PlainRow, asked_of, eq-eqb, false≢true, grouped, length-map, rows_of_lane}
 use Rattle.dex_script_types.specs.PlainScript.{PlainScript}
 use Rattle.dex_script_types.specs.Sight.{IsSight}
 use Rattle.dex_stamps.specs.Stamped.{Stamped}
 use Rattle.dex_journals.specs.Lanes.{AreAllOrNone, IsBefore, IsLane, MovesEach, number_in}
-use Rattle.std.specs.List.{All}
-use Rattle.std.proofs.lemmas.List.{length-append, map-append, append_assoc, append-nil}
+use Rattle.std.proofs.lemmas.List.{length-append, map-append, append_assoc, append-nil, take_at}
 use Rattle.std.proofs.Math.Seq.{take-append-add}
 use Rattle.std.proofs.lemmas.List.Quantifiers.{all_pairs_push}
 use Rattle.dex_world.proofs.GroupLaws.{grouped-behind, grouped-one}
@@ -59,11 +58,7 @@ module _ (script : PlainScript) (lane : ℕ) (calls : List (Stamped Call)) (rows
       ap (λ (n : ℕ). take n all) (length-append calls made ∙ ap (λ (n : ℕ). n + length made) (sym long) ∙ ap (λ (n : ℕ). length done + n) many)
       ∙ ap (take (length done + length rows)) more.next
       ∙ take-append-add done (rows ++ more.later) (length rows)
-      ∙ ap (λ (some : List PlainRow). done ++ some) (take-all rows more.later)
-    where
-      take-all : {X : Type 0} → (xs ys : List X) → take (length xs) (xs ++ ys) ≡ xs
-      take-all [] ys = refl
-      take-all (x ∷ xs) ys = ap (λ (some : List _). x ∷ some) (take-all xs ys)
+      ∙ ap (λ (some : List PlainRow). done ++ some) (take_at rows more.later (length rows) refl)
 
   stamp-of : (k : ℕ) (d : Stamped Call) → k < length made → (get_or made k d).stamp ≡ first.stamp
   stamp-of k d within =

@@ -1,14 +1,8 @@
 -- A market's journal with one call more.
-use Rattle.std.proofs.Common.{◌≡◌, ℕ, ◌≤◌, ◌<◌, Bool, List, [], ◌∷◌, ◌++◌, length, sym, ap, ◌∙◌, subst, arith}
-use Rattle.std.specs.List.{All, filter}
+use Rattle.std.proofs.Common.{◌≡◌, ℕ, ◌≤◌, ◌<◌, Bool, List, [], ◌∷◌, ◌++◌, length, sym, ap, ◌∙◌, subst, arith, All, filter}
+use Rattle.dex_world.proofs.Common.{Call, PlainMarketAccounts, PlainRow, Reply, Seen, is_same}
 use Rattle.std.proofs.lemmas.List.{length_push}
 use Rattle.std.proofs.lemmas.List.Sums.{length-filter}
-use Rattle.dex_types.specs.declared.replies.Reply.{Reply}
-use Rattle.dex_types.specs.declared.rows.Seen.{Seen}
-use Rattle.dex_types.specs.Accounts.{PlainMarketAccounts}
-use Rattle.dex_types.specs.Addresses.{is_same}
-use Rattle.dex_types.specs.Rows.{PlainRow}
-use Rattle.dex_history.specs.Journal.{Call}
 use Rattle.dex_act.specs.declared.places.WalletPlaces.{WalletPlaces}
 use Rattle.dex_act.specs.Steps.{CanStep, HasDone, made_by}
 use Rattle.dex_cell.specs.CellState.{HasSpare, IsMarketCell, MarketCellState, market_at}
@@ -18,7 +12,7 @@ use Rattle.dex_world.specs.RowsOf.{rows_of_market, rows_on}
 use Rattle.dex_stamps.specs.Stamped.{AreRising, items_of, stamped}
 use Rattle.dex_journals.specs.Journals.{BankMarketState, IsBankMarket, MayStep, calls_by, market_calls, market_more}
 use Rattle.dex_journals.proofs.Counting.{fewer}
-use Rattle.dex_journals.proofs.StampedLists.{below-more, items_of-stamped, lanes-more, length-stamped, rising-more}
+use Rattle.dex_journals.proofs.StampedLists.{below-more, items_of-stamped, lanes-more, rising-more}
 
 -- how many rows of a lane are on the market
 abbrev rows_left : BankMarketState → ℕ → ℕ
@@ -38,10 +32,6 @@ spare-market market kept lane few =
 pub items_of-calls : (market : BankMarketState) → length market.stamps ≡ length market.cell.calls
     → items_of (market_calls market) ≡ market.cell.calls
 items_of-calls market counted = items_of-stamped market.cell.calls market.stamps counted
-
-pub length-calls : (market : BankMarketState) → length market.stamps ≡ length market.cell.calls
-    → length (market_calls market) ≡ length market.cell.calls
-length-calls market counted = length-stamped market.cell.calls market.stamps counted
 
 -- and what holds of a market holds of it with a call more, of a lane that has a row left
 pub market-more : (market : BankMarketState) (cell : MarketCellState) (call : Call) (stamp : ℕ)
@@ -78,9 +68,6 @@ market-more market cell call stamp kept is_cell more start room few above = reco
 abbrev pub market_of : MarketCellState → PlainScript → List ℕ → ℕ → BankMarketState
 market_of cell script stamps last = record { cell = cell; stamps = stamps; last = last; script = script }
 
-none-below : (n : ℕ) → 0 ≤ n
-none-below n = omega (arith)
-
 -- what always holds of a market holds of one of which no row has acted
 pub begun : (cell : MarketCellState) (script : PlainScript) (stamps : List ℕ) (last : ℕ) → IsMarketCell cell → cell.calls ≡ [] → stamps ≡ []
     → cell.room ≡ rows_on cell.start.address script.rows → IsBankMarket (market_of cell script stamps last)
@@ -91,7 +78,7 @@ begun cell script stamps last is none fresh room = record {
   below = subst (λ (some : List ℕ). All (λ (stamp : ℕ). stamp ≤ last) some) (sym fresh) (λ i d within. absurd (omega (arith, within)));
   room = room;
   lanes = λ lane. subst (λ (calls : List Call). calls_by lane calls ≤ length (rows_of_market lane cell.start.address script.rows)) (sym none)
-      (none-below (length (rows_of_market lane cell.start.address script.rows)));
+      (omega arith);
 }
 
 -- it has one call more, and what always holds of it holds again

@@ -1,12 +1,8 @@
 -- A wallet's journal with one entry more.
-use Rattle.std.proofs.Common.{◌≡◌, ℕ, ◌≤◌, ◌<◌, List, [], ◌∷◌, ◌++◌, length, sym, ap, ◌∙◌, subst, arith}
-use Rattle.std.specs.List.{filter}
+use Rattle.std.proofs.Common.{◌≡◌, ℕ, ◌≤◌, ◌<◌, List, [], ◌∷◌, ◌++◌, length, sym, ap, ◌∙◌, subst, arith, filter}
+use Rattle.dex_world.proofs.Common.{Address, PlainRow, WalletEntry, names}
 use Rattle.std.proofs.lemmas.List.{length_push}
 use Rattle.std.proofs.lemmas.List.Sums.{length-filter}
-use Rattle.dex_types.specs.declared.addresses.Address.{Address}
-use Rattle.dex_types.specs.declared.movements.WalletEntry.{WalletEntry}
-use Rattle.dex_types.specs.Rows.{PlainRow}
-use Rattle.dex_world.specs.Fold.{names}
 use Rattle.dex_wallet.specs.CellState.{CellState, HasSpare, IsWalletCell}
 use Rattle.dex_script_types.specs.PlainScript.{PlainScript}
 use Rattle.dex_world.specs.RowsOf.{rows_naming, rows_of_wallet}
@@ -14,7 +10,7 @@ use Rattle.dex_stamps.specs.Stamped.{AreRising, items_of, stamped}
 use Rattle.dex_journals.specs.Journals.{AddsEntry, BankWalletState, IsBankWallet, MayComeBack, TrailState, wallet_more}
 use Rattle.dex_journals.specs.Journals.{entries_by, left_by, wallet_entries}
 use Rattle.dex_journals.proofs.Counting.{fewer}
-use Rattle.dex_journals.proofs.StampedLists.{below-more, items_of-stamped, lanes-more, length-stamped, rising-more}
+use Rattle.dex_journals.proofs.StampedLists.{below-more, items_of-stamped, lanes-more, rising-more}
 
 -- how many rows of a lane name the wallet
 abbrev rows_left : BankWalletState → ℕ → ℕ
@@ -34,10 +30,6 @@ spare-wallet wallet kept lane few =
 pub items_of-entries : (wallet : BankWalletState) → length wallet.stamps ≡ length wallet.cell.entries
     → items_of (wallet_entries wallet) ≡ wallet.cell.entries
 items_of-entries wallet counted = items_of-stamped wallet.cell.entries wallet.stamps counted
-
-pub length-entries : (wallet : BankWalletState) → length wallet.stamps ≡ length wallet.cell.entries
-    → length (wallet_entries wallet) ≡ length wallet.cell.entries
-length-entries wallet counted = length-stamped wallet.cell.entries wallet.stamps counted
 
 -- and what holds of a wallet holds of it with an entry more, of a lane that has a row left
 pub wallet-more : (wallet : BankWalletState) (cell : CellState) (stamp : ℕ) (adds : AddsEntry wallet.cell cell)

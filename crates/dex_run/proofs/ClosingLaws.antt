@@ -1,10 +1,9 @@
 -- What the gates give, when all seats are back, is what the lanes of the script made.
-use Rattle.std.proofs.Common.{◌≡◌, ℕ, zero, suc, ◌+◌, ◌<◌, List, Option, Vec, get_or, length, map, refl, sym, ap, ◌∙◌, subst}
-use Rattle.dex_world.proofs.Common.{Address, All-map, All-weaker, AllZip, Call, PlainAccount, PlainMarketAccounts, WalletEntry, length-map, range_with_len, rows_of_lane}
+use Rattle.std.proofs.Common.{◌≡◌, ◌<◌, List, Option, Vec, get_or, length, map, refl, sym, ap, ◌∙◌, subst, All}
+use Rattle.dex_world.proofs.Common.{Address, All-map, All-weaker, AllZip, Call, PlainAccount, PlainMarketAccounts, WalletEntry, length-map, length-range_with_len, range_with_len, rows_of_lane}
 use Rattle.dex_replay.proofs.Common.{AreCells, CellState, IsMarketCell, IsWalletCell, MarketCellState, PlainOutcome, PlainScript}
 use Rattle.dex_serializable.proofs.Common.{BankMarketState, BankWalletState, IsBankMarket, IsBankWallet, IsLane, IsLaneDone, IsMarketMerged, IsWalletMerged, Lane, MarketOrigin, Stamped, WalletOrigin, calls_on, entries_on, map-map, market_calls, wallet_entries}
 use Rattle.dex_run.proofs.Common.{AreMarketsClosed, AreWalletsClosed, BankState, GateView, IsBank, IsDone, IsMarketClosed, IsMarketGate, IsMarketPassAt, IsSeat, IsSeatOf, IsWalletClosed, IsWalletGate, IsWalletPassAt, MarketColumns, PassView, SeatState, WalletColumns, added}
-use Rattle.std.specs.List.{All}
 use Rattle.dex_types.specs.declared.terms.Program.{Program}
 use Rattle.dex_act.specs.Wallets.{AreApart}
 use Rattle.dex_bank.specs.Closed as cells
@@ -12,17 +11,14 @@ use Rattle.dex_journals.specs.StampedCalls.{calls_of_lane, entries_of_lane}
 use Rattle.dex_serializable.proofs.LastCells.{wallets-kept}
 use Rattle.dex_run.specs.Closing.{AreClosed, ClosesAs}
 use Rattle.dex_turns.specs.Seats.{lane_in}
-use Rattle.dex_run.proofs.ColumnLists.{All-across, AllThree-length, AllZip-last_of}
-
-length-range : (first count : ℕ) → length (range_with_len first count) ≡ count
-length-range first zero = refl
-length-range first (suc count) = ap suc (length-range (first + 1) count)
+use Rattle.dex_world.proofs.MappedLists.{three-long}
+use Rattle.dex_run.proofs.ColumnLists.{All-across, AllZip-last_of}
 
 -- ---- one gate
 
 module _ (script : PlainScript) (seats : List SeatState) (lanes : map (λ (seat : SeatState). seat.lane) seats ≡ range_with_len 0 script.lanes) where
   so_many : length (map lane_in seats) ≡ script.lanes
-  so_many = length-map seats lane_in ∙ sym (length-map seats (λ (seat : SeatState). seat.lane)) ∙ ap length lanes ∙ length-range 0 script.lanes
+  so_many = length-map seats lane_in ∙ sym (length-map seats (λ (seat : SeatState). seat.lane)) ∙ ap length lanes ∙ length-range_with_len 0 script.lanes
 
   market-merged : (start : PlainMarketAccounts) (gate : GateView (Stamped Call) MarketOrigin) (passes : List (PassView (Stamped Call) MarketOrigin)) (value : BankMarketState)
       → IsMarketGate script start gate → AllZip (IsMarketPassAt start gate) seats passes
@@ -113,11 +109,7 @@ module _ (bank : BankState) (seats : List SeatState) (facts : IsBank bank) (lane
       wallets = wallets-merged wallet_columns wallets all_wallets of_wallets;
     };
     leaves = is
-        ∙ ap (λ list. cells.closed (record { mints = list; srm = srm; msrm = msrm; markets = markets; wallets = wallets; program = program })) same_mints
-        ∙ ap (λ mint. cells.closed (record { mints = bank.script.start.mints; srm = mint; msrm = msrm; markets = markets; wallets = wallets; program = program })) same_srm
-        ∙ ap (λ mint. cells.closed (record { mints = bank.script.start.mints; srm = bank.script.start.srm; msrm = mint; markets = markets; wallets = wallets; program = program })) same_msrm
-        ∙ ap (λ list. cells.closed (record { mints = bank.script.start.mints; srm = bank.script.start.srm; msrm = bank.script.start.msrm; markets = list; wallets = wallets; program = program })) of_markets.are
-        ∙ ap (λ list. cells.closed (record { mints = bank.script.start.mints; srm = bank.script.start.srm; msrm = bank.script.start.msrm; markets = map (λ (value : BankMarketState). value.cell) of_markets.values; wallets = list; program = program })) of_wallets.are;
+        ∙ (λ i. cells.closed (record { mints = same_mints i; srm = same_srm i; msrm = same_msrm i; markets = of_markets.are i; wallets = of_wallets.are i; program = program }));
   }
 
 -- ---- there is a cell for each gate
@@ -125,4 +117,4 @@ module _ (bank : BankState) (seats : List SeatState) (facts : IsBank bank) (lane
 pub cells-length : {V E O C Z : Type 0} (Given : GateView E O → List (PassView E O) → V → Type 0) (Kept : V → Type 0) (cell : V → C) (gates : List (GateView E O)) (columns : List (Vec (PassView E O) Z))
     (own : List C) → AreClosed Given Kept cell gates columns own → length own ≡ length gates
 cells-length Given Kept cell gates columns own closed =
-    ap length closed.are ∙ length-map closed.values cell ∙ AllThree-length (λ gate column value. Given gate column.items value) gates columns closed.values closed.given
+    ap length closed.are ∙ length-map closed.values cell ∙ (three-long (λ gate column value. Given gate column.items value) gates columns closed.values closed.given).1

@@ -3,12 +3,12 @@ use Rattle.std.proofs.Common.{◌≡◌, ℕ, zero, suc, ◌+◌, ◌<◌, ◌�
 use Rattle.dex_world.proofs.Common.{AllZip, AllZip-long, Call, PlainAccount, PlainMarketAccounts, WalletEntry, range_with_len}
 use Rattle.dex_replay.proofs.Common.{AllThree}
 use Rattle.dex_serializable.proofs.Common.{MarketOrigin, Stamped, WalletOrigin, any-there}
-use Rattle.dex_run.proofs.Common.{AreLonger, BankState, CanClose, GateView, Idle, IsBank, IsMarketGate, IsMarketPassAt, IsWalletGate, IsWalletPassAt, MarketColumns, PassView, SeatState, WalletColumns}
+use Rattle.dex_run.proofs.Common.{AreLonger, BankState, CanClose, GateView, Idle, IsBank, IsMarketGate, IsMarketPassAt, IsWalletGate, IsWalletPassAt, MarketColumns, PassView, SeatState, WalletColumns, IsPass}
 use Rattle.dex_gate.specs.PassView.{Accounts, AreAll}
 use Rattle.dex_serializable.proofs.Common.{calls_on, entries_on}
-use Rattle.dex_turns.specs.Seats.{IsPass}
 use Rattle.dex_run.specs.Closing.{IsPassAt}
-use Rattle.dex_run.proofs.ColumnLists.{All-second, AllThree-of, AllZip-of, Columns, columns-length, columns-more, map-across}
+use Rattle.dex_world.proofs.MappedLists.{All-second, zip-map}
+use Rattle.dex_run.proofs.ColumnLists.{AllThree-of, AllZip-of, Columns, columns-length, columns-more}
 
 -- ---- passes of one kind, those of markets or those of wallets, and what a seat made with each
 
@@ -58,7 +58,7 @@ closes made count seats lanes start gate passes so_many all = record {
   of_gate = All-second (PassAt made start gate) (λ pass. pass.gate ≡ Some gate) (λ seat pass at. at.of_gate) seats passes all;
   idle = All-second (PassAt made start gate) (λ pass. pass.stage ≡ Idle) (λ seat pass at. at.made.idle) seats passes all;
   numbers = subst (λ n. AreAll n passes) (sym so_many) (all-numbered passes count
-      (sym (map-across (PassAt made start gate) (λ (seat : SeatState). seat.lane) (λ pass. pass.number) (λ seat pass at. sym at.made.number) seats passes all) ∙ lanes));
+      (zip-map (PassAt made start gate) (λ (seat : SeatState). seat.lane) (λ pass. pass.number) (λ seat pass at. at.made.number) seats passes all ∙ lanes));
 }
 
 module _ (bank : BankState) (seats : List SeatState) (facts : IsBank bank) (lanes : map (λ (seat : SeatState). seat.lane) seats ≡ range_with_len 0 bank.script.lanes) where

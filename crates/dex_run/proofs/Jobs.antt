@@ -1,10 +1,8 @@
 -- The jobs of all lanes, and their seats.
-use Rattle.std.proofs.Common.{◌≡◌, ℕ, ◌+◌, ◌<◌, List, [], ◌∷◌, get_or, length, map, sym, ap, ◌∙◌, subst, arith}
+use Rattle.std.proofs.Common.{◌≡◌, ℕ, ◌+◌, ◌<◌, List, [], ◌∷◌, get_or, length, map, sym, ap, ◌∙◌, subst, arith, All}
 use Rattle.dex_world.proofs.Common.{All-cons, All-head, All-nil, All-tail, AllZip, get_or-map, length-map, length-range_with_len, range_with_len}
-use Rattle.dex_run.proofs.Common.{BankState, CanRun, HasRun, IsDone, IsJobOf, IsSeatOf, LaneJob, Lanes, SeatState}
-use Rattle.std.specs.List.{All}
-use Rattle.dex_world.proofs.MappedLists.{zip-map}
-use Rattle.dex_run.proofs.ColumnLists.{All-second}
+use Rattle.dex_run.proofs.Common.{BankState, CanRun, HasRun, IsDone, IsJobOf, LaneJob, Lanes, SeatState}
+use Rattle.dex_world.proofs.MappedLists.{All-second}
 use Rattle.std.proofs.lemmas.List.FromFn.{get_or-range_with_len}
 
 module _ {R P : Type 0} where
@@ -16,38 +14,29 @@ module _ {R P : Type 0} where
     -- a job may run where its seat may
     pub jobs-ready : (seats : List SeatState) (jobs : List (LaneJob R P)) → All (CanRun lanes) seats → AllZip (IsJobOf lanes) seats jobs → All IsReady jobs
     jobs-ready [] [] can are = All-nil IsReady
-    jobs-ready [] (job ∷ jobs) can are = absurd are
-    jobs-ready (seat ∷ seats) [] can are = absurd are
     jobs-ready (seat ∷ seats) (job ∷ jobs) can are =
         All-cons IsReady job jobs
         (subst (λ (l : Lanes). CanRun l job.seat) (sym are.0.lanes_are) (subst (CanRun lanes) (sym are.0.seat_is) (All-head (CanRun lanes) seat seats can)))
         (jobs-ready seats jobs (All-tail (CanRun lanes) seat seats can) are.1)
+    jobs-ready _ _ can are = absurd are
 
     -- the seats of jobs that have run
     pub jobs-ran : (seats : List SeatState) (before after : List (LaneJob R P)) → AllZip (IsJobOf lanes) seats before
         → AllZip (λ (one other : LaneJob R P). HasRun one.lanes.bank.now one.seat other.seat) before after
         → AllZip (HasRun lanes.bank.now) seats (map (λ (job : LaneJob R P). job.seat) after)
     jobs-ran [] [] [] are ran = tt
-    jobs-ran [] [] (job ∷ after) are ran = absurd ran
-    jobs-ran [] (job ∷ before) after are ran = absurd are
-    jobs-ran (seat ∷ seats) [] after are ran = absurd are
-    jobs-ran (seat ∷ seats) (job ∷ before) [] are ran = absurd ran
     jobs-ran (seat ∷ seats) (job ∷ before) (done ∷ after) are ran = (
       subst (λ (l : Lanes). HasRun l.bank.now seat done.seat) are.0.lanes_are (subst (λ (s : SeatState). HasRun job.lanes.bank.now s done.seat) are.0.seat_is ran.0),
       jobs-ran seats before after are.1 ran.1,
     )
+    jobs-ran _ [] (job ∷ after) are ran = absurd ran
+    jobs-ran _ (job ∷ before) [] are ran = absurd ran
+    jobs-ran _ _ _ are ran = absurd are
 
 -- ---- all seats, before and after
 
-pub after-of_bank : (bank : BankState) (before after : List SeatState) → AllZip (HasRun bank) before after → All (IsSeatOf bank) after
-after-of_bank bank before after ran = All-second (HasRun bank) (IsSeatOf bank) (λ seat done has. has.of_bank) before after ran
-
 pub after-done : (bank : BankState) (before after : List SeatState) → AllZip (HasRun bank) before after → All IsDone after
 after-done bank before after ran = All-second (HasRun bank) IsDone (λ seat done has. has.done) before after ran
-
-pub after-lanes : (bank : BankState) (before after : List SeatState) → AllZip (HasRun bank) before after
-    → map (λ (seat : SeatState). seat.lane) after ≡ map (λ (seat : SeatState). seat.lane) before
-after-lanes bank before after ran = zip-map (HasRun bank) (λ (seat : SeatState). seat.lane) (λ (seat : SeatState). seat.lane) (λ seat done has. has.lane) before after ran
 
 -- ---- the lanes of seats
 

@@ -1,8 +1,7 @@
 -- The places at which the items of lanes begin, found row by row; and the items of a lane, one after the other.
-use Rattle.std.proofs.Common.{◌≡◌, ℕ, ◌+◌, ◌<◌, ◌≤◌, ⊎_elim, Bool, cond, List, [], ◌∷◌, ◌++◌, Vec, Global, length, get_or, set, map, take, drop, refl, sym, ap, ◌∙◌, subst, arith, append_assoc, append-nil}
+use Rattle.std.proofs.Common.{◌≡◌, ℕ, ◌+◌, ◌<◌, ◌≤◌, ⊎_elim, Bool, cond, List, [], ◌∷◌, ◌++◌, Vec, Global, length, get_or, set, map, take, drop, refl, sym, ap, ◌∙◌, subst, arith, append_assoc, append-nil, All}
 use Rattle.dex_world.proofs.Common.{PlainRow, Row, eq-eqb, ne_eqb, row_of, rows_of_lane, take_all, take_more}
 use Rattle.dex_replay.proofs.Common.{AreRows, PlainScript}
-use Rattle.std.specs.List.{All}
 use Rattle.dex_world.proofs.MappedLists.{same-get}
 use Rattle.dex_run.proofs.Common.{Begins, IsAlone, IsDone, IsIndex, IsItemOf, IsRest, IsRestAt, IsSwapAt, SeatState, rows_before}
 use Rattle.dex_run.proofs.LaneRows.{are-legs, rows_of_lane-append}
@@ -11,10 +10,6 @@ use Rattle.std.proofs.lemmas.Bool.{cases_eq}
 use Rattle.std.proofs.lemmas.List.{drop_more, get_or-set_other, get_or-set_same, length-append, length-set, map-append}
 
 -- ---- how many rows of a lane stand before a place
-
-before-none : (lane : ℕ) (rows : List Row) → rows_before lane rows 0 ≡ 0
-before-none lane [] = refl
-before-none lane (row ∷ rows) = refl
 
 module _ (lane : ℕ) (rows : List Row) where
   before-more : (i : ℕ) (row : Row) → i < length rows → row ≡ get_or rows i row → rows_before lane rows (i + 1) ≡ rows_before lane rows i + length (rows_of_lane lane (row_of row ∷ []))
@@ -51,7 +46,7 @@ AreFound rows place by_lane = (lane : ℕ) (own : Vec ℕ Global) → lane < len
 
 pub found-none : (rows : List Row) (by_lane : List (Vec ℕ Global)) → All (λ (own : Vec ℕ Global). own.items ≡ []) by_lane → AreFound rows 0 by_lane
 found-none rows by_lane empty = λ lane own within later rest.
-    subst (λ (l : List ℕ). IsRest lane rows 0 (l ++ later)) (sym (empty lane own within)) (subst (λ (n : ℕ). IsRest lane rows n later) (before-none lane rows) rest)
+    subst (λ (l : List ℕ). IsRest lane rows 0 (l ++ later)) (sym (empty lane own within)) rest
 
 -- after the last row all are found
 pub found-all : (rows : List Row) (place : ℕ) (by_lane : List (Vec ℕ Global)) → length rows ≤ place → AreFound rows place by_lane → IsIndex rows by_lane

@@ -1,39 +1,18 @@
 -- The items of a lane, one after the other.
-use Rattle.std.proofs.Common.{◌≡◌, ℕ, zero, suc, ◌+◌, ◌<◌, ◌≤◌, ⊎_elim, nat_eq, drop, length-drop, Bool, cond, List, [], ◌∷◌, ◌++◌, length, get_or, map, take, sym, ap, ◌∙◌, subst, arith}
-use Rattle.dex_world.proofs.Common.{All-cons, All-filter, All-map, All-nil, All-weaker, get_or-map, length-map, PlainRow, Row, eq-eqb, filter-append, row_of, rows_of_lane, take_at}
-use Rattle.dex_replay.proofs.Common.{AreLegs, AreRows, PlainScript, lanes_of}
-use Rattle.std.specs.List.{All}
+use Rattle.std.proofs.Common.{◌≡◌, ℕ, ◌+◌, ◌<◌, ◌≤◌, ⊎_elim, nat_eq, drop, length-drop, Bool, cond, List, [], ◌∷◌, ◌++◌, length, get_or, map, take, sym, ap, ◌∙◌, subst, arith, All}
+use Rattle.dex_world.proofs.Common.{All-filter, All-map, get_or-map, length-map, PlainRow, Row, eq-eqb, filter-append, row_of, rows_of_lane, take_at, AllZip-long}
+use Rattle.dex_replay.proofs.Common.{AreLegs, AreRows, PlainScript}
 use Rattle.dex_world.proofs.MappedLists.{item-at, item_at, same-get}
 use Rattle.dex_run.proofs.Common.{AreNext, AreRowsOf, BankState, Begins, IsNext, SeatState}
 use Rattle.dex_world.specs.declared.places.RowPlaces.{RowPlaces}
 use Rattle.dex_script_types.specs.Places.{AreBeside, IsBeside, IsPlaced}
 use Rattle.dex_script_types.proofs.PlacedLaws.{placed-long, row-at}
+use Rattle.dex_serializable.proofs.Orders.{lanes-below}
 use Rattle.std.proofs.lemmas.Bool.{cases_lt}
-use Rattle.std.proofs.lemmas.Slice.Zip.{AllZip-long}
 use Rattle.std.proofs.lemmas.List.{drop_more, get_or-drop, take-append-drop, get_or-take, length-take-le, map-append}
 
 pub rows_of_lane-append : (lane : ℕ) (xs ys : List PlainRow) → rows_of_lane lane (xs ++ ys) ≡ rows_of_lane lane xs ++ rows_of_lane lane ys
 rows_of_lane-append lane xs ys = filter-append (λ (row : PlainRow). nat_eq row.lane lane) xs ys
-
--- what is there after the first items
-behind : {A : Type 0} (xs : List A) (i : ℕ) (x : A) → i < length xs → x ≡ get_or xs i x → (rest : List A) × (xs ≡ take i xs ++ x ∷ rest)
-behind [] i x within at = absurd (omega (arith, within))
-behind (y ∷ xs) zero x within at = (xs, ap (λ z. z ∷ xs) (sym at))
-behind (y ∷ xs) (suc i) x within at = let found = behind xs i x (omega (arith, within)) at in (found.0, ap (λ l. y ∷ l) found.1)
-
--- and after one and the next
-behind-two : {A : Type 0} (xs : List A) (i : ℕ) (x y : A) → suc i < length xs → x ≡ get_or xs i x → y ≡ get_or xs (suc i) y → (rest : List A) × (xs ≡ take i xs ++ x ∷ y ∷ rest)
-behind-two [] i x y within at next = absurd (omega (arith, within))
-behind-two (z ∷ xs) zero x y within at next =
-    let found = behind xs 0 y (omega (arith, within)) next in
-    (found.0, ap (λ w. w ∷ xs) (sym at) ∙ ap (λ l. x ∷ l) found.1)
-behind-two (z ∷ xs) (suc i) x y within at next = let found = behind-two xs i x y (omega (arith, within)) at next in (found.0, ap (λ l. z ∷ l) found.1)
-
-lanes-below : (rows : List PlainRow) → All (λ (row : PlainRow). row.lane < lanes_of rows) rows
-lanes-below [] = All-nil (λ (row : PlainRow). row.lane < lanes_of [])
-lanes-below (row ∷ rows) =
-    All-cons (λ (one : PlainRow). one.lane < lanes_of (row ∷ rows)) row rows (omega arith)
-    (All-weaker (λ (one : PlainRow). one.lane < lanes_of rows) (λ (one : PlainRow). one.lane < lanes_of (row ∷ rows)) (λ one below. omega (arith, below)) rows (lanes-below rows))
 
 -- ---- where items begin
 
@@ -177,12 +156,15 @@ pub next-both : (rows : List Row) (i : ℕ) (first second : Row) (seat : SeatSta
     → All (λ (one : PlainRow). one.number < first.number) (map row_of (take i rows)) → second.number ≡ first.number → AreLegs (row_of first) (row_of second)
     → first.lane ≡ seat.lane → AreNext (row_of first) (row_of second) seat
 next-both rows i first second seat within at at_second are so_far lower together legs own =
-    let found = behind-two rows i first second (omega (arith, within)) at (at_second ∙ ap (λ (n : ℕ). get_or rows n second) (omega arith)) in
-    let rest : List PlainRow = map row_of found.0 in
+    let behind : List Row = drop (i + 1 + 1) rows in
+    let next : drop (i + 1) rows ≡ second ∷ behind = drop_more rows (i + 1) second within ∙ ap (λ (r : Row). r ∷ behind) (sym at_second) in
+    let split : rows ≡ take i rows ++ first ∷ second ∷ behind =
+    sym (take-append-drop i rows) ∙ ap (λ (l : List Row). take i rows ++ l) (drop_more rows i first (omega (arith, within)) ∙ (λ k. sym at k ∷ next k)) in
+    let rest : List PlainRow = map row_of behind in
     let before : List PlainRow = rows_of_lane seat.lane (map row_of (take i rows)) in
     let later : List PlainRow = rows_of_lane seat.lane rest in
     let whole : rows_of_lane seat.lane seat.script.rows ≡ before ++ row_of first ∷ row_of second ∷ later =
-    ap (rows_of_lane seat.lane) (sym are ∙ ap (map row_of) found.1 ∙ map-append row_of (take i rows) (first ∷ second ∷ found.0))
+    ap (rows_of_lane seat.lane) (sym are ∙ ap (map row_of) split ∙ map-append row_of (take i rows) (first ∷ second ∷ behind))
     ∙ rows_of_lane-append seat.lane (map row_of (take i rows)) (row_of first ∷ row_of second ∷ rest)
     ∙ ap (λ (b : Bool). before ++ cond b (row_of first ∷ cond (nat_eq second.lane seat.lane) (row_of second ∷ later) later) (cond (nat_eq second.lane seat.lane) (row_of second ∷ later) later))
     (eq-eqb first.lane seat.lane own)

@@ -1,14 +1,14 @@
 -- The seats of a script's lanes, when no row has acted.
-use Rattle.std.proofs.Common.{◌≡◌, ℕ, zero, suc, ◌+◌, ◌-◌, ◌<◌, ◌≤◌, List, [], ◌∷◌, ◌++◌, map, refl, sym, ap, ◌∙◌, subst, arith}
-use Rattle.dex_world.proofs.Common.{AllZip, Call, PlainAccount, PlainMarketAccounts, WalletEntry, range_with_len}
+use Rattle.std.proofs.Common.{◌≡◌, ℕ, zero, suc, ◌+◌, ◌-◌, ◌<◌, ◌≤◌, List, [], ◌∷◌, ◌++◌, map, refl, sym, ap, ◌∙◌, subst, arith, All}
+use Rattle.dex_world.proofs.Common.{All-map, AllZip, Call, PlainAccount, PlainMarketAccounts, WalletEntry, map-id, range_with_len}
+use Rattle.dex_world.proofs.MappedLists.{All-second, map-agree, map-map}
 use Rattle.dex_replay.proofs.Common.{CellState, MarketCellState, PlainScript, market_opened, wallet_opened}
 use Rattle.dex_serializable.proofs.Common.{MarketOrigin, Stamped, WalletOrigin}
 use Rattle.dex_run.proofs.Common.{BankState, GateView, IsMarketGate, IsPass, IsSeatOf, IsWalletGate, PassView, SeatState, first_passes, fresh_pass, passes_of, seat_in}
-use Rattle.std.specs.List.{All}
 use Rattle.std.proofs.lemmas.List.FromFn.{map-range_with_len_more}
 use Rattle.dex_turns.specs.Bank.{IsGate}
 use Rattle.dex_turns.specs.Seats.{fresh_seat}
-use Rattle.dex_run.proofs.Openings.{all-mapped, firsts-last, firsts-some, passes-of_gates, zip-map, zip-unmap}
+use Rattle.dex_run.proofs.Openings.{all-mapped, passes-of_gates, zip-map, zip-unmap}
 
 -- ---- passes of a lane
 
@@ -34,11 +34,17 @@ module _ {S E O : Type 0} (lanes : ℕ) (from : S → O) (starts : List S) (gate
   -- while a number is left, the first passes may hand it out
   pub passes-some : (next : ℕ) → passes ≡ first_passes next gates → next < lanes → All (λ (pass : PassView E O). pass.next < pass.until) passes
   passes-some next is some =
-      subst (All (λ (pass : PassView E O). pass.next < pass.until)) (sym is) (firsts-some Opened next lanes (λ start gate opened. opened.passes) starts gates all some)
+      subst (All (λ (pass : PassView E O). pass.next < pass.until)) (sym is)
+      (All-map (λ (pass : PassView E O). pass.next < pass.until) (λ (gate : GateView E O). fresh_pass 0 next gate) gates
+      (All-second Opened (λ (gate : GateView E O). next < gate.passes) (λ start gate opened. omega (arith, some, opened.passes)) starts gates all))
 
   -- when all numbers are handed out, the first passes are those of lane 0
   pub passes-first : (next : ℕ) → passes ≡ first_passes next gates → next ≡ lanes → passes ≡ passes_of 0 gates
-  passes-first next is done = is ∙ firsts-last Opened next (λ start gate opened. opened.passes ∙ sym done) starts gates all
+  passes-first next is done =
+      is
+      ∙ map-agree (λ (gate : GateView E O). fresh_pass 0 next gate) (λ (gate : GateView E O). fresh_pass 0 gate.passes gate) gates
+      (All-second Opened (λ (gate : GateView E O). fresh_pass 0 next gate ≡ fresh_pass 0 gate.passes gate)
+      (λ start gate opened. ap (λ (n : ℕ). fresh_pass 0 n gate) (done ∙ sym opened.passes)) starts gates all)
 
 -- ---- seats
 
@@ -84,11 +90,8 @@ seats-fresh bank numbers seats are = all-mapped (λ (seat : SeatState). seat.cal
 
 pub seats-numbers : (bank : BankState) (numbers : List ℕ) (seats : List SeatState) → seats ≡ map (seat_in bank) numbers
     → map (λ (seat : SeatState). seat.lane) seats ≡ numbers
-seats-numbers bank numbers seats are = ap (map (λ (seat : SeatState). seat.lane)) are ∙ each numbers
-  where
-    each : (l : List ℕ) → map (λ (seat : SeatState). seat.lane) (map (seat_in bank) l) ≡ l
-    each [] = refl
-    each (n ∷ l) = ap (λ k. n ∷ k) (each l)
+seats-numbers bank numbers seats are =
+    ap (map (λ (seat : SeatState). seat.lane)) are ∙ map-map (seat_in bank) (λ (seat : SeatState). seat.lane) numbers ∙ map-id numbers
 
 -- ---- the bank
 
@@ -120,6 +123,5 @@ pub seats-at_bank : (script : PlainScript) (markets markets' : List (GateView (S
     → markets ≡ markets' → wallets ≡ wallets' → bank ≡ record { script = script; markets = markets'; wallets = wallets' } → seats ≡ map (seat_in bank) numbers
 seats-at_bank script markets markets' wallets wallets' bank numbers seats are same_markets same_wallets is =
     are
-    ∙ ap (λ (l : List (GateView (Stamped Call) MarketOrigin)). map (seat_in (record { script = script; markets = l; wallets = wallets })) numbers) same_markets
-    ∙ ap (λ (l : List (GateView (Stamped WalletEntry) WalletOrigin)). map (seat_in (record { script = script; markets = markets'; wallets = l })) numbers) same_wallets
+    ∙ (λ i. map (seat_in (record { script = script; markets = same_markets i; wallets = same_wallets i })) numbers)
     ∙ ap (λ (b : BankState). map (seat_in b) numbers) (sym is)

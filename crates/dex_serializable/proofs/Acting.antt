@@ -1,10 +1,10 @@
 -- An item leaves the world after its calls: each of its rows is refused in the world before it just where its call was,
 -- so all act, or each that is not refused is held back.
-use Rattle.std.proofs.Common.{◌≡◌, ◌&&◌, ◌||◌, not, Bool, true, false, cond, List, [], ◌∷◌, ◌++◌, get_or, map, Option, is_some, refl, sym, ap, ◌∙◌, subst, ⊎_elim, arith}
+use Rattle.std.proofs.Common.{◌≡◌, ◌&&◌, not, Bool, true, false, cond, List, [], ◌∷◌, ◌++◌, get_or, map, Option, is_some, refl, sym, ap, ◌∙◌, subst, ⊎_elim, arith, All}
 use Rattle.dex_world.proofs.Common.{All-append, All-cons, All-head, All-map, All-nil, All-tail, Asked, Call, EachApart, Market, PlainRow, Seen, ShareNothing, World, act, act_item, cases_Bool, chosen, cond-false, cond-true, cond_both, flat_map, fold, fold_items, idle_row, is_held, is_refused, list_any, why, why-far, why_in, why_on}
 use Rattle.dex_replay.proofs.Common.{PlainScript}
 use Rattle.dex_serializable.proofs.Common.{All-unmap, IsAsOthers, Stamped, map-agree, map-map}
-use Rattle.std.specs.List.{All}
+use Rattle.dex_world.proofs.MappedLists.{list_any-agree, list_any-map}
 use Rattle.std.proofs.lemmas.List.{append-nil, append_assoc, map-append}
 use Rattle.dex_history.proofs.HeldLaws.{refused-told}
 use Rattle.dex_world.specs.Items.{held_in}
@@ -84,12 +84,11 @@ module _ (script : PlainScript) (made : List (Stamped Call)) (once : AreOnce scr
     abbrev any : Bool
     any = list_any (λ (call : Stamped Call). is_refused call.item) (map call_in items)
 
-    any-agree : (some : List (Item script)) → All IsToldRight some
-        → list_any (λ (row : PlainRow). is_some (why_in (world_front script made) row)) (map row_in some) ≡ list_any (λ (call : Stamped Call). is_refused call.item) (map call_in some)
-    any-agree [] all = refl
-    any-agree (one ∷ some) all =
-        ap (λ (b : Bool). b || list_any (λ (row : PlainRow). is_some (why_in (world_front script made) row)) (map row_in some)) (All-head IsToldRight one some all)
-        ∙ ap (λ (b : Bool). is_refused one.call.item || b) (any-agree some (All-tail IsToldRight one some all))
+    any-agree : list_any (λ (row : PlainRow). is_some (why_in (world_front script made) row)) (map row_in items) ≡ any
+    any-agree =
+        list_any-map (λ (row : PlainRow). is_some (why_in (world_front script made) row)) row_in items
+        ∙ list_any-agree (λ (one : Item script). is_some (why_in (world_front script made) one.row)) (λ (one : Item script). is_refused one.call.item) items right
+        ∙ sym (list_any-map (λ (call : Stamped Call). is_refused call.item) call_in items)
 
     held-same : any ≡ true → (one : Item script) → IsToldRight one → IsAsOthers (map call_in items) one.call → held_in (world_front script made) one.row ≡ acted_in one
     held-same some one told alike =
@@ -105,7 +104,7 @@ module _ (script : PlainScript) (made : List (Stamped Call)) (once : AreOnce scr
 
     chosen-so : chosen (world_front script made) (map row_in items) ≡ map acted_in items
     chosen-so =
-        ap (λ (b : Bool). cond b (map (held_in (world_front script made)) (map row_in items)) (map row_in items)) (any-agree items right)
+        ap (λ (b : Bool). cond b (map (held_in (world_front script made)) (map row_in items)) (map row_in items)) any-agree
         ∙ ⊎_elim
         (λ (some : any ≡ true).
         cond-true any (map (held_in (world_front script made)) (map row_in items)) (map row_in items) some

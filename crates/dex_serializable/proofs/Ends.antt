@@ -1,15 +1,15 @@
 -- What all lanes leave is what the items leave in the order of their stamps.
-use Rattle.std.proofs.Common.{◌≡◌, ℕ, List, [], map, sym, ap, ◌∙◌, subst}
-use Rattle.dex_world.proofs.Common.{Market, MarketState, PlainAccount, PlainMarketAccounts, WalletState, flat_map, market_after}
+use Rattle.std.proofs.Common.{◌≡◌, ℕ, [], map, sym, ap, ◌∙◌, subst}
+use Rattle.dex_world.proofs.Common.{Market, PlainAccount, PlainMarketAccounts, WalletState, flat_map, market_after}
 use Rattle.dex_replay.proofs.Common.{CellState, IsOneOrder, PlainScript, WalletWords, balance_of, entries_of, market_in, market_state_of, wallet_state_of, wallet_words, wallet_words-with_amount, world_after, world_of}
-use Rattle.dex_serializable.proofs.Common.{AreMerged, BankMarketState, BankWalletState, Histories, IsMarketMerged, IsWalletMerged, is-left, map-map, market-once, wallet-once}
+use Rattle.dex_serializable.proofs.Common.{AreMerged, BankMarketState, BankWalletState, Histories, IsMarketMerged, IsWalletMerged, MarketOrigin, WalletOrigin, is-left, map-map, market-once, wallet-once}
 use Rattle.dex_world.proofs.MappedLists.{zip-map}
 use Rattle.dex_serializable.specs.Merged.{left}
 use Rattle.dex_serializable.proofs.Acting.{turns-act}
 use Rattle.dex_serializable.proofs.Fronts.{market_front, market_with, wallet_front, wallet_with, world_front}
 use Rattle.dex_serializable.proofs.Items.{call_in}
-use Rattle.dex_serializable.proofs.Journals.{are-legal, made, market-journal, market-start, wallet-journal, wallet-start}
-use Rattle.dex_serializable.proofs.LastCells.{are-cells, are-of-script, last_cells, wallet_cells}
+use Rattle.dex_serializable.proofs.Journals.{are-legal, made, market-journal, wallet-journal}
+use Rattle.dex_serializable.proofs.LastCells.{are-cells, are-of-script, last_cells}
 use Rattle.dex_serializable.proofs.Orders.{lanes-kept, order_of, ordered_turns, turns-flat}
 use Rattle.dex_serializable.proofs.Steps.{AreLegal, AreOnce}
 use Rattle.dex_serializable.proofs.Turns.{items_in}
@@ -21,7 +21,7 @@ module _ (script : PlainScript) (all : Histories) (merged : AreMerged script all
   market-end start market is =
       let cell = is.kept.cell in
       ap (λ (m : Market). record { market = m; entries = entries_of market.cell })
-      (cell.end_is ∙ ap (λ (accounts : PlainMarketAccounts). market_after (market_in accounts) market.cell.calls) (market-start script all merged start market is))
+      (cell.end_is ∙ ap (λ (accounts : PlainMarketAccounts). market_after (market_in accounts) market.cell.calls) (ap (λ (origin : MarketOrigin). origin.start) is.origin))
       ∙ ap (market_with start) (sym (market-journal script all merged start market is))
 
   -- a wallet there: but for the amount its token account is the first one
@@ -35,32 +35,21 @@ module _ (script : PlainScript) (all : Histories) (merged : AreMerged script all
       ap (λ (words : WalletWords). state words (balance_of last.bytes))
       (ap wallet_words cell.others ∙ wallet_words-with_amount last.start (balance_of last.bytes) (ap balance_of (sym cell.others)))
       ∙ ap (state (wallet_words last.start)) cell.balance
-      ∙ ap (λ (account : PlainAccount). wallet_with account last.entries) (wallet-start script all merged start wallet is)
+      ∙ ap (λ (account : PlainAccount). wallet_with account last.entries) (ap (λ (origin : WalletOrigin). origin.start) is.origin)
       ∙ ap (wallet_with start) (sym (wallet-journal script all merged start wallet is))
 
   -- so the cells' world is that after all calls
   last-world : world_of (last_cells script all) ≡ world_front script (made script all merged)
   last-world =
-      ap (λ (states : List MarketState). record {
-        markets = states;
-        wallets = map wallet_state_of (wallet_cells all);
-        srm = script.start.srm;
-        msrm = script.start.msrm;
-        program = script.program;
-      })
-      (map-map (λ (market : BankMarketState). market.cell) market_state_of all.markets
+      let markets =
+      map-map (λ (market : BankMarketState). market.cell) market_state_of all.markets
       ∙ zip-map (IsMarketMerged script all.lanes) (market_front (made script all merged)) (λ (market : BankMarketState). market_state_of market.cell) market-end
-      script.start.markets all.markets merged.markets)
-      ∙ ap (λ (states : List WalletState). record {
-        markets = map (market_front (made script all merged)) script.start.markets;
-        wallets = states;
-        srm = script.start.srm;
-        msrm = script.start.msrm;
-        program = script.program;
-      })
-      (map-map (λ (wallet : BankWalletState). wallet.cell) wallet_state_of all.wallets
+      script.start.markets all.markets merged.markets in
+      let wallets =
+      map-map (λ (wallet : BankWalletState). wallet.cell) wallet_state_of all.wallets
       ∙ zip-map (IsWalletMerged script all.lanes) (wallet_front (made script all merged)) (λ (wallet : BankWalletState). wallet_state_of wallet.cell) wallet-end
-      script.start.wallets all.wallets merged.wallets)
+      script.start.wallets all.wallets merged.wallets in
+      λ i. record { markets = markets i; wallets = wallets i; srm = script.start.srm; msrm = script.start.msrm; program = script.program }
 
   -- of accepted accounts each address is that of one market and of one wallet at most
   once : AreOnce script

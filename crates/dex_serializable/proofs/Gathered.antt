@@ -1,8 +1,7 @@
 -- What stands of each lane in a list that rises makes that list, when it is sorted.
-use Rattle.std.proofs.Common.{◌≡◌, ℕ, zero, suc, ◌+◌, ◌<◌, ◌≤◌, Bool, true, false, ◌||◌, cond, eqb, ltb, List, [], ◌∷◌, get_or, refl, sym, ap, ◌∙◌, subst, arith}
+use Rattle.std.proofs.Common.{◌≡◌, ℕ, zero, suc, ◌+◌, ◌<◌, ◌≤◌, Bool, true, false, ◌||◌, cond, eqb, ltb, List, [], ◌∷◌, get_or, refl, sym, ap, ◌∙◌, subst, arith, All}
 use Rattle.dex_world.proofs.Common.{All-filter, All-head, All-tail, All-weaker, cond-true, eq-eqb, eqb-true, filter, flat_map, length-range_with_len, list_any, list_any_at, lt-ltb, ne_eqb, range_with_len}
 use Rattle.dex_serializable.proofs.Common.{filter-all, filter-none}
-use Rattle.std.specs.List.{All}
 use Rattle.std.proofs.lemmas.Bool.{or_from}
 use Rattle.std.proofs.lemmas.List.FromFn.{get_or-range_with_len}
 use Rattle.dex_serializable.proofs.Sorted.{Rises, all_placed, all_placed-append, placed, placed-first, sorted}

@@ -1,9 +1,8 @@
 -- The calls of all lanes, each with its row.
-use Rattle.std.proofs.Common.{◌≡◌, ℕ, ◌≤◌, eqb, List, [], ◌∷◌, ◌++◌, length, map, refl, ap, ◌∙◌, arith}
+use Rattle.std.proofs.Common.{◌≡◌, ℕ, ◌≤◌, eqb, List, [], ◌∷◌, ◌++◌, length, map, refl, ap, ◌∙◌, arith, All}
 use Rattle.dex_world.proofs.Common.{All-filter, All-head, All-tail, AllZip, Asked, Call, PlainRow, asked_of, flat_map, rows_of_lane, take_all}
 use Rattle.dex_replay.proofs.Common.{IsRowOf, IsSight, PlainScript}
 use Rattle.dex_serializable.proofs.Common.{IsLaneDone, Lane, Stamped, head-same, tail-same}
-use Rattle.std.specs.List.{All}
 use Rattle.std.proofs.lemmas.List.{map-append}
 
 -- a row of the script asked for a call, which saw what a row of it may see
@@ -98,5 +97,4 @@ module _ (script : PlainScript) (fit : All (IsRowOf script.start) script.rows) w
       let here : IsLaneDone script lane = All-head (IsLaneDone script) lane lanes done in
       let rest : All (IsLaneDone script) lanes = All-tail (IsLaneDone script) lane lanes done in
       map-append call_in (lane_items lane here) (all_items lanes rest)
-      ∙ ap (λ (some : List (Stamped Call)). some ++ map call_in (all_items lanes rest)) (lane-calls lane here)
-      ∙ ap (λ (some : List (Stamped Call)). lane.calls ++ some) (calls-all lanes rest)
+      ∙ (λ i. lane-calls lane here i ++ calls-all lanes rest i)

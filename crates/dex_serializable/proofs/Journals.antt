@@ -1,10 +1,9 @@
 -- The calls of all lanes, sorted by their stamps, are on each market its journal, and in each wallet's journal its
 -- entries.
-use Rattle.std.proofs.Common.{◌≡◌, ℕ, ◌<◌, Bool, true, false, cond, eqb, List, [], ◌∷◌, ◌++◌, length, map, get_or, refl, sym, ap, ◌∙◌, subst}
+use Rattle.std.proofs.Common.{◌≡◌, ℕ, ◌<◌, Bool, true, false, cond, eqb, List, [], ◌∷◌, ◌++◌, length, map, get_or, refl, sym, ap, ◌∙◌, subst, All}
 use Rattle.dex_world.proofs.Common.{Address, All-cons, All-map, All-nil, All-weaker, Call, IsLegal, IsWalletLegal, Movement, PlainAccount, PlainMarketAccounts, WalletEntry, filter, filter-append, flat_map, flat_map-append, flat_map-map, is_same, length-map, length-range_with_len, range_with_len}
 use Rattle.dex_replay.proofs.Common.{PlainScript, balance_of, market_in}
 use Rattle.dex_serializable.proofs.Common.{AreMerged, BankMarketState, BankWalletState, Histories, IsMarketMerged, IsWalletMerged, Lane, MarketOrigin, Stamped, WalletOrigin, calls_on, entries_in, entries_on, entry_made, flat_map-agree, items_of-stamped, market_calls, wallet_entries}
-use Rattle.std.specs.List.{All}
 use Rattle.std.proofs.lemmas.List.Concat.{flat_map_single}
 use Rattle.dex_history.specs.Journal.{front}
 use Rattle.dex_stamps.specs.Stamped.{items_of}
@@ -109,13 +108,10 @@ module _ (script : PlainScript) (all : Histories) (merged : AreMerged script all
       (market_calls market) merged.numbers (rises-from_pairs call_stamp (market_calls market) is.kept.rising) is.of_lanes is.each)
       ∙ items_of-stamped market.cell.calls market.stamps is.kept.counted
 
-  pub market-start : (start : PlainMarketAccounts) (market : BankMarketState) → IsMarketMerged script all.lanes start market → market.cell.start ≡ start
-  market-start start market is = ap (λ (origin : MarketOrigin). origin.start) is.origin
-
   market-legal : (start : PlainMarketAccounts) (market : BankMarketState) → IsMarketMerged script all.lanes start market → IsMarketLegalAt made start
   market-legal start market is =
       subst (λ (calls : List Call). IsLegal (market_in start) calls) (sym (market-journal start market is))
-      (subst (λ (accounts : PlainMarketAccounts). IsLegal (market_in accounts) market.cell.calls) (market-start start market is) is.kept.cell.legal)
+      (subst (λ (accounts : PlainMarketAccounts). IsLegal (market_in accounts) market.cell.calls) (ap (λ (origin : MarketOrigin). origin.start) is.origin) is.kept.cell.legal)
 
   -- a wallet's
   entries-picked : (address : Address) (calls : List (Stamped Call)) → entries_on address calls ≡ flat_map (entries_in address) calls
@@ -144,14 +140,10 @@ module _ (script : PlainScript) (all : Histories) (merged : AreMerged script all
       (wallet_entries wallet) merged.numbers (rises-from_pairs entry_stamp (wallet_entries wallet) is.kept.rising) is.of_lanes is.each)
       ∙ items_of-stamped wallet.cell.entries wallet.stamps is.kept.counted
 
-  pub wallet-start : (start : PlainAccount) (wallet : BankWalletState) → IsWalletMerged script all.lanes start wallet
-      → record { address = wallet.cell.address; bytes = wallet.cell.start } ≡ start
-  wallet-start start wallet is = ap (λ (origin : WalletOrigin). origin.start) is.origin
-
   wallet-legal : (start : PlainAccount) (wallet : BankWalletState) → IsWalletMerged script all.lanes start wallet → IsWalletLegalAt made start
   wallet-legal start wallet is =
       subst (λ (entries : List WalletEntry). IsWalletLegal (balance_of start.bytes) entries) (sym (wallet-journal start wallet is))
-      (subst (λ (account : PlainAccount). IsWalletLegal (balance_of account.bytes) wallet.cell.entries) (wallet-start start wallet is) is.kept.cell.legal)
+      (subst (λ (account : PlainAccount). IsWalletLegal (balance_of account.bytes) wallet.cell.entries) (ap (λ (origin : WalletOrigin). origin.start) is.origin) is.kept.cell.legal)
 
   pub are-legal : AreLegal script made
   are-legal = record {

@@ -1,9 +1,10 @@
 -- The cells that lanes leave are cells of the script.
-use Rattle.std.proofs.Common.{◌≡◌, ◌||◌, List, [], ◌∷◌, drop, get_or, length, map, refl, sym, ap, ◌∙◌, arith}
-use Rattle.dex_world.proofs.Common.{Address, All-map, AllZip, PlainAccount, PlainMarketAccounts, is_same, map-id}
+use Rattle.std.proofs.Common.{◌≡◌, List, [], ◌∷◌, map, refl, sym, ap, ◌∙◌}
+use Rattle.dex_world.proofs.Common.{Address, All-map, AllZip, PlainAccount, PlainMarketAccounts, is_same, list_any, map-id}
 use Rattle.dex_replay.proofs.Common.{AreAccepted, AreCells, CellState, CellsState, IsMarketCell, IsWalletCell, MarketCellState, PlainScript, is_among, rows_naming, rows_on, wallet_opened}
-use Rattle.dex_serializable.proofs.Common.{AreOfScript, BankMarketState, BankWalletState, Histories, IsMarketMerged, IsWalletMerged, Lane, MarketOrigin, WalletOrigin, map-map, start_account}
+use Rattle.dex_serializable.proofs.Common.{AreOfScript, BankMarketState, BankWalletState, Histories, IsMarketMerged, IsWalletMerged, Lane, MarketOrigin, WalletOrigin, head-same, map-map, start_account, tail-same}
 use Rattle.dex_act.specs.Wallets.{AreApart}
+use Rattle.dex_act.proofs.CellLists.{is_among-any}
 use Rattle.dex_bank.proofs.OpenCells.{wallets-apart}
 use Rattle.dex_world.proofs.MappedLists.{All-second, zip-map}
 
@@ -33,20 +34,15 @@ last_cells script all = record {
 -- no two wallets have one address, where the addresses are those of wallets of which it holds
 among-across : (address : Address) (xs ys : List CellState) → map (λ (cell : CellState). cell.address) xs ≡ map (λ (cell : CellState). cell.address) ys
     → is_among address xs ≡ is_among address ys
-among-across address [] [] same = refl
-among-across address (x ∷ xs) (y ∷ ys) same =
-    ap (λ other. is_same address other || is_among address xs) (ap (λ list. get_or list 0 address) same)
-    ∙ ap (λ rest. is_same address y.address || rest) (among-across address xs ys (ap (λ list. drop 1 list) same))
-among-across address _ _ same = absurd (omega (arith, ap length same))
+among-across address xs ys same = is_among-any address xs ∙ ap (list_any (is_same address)) same ∙ sym (is_among-any address ys)
 
 apart-across : (xs ys : List CellState) → map (λ (cell : CellState). cell.address) xs ≡ map (λ (cell : CellState). cell.address) ys → AreApart xs → AreApart ys
 apart-across [] [] same apart = tt
-apart-across (x ∷ xs) (y ∷ ys) same apart =
-    let rest : map (λ (cell : CellState). cell.address) xs ≡ map (λ (cell : CellState). cell.address) ys = ap (λ list. drop 1 list) same in (
-      ap (λ address. is_among address ys) (sym (ap (λ list. get_or list 0 x.address) same)) ∙ sym (among-across x.address xs ys rest) ∙ apart.0,
-      apart-across xs ys rest apart.1,
-    )
-apart-across _ _ same apart = absurd (omega (arith, ap length same))
+apart-across (x ∷ xs) (y ∷ ys) same apart = (
+  ap (λ address. is_among address ys) (sym (head-same same)) ∙ sym (among-across x.address xs ys (tail-same same)) ∙ apart.0,
+  apart-across xs ys (tail-same same) apart.1,
+)
+apart-across _ _ same apart = absurd (cc)
 
 pub wallets-kept : (script : PlainScript) (lanes : List Lane) (wallets : List BankWalletState) → AreAccepted script.limits script.start
     → AllZip (IsWalletMerged script lanes) script.start.wallets wallets → AreApart (map (λ (wallet : BankWalletState). wallet.cell) wallets)

@@ -1,9 +1,8 @@
 -- The order of the items' stamps keeps the order of each lane.
-use Rattle.std.proofs.Common.{◌≡◌, ℕ, ◌<◌, Bool, true, false, eqb, List, [], ◌∷◌, map, sym, ap, ◌∙◌, subst, arith, ⊎_elim}
+use Rattle.std.proofs.Common.{◌≡◌, ℕ, ◌<◌, Bool, true, false, eqb, List, [], ◌∷◌, map, sym, ap, ◌∙◌, subst, arith, ⊎_elim, All}
 use Rattle.dex_world.proofs.Common.{All-cons, All-nil, All-weaker, PlainRow, cases_Bool, cond-false, cond-true, eqb-true, false_from_ne_true, filter, flat_map, items_of_lane, list_any, range_with_len, rows_of_lane}
 use Rattle.dex_replay.proofs.Common.{PlainScript, lanes_of}
 use Rattle.dex_serializable.proofs.Common.{AreMerged, Histories, filter-none, filter-of}
-use Rattle.std.specs.List.{All}
 use Rattle.dex_world.specs.Items as item
 use Rattle.dex_world.specs.Items.{items_of}
 use Rattle.dex_serializable.proofs.Gathered.{one-within}

@@ -1,9 +1,8 @@
 -- The next row sees in the world what its call saw.
-use Rattle.std.proofs.Common.{◌≡◌, ℕ, zero, suc, ◌<◌, ◌≤◌, Bool, true, false, cond, ltb, List, [], ◌∷◌, ◌++◌, length, get_or, map, Option, Some, None, refl, sym, ap, ◌∙◌, subst, arith, ◌⊎◌, inl, inr, ⊎_elim}
+use Rattle.std.proofs.Common.{◌≡◌, ℕ, zero, suc, ◌<◌, ◌≤◌, Bool, true, false, cond, ltb, List, [], ◌∷◌, ◌++◌, length, get_or, map, Option, Some, None, refl, sym, ap, ◌∙◌, subst, arith, ◌⊎◌, inl, inr, ⊎_elim, All, Any}
 use Rattle.dex_world.proofs.Common.{Address, All-head, All-tail, Call, IsWalletLegal, IsWalletLegal-append, Market, Movement, PlainAccount, PlainRow, Seen, Transfers, WalletEntry, WalletSeen, WalletState, address_seen, asked_of, balance_after, balance_seen, brought_to, cases_Bool, cond-false, cond-true, cond_both, is_same, is_same-refl, movement_by, movement_of, names, role_at, row_step, seen_by, sum_by-cons, taken_from, wallet_at, wallet_entry_by}
 use Rattle.dex_replay.proofs.Common.{IsSight, IsWalletSeen, PlainScript, address_of, balance_of, roles_of, wallet_words}
 use Rattle.dex_serializable.proofs.Common.{Stamped, entries_in}
-use Rattle.std.specs.List.{All, Any}
 use Rattle.dex_act.proofs.Sights.{named-hit}
 use Rattle.dex_state.specs.Addresses.{times}
 use Rattle.dex_stamps.specs.Stamped.{items_of}
@@ -141,10 +140,12 @@ module _ (row : PlainRow) (call : Stamped Call) (m : Market) (acts : Acts row ca
       let pc : role_at row.pc wallets ≡ seen.pc = found row.pc seen.pc acts.sees.pc sight.pc (pc-role (asked_of row) seen acts.sees) in
       let discount : role_at row.discount wallets ≡ seen.discount = found row.discount seen.discount acts.sees.discount sight.discount (discount-role (asked_of row) seen acts.sees) in
       let referrer : role_at row.referrer wallets ≡ seen.referrer = found row.referrer seen.referrer acts.sees.referrer sight.referrer (referrer-role (asked_of row) seen acts.sees) in
-      ap (λ (one : Option WalletSeen). record (seen_by row (world_front script made)) { coin = one }) coin
-      ∙ ap (λ (one : Option WalletSeen). record (seen_by row (world_front script made)) { coin = seen.coin; pc = one }) pc
-      ∙ ap (λ (one : Option WalletSeen). record (seen_by row (world_front script made)) { coin = seen.coin; pc = seen.pc; discount = one }) discount
-      ∙ ap (λ (one : Option WalletSeen). record (seen_by row (world_front script made)) { coin = seen.coin; pc = seen.pc; discount = seen.discount; referrer = one }) referrer
-      ∙ ap (λ (one : Option Address). record seen { srm = one; msrm = script.start.msrm; program = script.program }) (sym sight.srm)
-      ∙ ap (λ (one : Option Address). record seen { msrm = one; program = script.program }) (sym sight.msrm)
-      ∙ ap (λ (one : _). record seen { program = one }) (sym sight.program)
+      λ i. record {
+        coin = coin i;
+        pc = pc i;
+        discount = discount i;
+        referrer = referrer i;
+        srm = sym sight.srm i;
+        msrm = sym sight.msrm i;
+        program = sym sight.program i;
+      }

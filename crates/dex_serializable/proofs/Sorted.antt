@@ -1,8 +1,6 @@
 -- Lists sorted by a number of each element. What is picked of the sorted list is what is picked, sorted.
-use Rattle.std.proofs.Common.{◌≡◌, ℕ, ◌<◌, ◌≤◌, cond, ltb, suc, List, [], ◌∷◌, ◌++◌, refl, sym, ap, ◌∙◌, arith}
+use Rattle.std.proofs.Common.{◌≡◌, ℕ, ◌<◌, ◌≤◌, cond, ltb, suc, List, [], ◌∷◌, ◌++◌, refl, sym, ap, ◌∙◌, arith, All, le-ltb, ltb-true}
 use Rattle.dex_world.proofs.Common.{All-append, All-cons, All-head, All-nil, All-tail, All-weaker, AllPairs, cond-false, cond-true, cond_both, flat_map, lt-ltb, ltb-false}
-use Rattle.std.specs.List.{All}
-use Rattle.std.proofs.lemmas.Bool.{le-ltb, ltb-true}
 
 -- ---- definitions
 

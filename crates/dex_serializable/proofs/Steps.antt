@@ -1,10 +1,8 @@
 -- The next row leaves the world after its call; so all rows, one after the other, leave that after all calls.
-use Rattle.std.proofs.Common.{◌≡◌, ℕ, ◌≤◌, Bool, true, false, ◌||◌, cond, List, [], ◌∷◌, ◌++◌, map, Option, Some, refl, sym, ap, ◌∙◌, subst, arith, ⊎_elim}
-use Rattle.dex_world.proofs.Common.{Address, All-head, All-tail, All-weaker, Asked, Call, Entry, IsLegal, IsWalletLegal, IsWalletLegal-append, Listing, Market, MarketState, PlainAccount, PlainMarketAccounts, PlainRow, Seen, Stands, Step, WalletEntry, WalletState, World, act, acted, balance_after-append, cases_Bool, cond-false, cond-true, entry_by, false≢true, fold, is_same, map_push, market_acted, market_after, market_after-one, markets_acted, movement_of, names, row_step, seen_by, sum_by-cons, wallet_acted, wallet_entry_by, wallet_moved}
+use Rattle.std.proofs.Common.{◌≡◌, ℕ, ◌≤◌, Bool, true, false, ◌||◌, cond, List, [], ◌∷◌, ◌++◌, map, Option, Some, refl, sym, ap, ◌∙◌, subst, arith, ⊎_elim, All, append-nil, append_assoc}
+use Rattle.dex_world.proofs.Common.{Address, All-head, All-tail, All-weaker, Asked, Call, Entry, IsLegal, IsWalletLegal, IsWalletLegal-append, Listing, Market, MarketState, PlainAccount, PlainMarketAccounts, PlainRow, Seen, Stands, Step, WalletEntry, World, act, acted, balance_after-append, cases_Bool, cond-false, cond-true, entry_by, false≢true, fold, is_same, map_push, market_acted, market_after, market_after-one, markets_acted, movement_of, names, row_step, seen_by, sum_by-cons, wallet_acted, wallet_entry_by, wallet_moved}
 use Rattle.dex_replay.proofs.Common.{PlainScript, address_of, balance_of, has_market, market_in, wallet_words}
 use Rattle.dex_serializable.proofs.Common.{Stamped, listing-in, map-agree, map-map, market_after-listing}
-use Rattle.std.specs.List.{All}
-use Rattle.std.proofs.lemmas.List.{append-nil, append_assoc}
 use Rattle.dex_history.proofs.HistoryLaws.{IsLegal-append}
 use Rattle.dex_world.specs.World.{market_at}
 use Rattle.dex_state.specs.Addresses.{times}
@@ -49,9 +47,8 @@ module _ (row : PlainRow) (call : Stamped Call) (m : Market) (acts : Acts row ca
       ap (λ (market : Market). with (entries ++ entry_at market ∷ [])) own
       ∙ ap (λ (entry : Entry). with (entries ++ entry ∷ [])) (sym acts.entry)
       ∙ ap with (sym (map_push (λ (one : Call). one.entry) calls call.item))
-      ∙ ap (λ (s : Step). record { market = s.market; entries = map (λ (one : Call). one.entry) (calls ++ call.item ∷ []) }) (sym (acts.step before))
       ∙ ap (λ (market : Market). record { market = market; entries = map (λ (one : Call). one.entry) (calls ++ call.item ∷ []) })
-      (sym (market_after-one calls call.item (market_in accounts)))
+      (ap (λ (s : Step). s.market) (sym (acts.step before)) ∙ sym (market_after-one calls call.item (market_in accounts)))
       ∙ ap (market_with accounts) (sym (calls_at-here accounts.address made call (on-market true accounts here)))
 
   market-stays : (accounts : PlainMarketAccounts) → is_same row.market accounts.address ≡ false → market_front made accounts ≡ market_front then accounts
@@ -84,13 +81,11 @@ module _ (row : PlainRow) (call : Stamped Call) (m : Market) (acts : Acts row ca
       let own : state.market ≡ m = cc in
       let one : ◌≡◌ {A = ℕ} (cond (is_same row.market accounts.address) 1 0) 1 = ap (λ (b : Bool). cond b 1 0) (sym address ∙ here) in
       cond-true test (market_acted row seen state ∷ states) (state ∷ markets_acted row seen states) here
-      ∙ ap (λ (some : MarketState). some ∷ states) (market-acts accounts (sym address ∙ here) own)
-      ∙ ap (λ (some : List MarketState). market_front then accounts ∷ some) (markets-stay all (omega (arith, once, counted, one))))
+      ∙ (λ i. market-acts accounts (sym address ∙ here) own i ∷ markets-stay all (omega (arith, once, counted, one)) i))
       (λ (apart : is_same row.market state.market.listing.address ≡ false).
       let rest : market_at row.market states ≡ Some m = sym (cond-false test (Some state.market) (market_at row.market states) apart) ∙ at in
       cond-false test (market_acted row seen state ∷ states) (state ∷ markets_acted row seen states) apart
-      ∙ ap (λ (some : MarketState). some ∷ markets_acted row seen states) (market-stays accounts (sym address ∙ apart))
-      ∙ ap (λ (some : List MarketState). market_front then accounts ∷ some) (markets-act all rest (omega (arith, once, counted))))
+      ∙ (λ i. market-stays accounts (sym address ∙ apart) i ∷ markets-act all rest (omega (arith, once, counted)) i))
       (cases_Bool (is_same row.market state.market.listing.address))
 
   -- a wallet
@@ -116,19 +111,16 @@ module _ (row : PlainRow) (call : Stamped Call) (m : Market) (acts : Acts row ca
       → times row.market (map market_address script.start.markets) ≤ 1 → act row (world_front script made) ≡ world_front script then
   next-acts script at is once =
       let world : World = world_front script made in
+      let wallets =
+      map-map (wallet_front made) (wallet_acted row seen (row_step row seen m).transfers) script.start.wallets
+      ∙ map-agree (λ (account : PlainAccount). wallet_acted row seen (row_step row seen m).transfers (wallet_front made account)) (wallet_front then) script.start.wallets
+      (λ k d within. wallet-acts _) in
       ap (λ (found : Option Market). acted row found world) at
       ∙ ap (λ (sight : Seen). record world {
         markets = markets_acted row sight world.markets;
         wallets = map (wallet_acted row sight (row_step row sight m).transfers) world.wallets;
       }) is
-      ∙ ap (λ (markets : List MarketState). record world {
-        markets = markets;
-        wallets = map (wallet_acted row seen (row_step row seen m).transfers) world.wallets;
-      }) (markets-act script.start.markets at once)
-      ∙ ap (λ (wallets : List WalletState). record world { markets = map (market_front then) script.start.markets; wallets = wallets })
-      (map-map (wallet_front made) (wallet_acted row seen (row_step row seen m).transfers) script.start.wallets
-      ∙ map-agree (λ (account : PlainAccount). wallet_acted row seen (row_step row seen m).transfers (wallet_front made account)) (wallet_front then) script.start.wallets
-      (λ k d within. wallet-acts _))
+      ∙ (λ i. record world { markets = markets-act script.start.markets at once i; wallets = wallets i })
 
 -- ---- the market of the next row
 

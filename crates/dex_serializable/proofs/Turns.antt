@@ -1,14 +1,12 @@
 -- The items of all lanes: calls of one number with their rows. Each has one stamp.
-use Rattle.std.proofs.Common.{◌≡◌, ℕ, zero, suc, ◌+◌, ◌<◌, Bool, true, false, ◌||◌, cond, eqb, List, [], ◌∷◌, ◌++◌, map, refl, sym, ap, ◌∙◌, subst, arith, ⊎_elim}
+use Rattle.std.proofs.Common.{◌≡◌, ℕ, zero, suc, ◌+◌, ◌<◌, Bool, true, false, ◌||◌, cond, eqb, List, [], ◌∷◌, ◌++◌, map, refl, sym, ap, ◌∙◌, subst, arith, ⊎_elim, All, append-nil}
 use Rattle.dex_world.proofs.Common.{All-cons, All-head, All-nil, All-tail, All-weaker, Asked, EachApart, EachTwo, Goes, Group, PlainRow, Rise, cases_Bool, eqb-false, eqb-true, filter, filter-append, filter_passes, flat_map, flat_map-append, grouped, grouped-firsts, grouped-flat, grouped-rise, list_any, members, ne_eqb, range_with_len, rows_of_lane}
 use Rattle.dex_replay.proofs.Common.{AreRows, PlainScript}
 use Rattle.dex_serializable.proofs.Common.{All-unmap, AreAllOrNone, IsAsOthers, IsBefore, IsLaneDone, Lane, each-two, each-two-weaker, filter-all, filter-none, head-same, number_in, tail-same}
-use Rattle.std.specs.List.{All}
-use Rattle.std.proofs.lemmas.List.{append-nil}
 use Rattle.dex_world.specs.Groups.{map_group}
 use Rattle.dex_world.specs.Items as item
 use Rattle.dex_world.specs.Items.{items_of}
-use Rattle.dex_world.proofs.GroupLaws.{IsOneStamp, grouped-agree, grouped-map, grouped-stamps}
+use Rattle.dex_world.proofs.GroupLaws.{grouped-agree, grouped-map, grouped-stamps}
 use Rattle.dex_replay.proofs.Orders.{items-apart}
 use Rattle.dex_serializable.proofs.Items.{Item, all_items, call_in, lane-calls, lane-rows, lane_items, row_in, stamp_in}
 use Rattle.dex_serializable.proofs.Sorted.{Rises}
@@ -117,30 +115,25 @@ module _ (script : PlainScript) (facts : AreRows script) where
         All-unmap (λ (one : item.Item). EachApart (members one)) (map_group row_in) groups
         (subst (All (λ (one : item.Item). EachApart (members one))) (sym rows-grouped) (items-apart script facts lane.number))
 
-    pub all-turns : (some : List (Group (Item script))) → All (IsOneStamp number_of stamp_in) some
-        → All (λ (group : Group (Item script)). All (λ (one : Item script). IsAsOthers (map call_in (members group)) one.call) (members group)) some
-        → All (λ (group : Group (Item script)). EachApart (map row_in (members group))) some → All (IsTurn script) some
-    all-turns some stamps choice far k d within = record { stamps = stamps k d within; choice = choice k d within; legs = far k d within }
+    pub are-turns : All (IsTurn script) groups
+    are-turns k d within = record { stamps = grouped-stamps number_of stamp_in own goes k d within; choice = choices k d within; legs = apart k d within }
 
     abbrev pub lane_turns : List (Turn script)
-    lane_turns = turned script groups (all-turns groups (grouped-stamps number_of stamp_in own goes) choices apart)
+    lane_turns = turned script groups are-turns
 
     pub lane-flat : flat_map items_in lane_turns ≡ lane_items script facts.each lane done
-    lane-flat =
-        turned-items script groups (all-turns groups (grouped-stamps number_of stamp_in own goes) choices apart) ∙ grouped-flat number_of own
+    lane-flat = turned-items script groups are-turns ∙ grouped-flat number_of own
 
     pub lane-items : map item_in lane_turns ≡ items_of (rows_of_lane lane.number script.rows)
-    lane-items = turned-rows script groups (all-turns groups (grouped-stamps number_of stamp_in own goes) choices apart) ∙ rows-grouped
+    lane-items = turned-rows script groups are-turns ∙ rows-grouped
 
     pub lane-rises : Rises stamp_of lane_turns
-    lane-rises =
-        turned-rises script groups (all-turns groups (grouped-stamps number_of stamp_in own goes) choices apart) (grouped-rise number_of stamp_in own goes)
+    lane-rises = turned-rises script groups are-turns (grouped-rise number_of stamp_in own goes)
 
     -- each is of the lane
     lane-numbers : All (λ (turn : Turn script). eqb turn.group.first.row.lane lane.number ≡ true) lane_turns
     lane-numbers =
-        turned-each script (λ (group : Group (Item script)). eqb group.first.row.lane lane.number ≡ true) groups
-        (all-turns groups (grouped-stamps number_of stamp_in own goes) choices apart)
+        turned-each script (λ (group : Group (Item script)). eqb group.first.row.lane lane.number ≡ true) groups are-turns
         (grouped-firsts number_of (λ (one : Item script). eqb one.row.lane lane.number ≡ true) own
         (All-unmap (λ (row : PlainRow). eqb row.lane lane.number ≡ true) row_in own
         (subst (All (λ (row : PlainRow). eqb row.lane lane.number ≡ true)) (sym (lane-rows script facts.each lane done))
@@ -159,8 +152,7 @@ module _ (script : PlainScript) (facts : AreRows script) where
       let here : IsLaneDone script lane = All-head (IsLaneDone script) lane lanes done in
       let rest : All (IsLaneDone script) lanes = All-tail (IsLaneDone script) lane lanes done in
       flat_map-append items_in (lane_turns lane here) (all_turns lanes rest)
-      ∙ ap (λ (some : List (Item script)). some ++ flat_map items_in (all_turns lanes rest)) (lane-flat lane here)
-      ∙ ap (λ (some : List (Item script)). lane_items script facts.each lane here ++ some) (all-flat lanes rest)
+      ∙ (λ i. lane-flat lane here i ++ all-flat lanes rest i)
 
   abbrev pub IsOf : ℕ → Turn script → Bool
   IsOf number turn = eqb turn.group.first.row.lane number
@@ -184,8 +176,7 @@ module _ (script : PlainScript) (facts : AreRows script) where
   none-below number first (suc count) (lane ∷ lanes) done below numbers =
       let here : IsLaneDone script lane = All-head (IsLaneDone script) lane lanes done in
       let rest : All (IsLaneDone script) lanes = All-tail (IsLaneDone script) lane lanes done in
-      let mine : lane.number ≡ first =
-      head-same numbers in
+      let mine : lane.number ≡ first = head-same numbers in
       filter-append (IsOf number) (lane_turns lane here) (all_turns lanes rest)
       ∙ ap (λ (some : List (Turn script)). some ++ filter (IsOf number) (all_turns lanes rest))
       (lane-other number lane here (λ same. absurd (omega (arith, same, mine, below))))
@@ -204,10 +195,8 @@ module _ (script : PlainScript) (facts : AreRows script) where
   part number first (suc count) (lane ∷ lanes) done numbers =
       let here : IsLaneDone script lane = All-head (IsLaneDone script) lane lanes done in
       let rest : All (IsLaneDone script) lanes = All-tail (IsLaneDone script) lane lanes done in
-      let mine : lane.number ≡ first =
-      head-same numbers in
-      let later : map (λ (one : Lane). one.number) lanes ≡ range_with_len (first + 1) count =
-      tail-same numbers in
+      let mine : lane.number ≡ first = head-same numbers in
+      let later : map (λ (one : Lane). one.number) lanes ≡ range_with_len (first + 1) count = tail-same numbers in
       let split = filter-append (IsOf number) (lane_turns lane here) (all_turns lanes rest) in
       let there : Bool = list_any (eqb number) (range_with_len (first + 1) count) in
       ⊎_elim
@@ -215,8 +204,7 @@ module _ (script : PlainScript) (facts : AreRows script) where
       let same : number ≡ first = eqb-true number first yes in
       let none : filter (IsOf number) (all_turns lanes rest) ≡ [] = none-below number (first + 1) count lanes rest (omega (arith, same)) later in
       let is : filter (IsOf number) (lane_turns lane here ++ all_turns lanes rest) ≡ lane_turns lane here =
-      split ∙ ap (λ (some : List (Turn script)). some ++ filter (IsOf number) (all_turns lanes rest)) (lane-whole number lane here (mine ∙ sym same))
-      ∙ ap (λ (some : List (Turn script)). lane_turns lane here ++ some) none ∙ append-nil (lane_turns lane here) in
+      split ∙ (λ i. lane-whole number lane here (mine ∙ sym same) i ++ none i) ∙ append-nil (lane_turns lane here) in
       record {
         rises = subst (Rises stamp_of) (sym is) (lane-rises lane here);
         items = ap (map item_in) is ∙ lane-items lane here ∙ ap (λ (n : ℕ). items_of (rows_of_lane n script.rows)) (mine ∙ sym same)

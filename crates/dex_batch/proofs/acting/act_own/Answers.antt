@@ -1,5 +1,4 @@
-use Rattle.std.proofs.Common.{◌+◌, arith, get_or, map, sym, subst, take}
-use Rattle.std.proofs.lemmas.Bool.{eq-eqb, ne_eqb}
+use Rattle.std.proofs.Common.{◌+◌, arith, get_or, map, sym, subst, take, eq-eqb, ne_eqb}
 use Rattle.std.proofs.lemmas.List.{get_or_default, length-map}
 use Rattle.dex_bank.specs.Cells.{CellsState}
 use Rattle.dex_types.specs.Rows.{row_of}

@@ -1,5 +1,4 @@
-use Rattle.std.proofs.Common.{◌≡◌, [], length}
-use Rattle.std.specs.List.{All}
+use Rattle.std.proofs.Common.{◌≡◌, [], length, All}
 use Rattle.dex_batch.proofs.dealing.no_piles.Given as goal
 
 abbrev pub invariant-loop : goal.invariant-loop

@@ -1,5 +1,4 @@
-use Rattle.std.proofs.Common.{◌≡◌, ◌<◌, ℕ, length}
-use Rattle.std.specs.List.{All}
+use Rattle.std.proofs.Common.{◌≡◌, ◌<◌, ℕ, length, All}
 use Rattle.dex_batch.proofs.groups.groups_of_markets.Given as goal
 
 abbrev pub invariant-loop-market : goal.invariant-loop-market

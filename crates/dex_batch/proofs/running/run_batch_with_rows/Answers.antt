@@ -1,9 +1,7 @@
 use Rattle.std.proofs.Common.{List, map, ap, sym, subst, ◌∙◌}
-use Rattle.dex_types.specs.declared.rows.Row.{Row}
-use Rattle.dex_types.specs.Rows.{row_of}
+use Rattle.dex_world.proofs.Common.{Row, row_of}
+use Rattle.dex_replay.proofs.Common.{IsReplayOf, outcome_of}
 use Rattle.dex_bank.specs.Places.{ArePlacedIn}
-use Rattle.dex_replay.specs.Replays.{IsReplayOf}
-use Rattle.dex_state.specs.Outcomes.{outcome_of}
 use Rattle.dex_batch.proofs.Openings.{can-cells, left-cells}
 use Rattle.dex_batch.proofs.running.run_batch_with_rows.Goals as goal
 

@@ -1,6 +1,5 @@
-use Rattle.std.proofs.Common.{List, arith, sym, subst}
+use Rattle.std.proofs.Common.{List, arith, sym, subst, take_at}
 use Rattle.std.specs.List.{All, AllZip}
-use Rattle.std.proofs.lemmas.List.{take_at}
 use Rattle.dex_batch.specs.Shares.{HasRun, IsReady, ShareState}
 use Rattle.dex_batch.proofs.shares.all_run.Goals as goal
 

@@ -1,9 +1,7 @@
-use Rattle.std.proofs.Common.{◌≡◌, [], ◌∷◌, ◌++◌, List, map, ap, sym, subst, ◌∙◌}
+use Rattle.std.proofs.Common.{◌≡◌, [], ◌∷◌, ◌++◌, List, ap, sym, subst, ◌∙◌}
 use Rattle.std.proofs.lemmas.List.{map-append}
 use Rattle.std.proofs.lemmas.List.Elements.{All-push}
-use Rattle.dex_cell.specs.CellState.{MarketCellState}
-use Rattle.dex_wallet.specs.CellState.{CellState}
-use Rattle.dex_bank.specs.Cells.{AreCells}
+use Rattle.dex_replay.proofs.Common.{AreCells, CellState, MarketCellState}
 use Rattle.dex_batch.specs.Shares.{ShareState}
 use Rattle.dex_batch.proofs.shares.piles.Goals as goal
 
@@ -17,13 +15,9 @@ loop-share-preserved g c =
     let own_wallets : c.of-in-loop-share.result ≡ wallets share = c.of-in-loop-share.ensures ∙ c.into_parts-own_markets.ensures.wallets ∙ ap wallets c.share.view_is in
     record {
       markets = c.in_ok-add.ensures
-          ∙ ap (λ piles. piles ++ c.of.result ∷ []) c.loop-share.invariant.markets
-          ∙ ap (λ pile. map markets yielded ++ pile ∷ []) own_markets
-          ∙ sym (map-append markets yielded (share ∷ []));
+          ∙ (λ i. c.loop-share.invariant.markets i ++ own_markets i ∷ []) ∙ sym (map-append markets yielded (share ∷ []));
       wallets = c.in_ok-add-2.ensures
-          ∙ ap (λ piles. piles ++ c.of-in-loop-share.result ∷ []) c.loop-share.invariant.wallets
-          ∙ ap (λ pile. map wallets yielded ++ pile ∷ []) own_wallets
-          ∙ sym (map-append wallets yielded (share ∷ []));
+          ∙ (λ i. c.loop-share.invariant.wallets i ++ own_wallets i ∷ []) ∙ sym (map-append wallets yielded (share ∷ []));
       cells = All-push (λ (s : ShareState). AreCells s.cells) yielded share c.loop-share.invariant.cells
           (subst (λ (s : ShareState). AreCells s.cells) c.share.view_is c.into_parts-own_markets.ensures.cells);
     }

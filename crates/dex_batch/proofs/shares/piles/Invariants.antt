@@ -1,5 +1,4 @@
-use Rattle.std.proofs.Common.{◌≡◌, map}
-use Rattle.std.specs.List.{All}
+use Rattle.std.proofs.Common.{◌≡◌, map, All}
 use Rattle.dex_bank.specs.Cells.{AreCells}
 use Rattle.dex_batch.specs.Shares.{ShareState}
 use Rattle.dex_batch.proofs.shares.piles.Given as goal

@@ -1,13 +1,9 @@
-use Rattle.std.proofs.Common.{◌≡◌, ◌+◌, ℕ, [], List, arith, get_or, length, map, ap, sym, subst, ◌∙◌}
-use Rattle.std.proofs.lemmas.List.{get_or-set_other, length-append, length-set}
-use Rattle.dex_types.specs.declared.account_bytes.Named.{Named}
-use Rattle.dex_types.specs.Accounts.{named_of}
-use Rattle.dex_types.specs.Rows.{row_of}
-use Rattle.dex_cell.specs.CellState.{MarketCellState}
-use Rattle.dex_wallet.specs.CellState.{CellState}
-use Rattle.dex_bank.specs.Cells.{AreCells}
+use Rattle.std.proofs.Common.{◌≡◌, ◌+◌, ℕ, [], List, arith, get_or, length, map, ap, sym, subst, ◌∙◌, get_or-set_other, length-append, length-set}
+use Rattle.dex_world.proofs.Common.{named_of, row_of}
+use Rattle.dex_replay.proofs.Common.{AreCells, CellState, MarketCellState}
 use Rattle.dex_batch.specs.Shares.{ShareState, own_cells, share, share_at}
-use Rattle.dex_batch.proofs.PartLaws.{each-more, zip-at}
+use Rattle.dex_world.proofs.MappedLists.{zip-at}
+use Rattle.dex_batch.proofs.PartLaws.{each-more}
 use Rattle.dex_batch.proofs.shares.shares.Goals as goal
 
 pub of-cells-requires : goal.of-cells-requires
@@ -17,10 +13,9 @@ of-cells-requires g c =
     let wallets : c.take_all-in-loop-number.result.items ≡ get_or c.args.wallets.items number [] =
     c.take_all-in-loop-number.ensures.taken [] ∙ c.loop-number.invariant.wallets_left number [] (omega arith) in
     let are : AreCells (own_cells c.args.terms c.take_all.result.items c.take_all-in-loop-number.result.items) =
-    subst (λ (m : List MarketCellState). AreCells (own_cells c.args.terms m c.take_all-in-loop-number.result.items)) (sym markets)
-    (subst (λ (w : List CellState). AreCells (own_cells c.args.terms (get_or c.args.markets.items number []) w)) (sym wallets)
-    (zip-at (λ (m : List MarketCellState) (w : List CellState). AreCells (own_cells c.args.terms m w)) c.args.markets.items c.args.wallets.items c.requires.cells number [] []
-    (omega (arith, c.loop-number-test.true, c.len-number-end.ensures)))) in
+    subst AreCells (λ i. own_cells c.args.terms (sym markets i) (sym wallets i))
+    (zip-at (λ (m : List MarketCellState) (w : List CellState). AreCells (own_cells c.args.terms m w)) c.args.markets.items c.args.wallets.items number [] [] c.requires.cells
+    (omega (arith, c.loop-number-test.true, c.len-number-end.ensures))) in
     record { cells = record { markets = are.markets; wallets = are.wallets; apart = are.apart } }
 
 pub loop-number-preserved : goal.loop-number-preserved
@@ -34,9 +29,7 @@ loop-number-preserved g c =
     let wallets : c.take_all-in-loop-number.result.items ≡ get_or ws number [] = c.take_all-in-loop-number.ensures.taken [] ∙ c.loop-number.invariant.wallets_left number [] (omega arith) in
     let cells : c.of-cells.result ≡ own_cells terms (get_or ms number []) (get_or ws number []) =
     c.of-cells.ensures
-    ∙ ap (λ (mints : List Named). record { mints = map named_of mints; srm = terms.srm; msrm = terms.msrm; markets = c.take_all.result.items; wallets = c.take_all-in-loop-number.result.items; program = terms.program }) c.new.ensures.items
-    ∙ ap (λ (m : List MarketCellState). own_cells terms m c.take_all-in-loop-number.result.items) markets
-    ∙ ap (λ (w : List CellState). own_cells terms (get_or ms number []) w) wallets in
+    ∙ (λ i. record { mints = map named_of (c.new.ensures.items i); srm = terms.srm; msrm = terms.msrm; markets = markets i; wallets = wallets i; program = terms.program }) in
     record {
       markets_long = ap length c.take_all.ensures.left ∙ length-set c.loop-number.markets.items number [] ∙ c.loop-number.invariant.markets_long;
       wallets_long = ap length c.take_all-in-loop-number.ensures.left ∙ length-set c.loop-number.wallets.items number [] ∙ c.loop-number.invariant.wallets_long;

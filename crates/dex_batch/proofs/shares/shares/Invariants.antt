@@ -1,7 +1,6 @@
 use Rattle.std.proofs.Common.{◌≡◌, ◌≤◌, ◌<◌, ℕ, List, get_or, length, map}
 use Rattle.dex_types.specs.Rows.{row_of}
-use Rattle.dex_cell.specs.CellState.{MarketCellState}
-use Rattle.dex_wallet.specs.CellState.{CellState}
+use Rattle.dex_replay.proofs.Common.{CellState, MarketCellState}
 use Rattle.dex_batch.specs.Shares.{ShareState, share_at}
 use Rattle.dex_batch.proofs.shares.shares.Given as goal
 

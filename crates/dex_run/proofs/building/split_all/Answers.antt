@@ -1,7 +1,8 @@
-use Rattle.std.proofs.Common.{◌≡◌, ◌<◌, ◌∙◌, ℕ, List, Some, length, get_or, map, ap, sym, subst, arith}
+use Rattle.std.proofs.Common.{◌≡◌, ◌<◌, ◌∙◌, ℕ, List, Some, length, get_or, map, set, ap, sym, subst, arith}
+use Rattle.std.proofs.lemmas.List.Edits.{map_over_more}
 use Rattle.dex_world.proofs.Common.{AllZip, AllZip-long, take_all}
 use Rattle.dex_run.proofs.Common.{GateView, PassView, next_pass, split_once}
-use Rattle.dex_run.proofs.Openings.{half, half-all, half-at, half-set, length-half, mapped-more}
+use Rattle.dex_run.proofs.Openings.{half, half-all, half-at, length-half, mapped-more}
 use Rattle.dex_world.proofs.MappedLists.{zip-at}
 use Rattle.dex_run.proofs.building.split_all.Goals as goal
 
@@ -48,7 +49,7 @@ loop-place-preserved g c =
     let pass = c.index_mut.result.now in
     let within = as-many c.args.gates.now firsts i c.requires.gates c.loop-place-test.true in
     let at = half-at split_once i firsts now pass c.loop-place.invariant.firsts c.index_mut.ensures.value within in record {
-      firsts = half-set split_once i firsts now pass c.split-pass.new.pass c.loop-place.invariant.firsts at c.split-pass.ensures.kept within;
+      firsts = ap (set now i) c.split-pass.ensures.kept ∙ map_over_more split_once firsts now i pass within c.loop-place.invariant.firsts c.index_mut.ensures.value;
       given = mapped-more next_pass i firsts c.loop-place.given.items c.add.new.items.items pass c.split-pass.result c.loop-place.invariant.given c.in_ok-add.ensures at
           c.split-pass.ensures.given within;
     }

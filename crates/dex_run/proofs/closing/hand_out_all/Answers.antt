@@ -1,7 +1,7 @@
 use Rattle.std.proofs.Common.{length, vec_len, sym, subst, rules, arith}
 use Rattle.dex_serializable.proofs.Common.{calls_on, entries_on}
 use Rattle.dex_replay.proofs.Common.{PlainScript}
-use Rattle.dex_world.proofs.Common.{All-push, AllZip, PlainAccount, PlainMarketAccounts, YieldsList-from_vec, YieldsList-turn}
+use Rattle.dex_world.proofs.Common.{All-push, AllZip, AllZip-long, PlainAccount, PlainMarketAccounts, YieldsList-from_vec, YieldsList-turn}
 use Rattle.dex_run.proofs.Common.{IsMarketGate, IsMarketPass, IsMarketPassAt, IsSeat, IsSeatOf, IsWalletGate, IsWalletPass, IsWalletPassAt, SeatState}
 use Rattle.dex_run.proofs.ColumnLists.{columns-free, columns-none, columns-room}
 use Rattle.dex_run.proofs.ClosingPasses.{one-each, one-more}
@@ -9,11 +9,11 @@ use Rattle.dex_run.proofs.closing.hand_out_all.Goals as goal
 
 pub loop-seat-init : goal.loop-seat-init
 loop-seat-init c = record {
-  markets = columns-none IsMarketPassAt (IsMarketGate c.args.bank.now.script) c.args.bank.now.script.start.markets c.args.bank.now.markets c.args.markets.now.items
-      c.requires.bank.markets c.requires.markets.so_many c.requires.markets.empty;
+  markets = columns-none IsMarketPassAt c.args.bank.now.script.start.markets c.args.bank.now.markets c.args.markets.now.items
+      (AllZip-long (IsMarketGate c.args.bank.now.script) c.args.bank.now.script.start.markets c.args.bank.now.markets c.requires.bank.markets) c.requires.markets.so_many c.requires.markets.empty;
   market_room = c.requires.markets.enough;
-  wallets = columns-none IsWalletPassAt (IsWalletGate c.args.bank.now.script) c.args.bank.now.script.start.wallets c.args.bank.now.wallets c.args.wallets.now.items
-      c.requires.bank.wallets c.requires.wallets.so_many c.requires.wallets.empty;
+  wallets = columns-none IsWalletPassAt c.args.bank.now.script.start.wallets c.args.bank.now.wallets c.args.wallets.now.items
+      (AllZip-long (IsWalletGate c.args.bank.now.script) c.args.bank.now.script.start.wallets c.args.bank.now.wallets c.requires.bank.wallets) c.requires.wallets.so_many c.requires.wallets.empty;
   wallet_room = c.requires.wallets.enough;
   kept = search rules;
 }

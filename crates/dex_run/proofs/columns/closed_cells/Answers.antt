@@ -1,7 +1,8 @@
-use Rattle.std.proofs.Common.{◌∷◌, [], length, length-append, ap, subst, arith}
-use Rattle.dex_world.proofs.Common.{AllZip}
+use Rattle.std.proofs.Common.{◌∷◌, [], ◌∙◌, length, length-append, ap, arith}
+use Rattle.std.proofs.lemmas.List.{nil_from_length}
+use Rattle.dex_world.proofs.Common.{AllZip-long}
 use Rattle.dex_run.proofs.Common.{CanClose, IsClosed}
-use Rattle.dex_run.proofs.ColumnLists.{AllZip-empty, AllZip-ends, AllZip-not_empty, IsGiven, completed, completes-more, completes-none, given-closed, none}
+use Rattle.dex_run.proofs.ColumnLists.{AllZip-ends, AllZip-not_empty, IsGiven, completed, completes-more, completes-none, given-closed}
 use Rattle.dex_run.proofs.columns.closed_cells.Goals as goal
 
 pub loop-gate-init : goal.loop-gate-init
@@ -14,7 +15,7 @@ loop-gate-init g c = record {
 pub unreachable-requires : goal.unreachable-requires
 unreachable-requires g c =
     AllZip-not_empty (λ gate column. CanClose gate column.items) _ _ _ _ c.loop-gate.invariant.passes c.in-Some.ensures.items
-    (none _ (omega (arith, c.in_default-pop.ensures.cases.0)))
+    (nil_from_length _ (omega (arith, c.in_default-pop.ensures.cases.0)))
 
 pub close-requires-clause-gate : goal.close-requires-clause-gate
 close-requires-clause-gate g c =
@@ -39,9 +40,9 @@ loop-gate-preserved g c = record {
 
 pub returns : goal.returns
 returns g c =
-    let gates = none c.loop-gate.gates.items (omega (arith, c.in_default.ensures.cases.0)) in
-    let columns = AllZip-empty (λ gate column. CanClose gate column.items) c.loop-gate.columns.items
-    (subst (λ list. AllZip (λ gate column. CanClose gate column.items) list c.loop-gate.columns.items) gates c.loop-gate.invariant.passes) in
+    let gates = nil_from_length c.loop-gate.gates.items (omega (arith, c.in_default.ensures.cases.0)) in
+    let columns = nil_from_length c.loop-gate.columns.items
+    (AllZip-long (λ gate column. CanClose gate column.items) c.loop-gate.gates.items c.loop-gate.columns.items c.loop-gate.invariant.passes ∙ ap length gates) in
     given-closed (IsClosed g.V.Journaled.entries g.V.Journaled.lane g.V.Journaled.origin) g.V.OfCell.kept g.V.OfCell.gives c.args.gates.items c.args.columns.items c.reverse.new.self.items
     (completed (IsGiven (IsClosed g.V.Journaled.entries g.V.Journaled.lane g.V.Journaled.origin) g.V.OfCell.kept g.V.OfCell.gives)
     c.args.gates.items c.loop-gate.gates.items c.args.columns.items c.loop-gate.columns.items c.loop-gate.cells.items c.reverse.new.self.items c.loop-gate.invariant.values gates columns c.reverse.ensures.items)

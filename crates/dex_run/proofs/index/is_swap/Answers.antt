@@ -1,8 +1,6 @@
-use Rattle.std.proofs.Common.{◌≡◌, ◌<◌, ◌+◌, ◌∙◌, List, arith, get_or, length, map, sym, ℕ}
-use Rattle.std.proofs.lemmas.Bool.{eq-eqb, eqb-true, false≢true}
-use Rattle.dex_types.specs.declared.rows.Row.{Row}
+use Rattle.std.proofs.Common.{◌≡◌, ◌<◌, ◌+◌, ◌∙◌, List, arith, get_or, length, map, sym, ℕ, eq-eqb, eqb-true}
+use Rattle.dex_world.proofs.Common.{Row, false≢true, row_of}
 use Rattle.dex_world.specs.declared.places.RowPlaces.{RowPlaces}
-use Rattle.dex_types.specs.Rows.{row_of}
 use Rattle.dex_script_types.specs.Places.{AreBeside}
 use Rattle.dex_run.proofs.LaneRows.{beside-long, nothing, number-beside}
 use Rattle.dex_run.proofs.index.is_swap.Goals as goal

@@ -1,5 +1,4 @@
-use Rattle.std.proofs.Common.{ℕ, ◌≡◌, ◌+◌, ◌<◌, ◌∙◌, ap, arith, get_or, length, set, subst, sym}
-use Rattle.std.proofs.lemmas.List.{length-set}
+use Rattle.std.proofs.Common.{ℕ, ◌≡◌, ◌+◌, ◌<◌, ◌∙◌, ap, arith, get_or, length, set, subst, sym, length-set}
 use Rattle.dex_run.proofs.LaneItems.{AreFound, found-all, found-alone, found-none, found-two}
 use Rattle.dex_run.proofs.LaneRows.{begins-alone, begins-first, begins-two, beside-long, lane-beside, lane-within, nothing}
 use Rattle.dex_run.proofs.index.places_by_lane.Goals as goal

@@ -1,7 +1,6 @@
-use Rattle.std.proofs.Common.{List, map, ap, ◌∙◌, sym, subst, arith}
+use Rattle.std.proofs.Common.{List, map, ap, ◌∙◌, sym, subst, arith, All}
 use Rattle.dex_world.proofs.Common.{AllZip, AllZip-long, take_at}
 use Rattle.dex_run.proofs.Common.{HasRun, IsJobOf, LaneJob}
-use Rattle.std.specs.List.{All}
 use Rattle.dex_run.proofs.Jobs.{IsReady, jobs-ran, jobs-ready}
 use Rattle.dex_run.proofs.running.run_all.Goals as goal
 

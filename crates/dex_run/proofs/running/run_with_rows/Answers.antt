@@ -3,8 +3,9 @@ use Rattle.dex_world.proofs.Common.{range_with_len, row_of}
 use Rattle.dex_replay.proofs.Common.{IsOneOrder, IsRunOf, IsScript, PlainScript, outcome_of}
 use Rattle.dex_world.specs.declared.places.RowPlaces.{RowPlaces}
 use Rattle.dex_script_types.specs.Places.{AreBeside, ArePlaced}
-use Rattle.dex_run.proofs.Common.{IsIndex}
-use Rattle.dex_run.proofs.Jobs.{after-done, after-lanes, after-of_bank, lane-below}
+use Rattle.dex_world.proofs.MappedLists.{All-second, zip-map}
+use Rattle.dex_run.proofs.Common.{HasRun, IsIndex, IsSeatOf, SeatState}
+use Rattle.dex_run.proofs.Jobs.{after-done, lane-below}
 use Rattle.dex_run.proofs.running.run_with_rows.Goals as goal
 
 pub places_by_lane-requires : goal.places_by_lane-requires
@@ -46,11 +47,13 @@ run_all-requires-after_bounds g c κs bounds = λ k d within.
     }
 
 pub close-requires-clause-seats : goal.close-requires-clause-seats
-close-requires-clause-seats g c = after-of_bank c.in_ok-bank.bank c.in_ok-bank.seats.items c.in_ok-seats.seats.items c.in_ok-seats.ensures
+close-requires-clause-seats g c =
+    All-second (HasRun c.in_ok-bank.bank) (IsSeatOf c.in_ok-bank.bank) (λ seat done has. has.of_bank) c.in_ok-bank.seats.items c.in_ok-seats.seats.items c.in_ok-seats.ensures
 
 pub close-requires-clause-lanes : goal.close-requires-clause-lanes
 close-requires-clause-lanes g c =
-    after-lanes c.in_ok-bank.bank c.in_ok-bank.seats.items c.in_ok-seats.seats.items c.in_ok-seats.ensures
+    zip-map (HasRun c.in_ok-bank.bank) (λ (seat : SeatState). seat.lane) (λ (seat : SeatState). seat.lane) (λ seat done has. has.lane) c.in_ok-bank.seats.items
+    c.in_ok-seats.seats.items c.in_ok-seats.ensures
     ∙ c.in_ok-bank.ensures.lanes
     ∙ ap (λ (s : PlainScript). range_with_len 0 s.lanes) (sym c.in_ok-bank.ensures.bank)
 
