@@ -5,7 +5,7 @@ use Rattle.std.proofs.lemmas.Bool.{false≢true}
 use Rattle.std.proofs.lemmas.Simd.{map-map}
 use Rattle.dex_types.specs.declared.addresses.Address.{Address}
 use Rattle.dex_types.specs.declared.movements.Entry.{Entry}
-use Rattle.dex_types.specs.Side.{Coin, Pc}
+use Rattle.dex_types.specs.Side.{Token, Coin, Pc}
 use Rattle.dex_types.specs.Totals.{total}
 use Rattle.dex_laws.proofs.TotalLaws.{total-append}
 use Rattle.dex_history.specs.Journal.{Call}
@@ -16,7 +16,7 @@ use Rattle.dex_worth.specs.declared.amounts.TokenAmounts.{TokenAmounts}
 use Rattle.dex_worth.specs.declared.entries.Moved.{Moved}
 use Rattle.dex_worth.specs.Amounts.{both, capped_amounts}
 use Rattle.dex_worth.specs.Entries.{AreMoved, all_in, all_out, deposited_in, moved_told, settled_in, with_moved}
-use Rattle.dex_worth.proofs.Sums.{both-none, same-pair, with-own}
+use Rattle.dex_worth.proofs.Sums.{both-none, pair, same-pair, with-own}
 
 -- the first call and the others
 pub record Parts (one : Option Call) (rest : Option (List Call)) (calls : List Call) : Type 0 where
@@ -55,29 +55,20 @@ some-call (call ∷ calls) lt = call
 
 -- ---- one call more
 
-module _ (calls : List Call) (call : Call) (moved : Option Moved) (are : AreMoved call moved) where
-  abbrev later : List Call
-  later = calls ++ call ∷ []
-
-  in-more : (of : Address) → capped_amounts (both (all_in calls of) (deposited_in of moved)) ≡ capped_amounts (all_in later of)
-  in-more of =
-      ap (λ (more : TokenAmounts). capped_amounts (both (all_in calls of) more)) (are.deposited of)
-      ∙ ap capped_amounts (same-pair (total (told_in Coin of) calls + told_in Coin of call) (total (told_in Pc of) calls + told_in Pc of call)
-      (total (told_in Coin of) later) (total (told_in Pc of) later)
-      (omega (arith, total-append (told_in Coin of) calls (call ∷ []))) (omega (arith, total-append (told_in Pc of) calls (call ∷ []))))
-
-  out-more : (of : Address) → capped_amounts (both (all_out calls of) (settled_in of moved)) ≡ capped_amounts (all_out later of)
-  out-more of =
-      ap (λ (more : TokenAmounts). capped_amounts (both (all_out calls of) more)) (are.settled of)
-      ∙ ap capped_amounts (same-pair (total (told_out Coin of) calls + told_out Coin of call) (total (told_out Pc of) calls + told_out Pc of call)
-      (total (told_out Coin of) later) (total (told_out Pc of) later)
-      (omega (arith, total-append (told_out Coin of) calls (call ∷ []))) (omega (arith, total-append (told_out Pc of) calls (call ∷ []))))
+amounts-more : (told : Token → Address → Call → ℕ) (calls : List Call) (call : Call) (of : Address) (amounts : TokenAmounts) → amounts ≡ pair (told Coin of call) (told Pc of call)
+    → capped_amounts (both (pair (total (told Coin of) calls) (total (told Pc of) calls)) amounts)
+    ≡ capped_amounts (pair (total (told Coin of) (calls ++ call ∷ [])) (total (told Pc of) (calls ++ call ∷ [])))
+amounts-more told calls call of amounts is =
+    ap (λ (more : TokenAmounts). capped_amounts (both (pair (total (told Coin of) calls) (total (told Pc of) calls)) more)) is
+    ∙ ap capped_amounts (same-pair (total (told Coin of) calls + told Coin of call) (total (told Pc of) calls + told Pc of call)
+    (total (told Coin of) (calls ++ call ∷ [])) (total (told Pc of) (calls ++ call ∷ []))
+    (omega (arith, total-append (told Coin of) calls (call ∷ []))) (omega (arith, total-append (told Pc of) calls (call ∷ []))))
 
 pub moved-none : (calls : List Call) (call : Call) (owners : List Address) → AreMoved call None → map (moved_told calls) owners ≡ map (moved_told (calls ++ call ∷ [])) owners
 moved-none calls call owners are = λ i. map (λ (of : Address). record {
   owner = of;
-  deposited = (sym (both-none (all_in calls of)) ∙ in-more calls call None are of) i;
-  settled = (sym (both-none (all_out calls of)) ∙ out-more calls call None are of) i;
+  deposited = (sym (both-none (all_in calls of)) ∙ amounts-more told_in calls call of (deposited_in of None) (are.deposited of)) i;
+  settled = (sym (both-none (all_out calls of)) ∙ amounts-more told_out calls call of (settled_in of None) (are.settled of)) i;
 }) owners
 
 pub moved-more : (calls : List Call) (call : Call) (more : Moved) (owners : List Address) → AreMoved call (Some more)
@@ -86,6 +77,6 @@ moved-more calls call more owners are =
     map-map (with_moved more) (moved_told calls) owners
     ∙ λ i. map (λ (of : Address). record {
       owner = of;
-      deposited = (with-own more.owner of (all_in calls of) more.deposited more.deposited refl ∙ in-more calls call (Some more) are of) i;
-      settled = (with-own more.owner of (all_out calls of) more.settled more.settled refl ∙ out-more calls call (Some more) are of) i;
+      deposited = (with-own more.owner of (all_in calls of) more.deposited more.deposited refl ∙ amounts-more told_in calls call of (deposited_in of (Some more)) (are.deposited of)) i;
+      settled = (with-own more.owner of (all_out calls of) more.settled more.settled refl ∙ amounts-more told_out calls call of (settled_in of (Some more)) (are.settled of)) i;
     }) owners

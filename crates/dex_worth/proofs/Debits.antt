@@ -1,6 +1,6 @@
 -- The debits of an entry.
-use Rattle.std.proofs.Common.{ℕ, ◌+◌, ◌<◌, ◌≤◌, ◌≡◌, ◌⊎◌, inl, inr, Bool, true, false, cond, List, [], ◌∷◌, length, get_or, Option, Some, None, refl, sym, ap, ◌∙◌, arith, ⊎_elim}
-use Rattle.std.proofs.lemmas.Bool.{cases_Bool, cases_lt, cond-true, cond-false, lt-ltb, le-ltb}
+use Rattle.std.proofs.Common.{ℕ, ◌+◌, ◌<◌, ◌≤◌, ◌≡◌, ◌⊎◌, inl, inr, Bool, true, false, cond, if◌then◌else◌, List, [], ◌∷◌, length, get_or, Option, Some, None, refl, sym, ap, ◌∙◌, arith, ⊎_elim}
+use Rattle.std.proofs.lemmas.Bool.{cases_lt, cond-true, lt-ltb, le-ltb}
 use Rattle.dex_types.specs.declared.addresses.Address.{Address}
 use Rattle.dex_types.specs.declared.movements.Movement.{Movement}
 use Rattle.dex_types.specs.declared.rows.Seen.{Seen}
@@ -34,15 +34,14 @@ found : (a : Address) (roles : List (Option WalletSeen)) → HasMint a roles ⊎
 found a [] = inr tt
 found a (None ∷ roles) =
     ⊎_elim {C = HasMint a (None ∷ roles) ⊎ MissAll a (None ∷ roles)} (λ (some : HasMint a roles). inl (some.0, some.1)) (λ (none : MissAll a roles). inr ((λ x. refl), none)) (found a roles)
-found a ((Some w) ∷ roles) =
-    ⊎_elim {C = HasMint a (Some w ∷ roles) ⊎ MissAll a (Some w ∷ roles)}
-    (λ (same : is_same a w.address ≡ true). inl (w.mint, λ other. cond-true (is_same a w.address) (is_same other w.mint) (is_mint_in other a roles) same))
-    (λ (apart : is_same a w.address ≡ false).
-    ⊎_elim {C = HasMint a (Some w ∷ roles) ⊎ MissAll a (Some w ∷ roles)}
-    (λ (some : HasMint a roles). inl (some.0, λ other. cond-false (is_same a w.address) (is_same other w.mint) (is_mint_in other a roles) apart ∙ some.1 other))
-    (λ (none : MissAll a roles). inr ((λ x. cond-false (is_same a w.address) x 0 apart), none))
-    (found a roles))
-    (cases_Bool (is_same a w.address))
+found a ((Some w) ∷ roles) = by (is_same a w.address) (found a roles)
+  where
+    by : (same : Bool) → HasMint a roles ⊎ MissAll a roles
+        → ((mint : Address) × ((other : Address) → (if same then is_same other w.mint else is_mint_in other a roles) ≡ is_same other mint))
+        ⊎ (((x : ℕ) → (if same then x else 0) ≡ 0) × MissAll a roles)
+    by true later = inl (w.mint, λ other. refl)
+    by false (inl some) = inl (some.0, some.1)
+    by false (inr none) = inr ((λ x. refl), none)
 
 -- ---- one movement
 
@@ -76,36 +75,35 @@ module _ (seen : Seen) (m : Market) (t : Transfers) (apart : is_same m.listing.c
       → debited (move a) ≡ of_mint m.listing.coin_mint a + of_mint m.listing.pc_mint a
   split k a d within here =
       let roles : List (Option WalletSeen) = seen.coin ∷ seen.pc ∷ seen.discount ∷ seen.referrer ∷ [] in
-      let coin_le = where-le (is_of_mint seen m.listing.coin_mint (move a).wallet) (debited (move a)) in
-      let pc_le = where-le (is_of_mint seen m.listing.pc_mint (move a).wallet) (debited (move a)) in
       ⊎_elim
       (λ (some : HasMint a roles).
-      let test : (mint : Address) → is_of_mint seen mint (move a).wallet ≡ is_same mint some.0 = λ mint. ap (is_of_mint seen mint) (wallet-of a) ∙ some.1 mint in
-      ⊎_elim
-      (λ (coin : is_same m.listing.coin_mint some.0 ≡ true).
-      let is : m.listing.coin_mint ≡ some.0 = is_same-true m.listing.coin_mint some.0 coin in
-      let other : is_same m.listing.pc_mint some.0 ≡ false = ap (is_same m.listing.pc_mint) (sym is) ∙ is_same-sym m.listing.pc_mint m.listing.coin_mint ∙ apart in
-      let all = cond-true (is_of_mint seen m.listing.coin_mint (move a).wallet) (debited (move a)) 0 (test m.listing.coin_mint ∙ coin) in
-      let none = cond-false (is_of_mint seen m.listing.pc_mint (move a).wallet) (debited (move a)) 0 (test m.listing.pc_mint ∙ other) in
-      omega (arith, all, none))
-      (λ (no_coin : is_same m.listing.coin_mint some.0 ≡ false).
-      ⊎_elim
-      (λ (pc : is_same m.listing.pc_mint some.0 ≡ true).
-      let all = cond-true (is_of_mint seen m.listing.pc_mint (move a).wallet) (debited (move a)) 0 (test m.listing.pc_mint ∙ pc) in
-      let none = cond-false (is_of_mint seen m.listing.coin_mint (move a).wallet) (debited (move a)) 0 (test m.listing.coin_mint ∙ no_coin) in
-      omega (arith, all, none))
-      (λ (no_pc : is_same m.listing.pc_mint some.0 ≡ false).
+      let test : (mint : Address) → is_same mint some.0 ≡ is_of_mint seen mint (move a).wallet = λ mint. sym (ap (is_of_mint seen mint) (wallet-of a) ∙ some.1 mint) in
+      by (is_same m.listing.coin_mint some.0) (is_same m.listing.pc_mint some.0)
+      (λ coin. ap (is_same m.listing.pc_mint) (sym (is_same-true m.listing.coin_mint some.0 coin)) ∙ is_same-sym m.listing.pc_mint m.listing.coin_mint ∙ apart)
+      (λ no_coin no_pc.
       let zero : all_debited seen some.0 (movements seen t) ≡ 0 =
       meets.others_debits some.0 (is_same-sym some.0 m.listing.coin_mint ∙ no_coin) (is_same-sym some.0 m.listing.pc_mint ∙ no_pc) in
       let sum = total-map (weighed_where (λ (mv : Movement). is_of_mint seen some.0 mv.wallet) debited) move (seen_wallets seen) in
       let part = total-each (of_mint some.0) (seen_wallets seen) k d within in
       let own : of_mint some.0 (get_or (seen_wallets seen) k d) ≡ debited (move a) =
-      ap (of_mint some.0) here ∙ cond-true (is_of_mint seen some.0 (move a).wallet) (debited (move a)) 0 (test some.0 ∙ is_same-refl some.0) in
-      omega (arith, zero, sum, part, own, coin_le, pc_le))
-      (cases_Bool (is_same m.listing.pc_mint some.0)))
-      (cases_Bool (is_same m.listing.coin_mint some.0)))
-      (λ (none : MissAll a roles). omega (arith, takes a, none.0 t.coin_in, none.1.0 t.pc_in, coin_le, pc_le))
+      ap (of_mint some.0) here ∙ cond-true (is_of_mint seen some.0 (move a).wallet) (debited (move a)) 0 (sym (test some.0) ∙ is_same-refl some.0) in
+      omega (arith, zero, sum, part, own))
+      ∙ (λ i. cond (test m.listing.coin_mint i) (debited (move a)) 0 + cond (test m.listing.pc_mint i) (debited (move a)) 0))
+      (λ (none : MissAll a roles).
+      omega (
+        arith,
+        takes a,
+        none.0 t.coin_in,
+        none.1.0 t.pc_in,
+        where-le (is_of_mint seen m.listing.coin_mint (move a).wallet) (debited (move a)),
+        where-le (is_of_mint seen m.listing.pc_mint (move a).wallet) (debited (move a)),
+      ))
       (found a roles)
+    where
+      by : (coin pc : Bool) → (coin ≡ true → pc ≡ false) → (coin ≡ false → pc ≡ false → debited (move a) ≡ 0) → debited (move a) ≡ cond coin (debited (move a)) 0 + cond pc (debited (move a)) 0
+      by true pc one none = rw (one refl) (omega arith)
+      by false true one none = omega arith
+      by false false one none = omega (arith, none refl refl)
 
   pub all-debits : total debited (movements seen t) ≡ t.coin_in + t.pc_in
   all-debits =

@@ -1,16 +1,15 @@
 -- Nothing is made or lost: what accounts are worth, what a market has taken and what takes moved, over a history.
-use Rattle.std.proofs.Common.{ℕ, pos, ◌+◌, ◌+ℤ◌, ◌-ℤ◌, ◌≡◌, true, false, cond, List, [], ◌∷◌, map, Option, Some, None, Result, Ok, Err, is_some, take, refl, sym, ap, ◌∙◌, subst, arith, ⊎_elim}
+use Rattle.std.proofs.Common.{ℕ, pos, ◌+◌, ◌+ℤ◌, ◌-ℤ◌, ◌≡◌, false, cond, List, [], ◌∷◌, get_or, map, Option, Some, None, Result, Ok, Err, is_some, take, refl, sym, ap, ◌∙◌, subst, arith}
 use Rattle.std.specs.List.{All}
-use Rattle.std.proofs.lemmas.Bool.{cases_Bool, cond-true, cond-false}
+use Rattle.std.proofs.lemmas.Bool.{cond-true, cond-false}
 use Rattle.std.proofs.lemmas.Int.{ints}
 use Rattle.std.proofs.lemmas.List.Elements.{All-nil, All-cons, All-head, All-tail, All-weaker}
 use Rattle.dex_types.specs.declared.addresses.Address.{Address}
 use Rattle.dex_types.specs.declared.instructions.BadData.{BadData}
 use Rattle.dex_types.specs.declared.instructions.Ix.{Ix}
-use Rattle.dex_types.specs.declared.instructions.Ix.TheVariants.{InitializeMarket, MatchOrders, ConsumeEvents, SettleFunds, DisableMarket, SweepFees, NewOrderV3, CancelOrderV2, CancelOrderByClientIdV2, SendTake, CloseOpenOrders, InitOpenOrders, Prune, CancelOrdersByClientIds}
+use Rattle.dex_types.specs.declared.instructions.Ix.TheVariants.{ConsumeEvents, SettleFunds, SweepFees, NewOrderV3, CancelOrderV2, CancelOrderByClientIdV2, SendTake, CloseOpenOrders, InitOpenOrders, Prune, CancelOrdersByClientIds}
 use Rattle.dex_types.specs.declared.orders.Order.{Order}
 use Rattle.dex_types.specs.declared.refusals.Refusal.{Refusal}
-use Rattle.dex_types.specs.declared.replies.Reply.{Reply}
 use Rattle.dex_types.specs.declared.replies.Reply.TheVariants.{Cancelled, Consumed}
 use Rattle.dex_types.specs.declared.rows.Seen.{Seen}
 use Rattle.dex_types.specs.declared.terms.Side.{Side}
@@ -23,7 +22,7 @@ use Rattle.dex_types.specs.QueuedEvent.{QueuedEvent}
 use Rattle.dex_types.specs.Requests.{Request, Party, party_of}
 use Rattle.dex_types.specs.Settle.{Settlement, settlement}
 use Rattle.dex_types.specs.Side.{Token, Coin, Pc, by_token}
-use Rattle.dex_types.specs.Solvency.{all_free, all_locked, all_owed, earned, free_of, own_locked, vault}
+use Rattle.dex_types.specs.Solvency.{all_free, all_locked, all_owed, earned, own_locked, vault}
 use Rattle.dex_types.specs.Soundness.{AreDistinct, AreHeld, IsSound, event_holding, held_at, held_by, order_holding}
 use Rattle.dex_types.specs.Steps.{Step, act, act_cancel, act_close, act_decoded, act_init, act_order, act_settle, act_sweep, act_take, by_party, done, ordered, refused, settled, unless_refused}
 use Rattle.dex_types.specs.Take.{Take}
@@ -31,10 +30,10 @@ use Rattle.dex_types.specs.Terms.{terms_order, terms_take}
 use Rattle.dex_types.specs.Tokens.{locking_side}
 use Rattle.dex_types.specs.Totals.{total}
 use Rattle.dex_types.specs.Trader.{Holding, Open, Trader, Traders, trader_at}
-use Rattle.dex_types.specs.Transfers.{Transfers, no_transfers}
+use Rattle.dex_types.specs.Transfers.{no_transfers}
 use Rattle.dex_types.specs.Cancel.{ById, ByClient, ByClients, First}
 use Rattle.dex_types.specs.Why.{why}
-use Rattle.dex_laws.proofs.TotalLaws.{total-plus}
+use Rattle.dex_laws.proofs.TotalLaws.{total-agree, total-none, total-plus}
 use Rattle.dex_laws.proofs.TraderLaws.{is_same-refl, is_same-sym, is_same-true, trader_at-here, trader_at-there, traders-induction}
 use Rattle.dex_sound.specs.Kept.{KeepsMarket, addresses}
 use Rattle.dex_sound.proofs.KeepLaws.{step-keeps}
@@ -60,22 +59,21 @@ of_owner owner amount a = cond (is_same a owner) amount 0
 abbrev IsHere : Traders → Address → Type 0
 IsHere traders a = (trader : Trader) × (trader_at a traders ≡ Some trader)
 
-total-zero : {X : Type 0} (xs : List X) → let none : ℕ = 0 in total (λ (x : X). none) xs ≡ none
-total-zero [] = refl
-total-zero (x ∷ xs) = omega (arith, total-zero xs)
-
-total-by : {X : Type 0} (weight other : X → ℕ) → ((x : X) → weight x ≡ other x) → (xs : List X) → total weight xs ≡ total other xs
-total-by weight other same [] = refl
-total-by weight other same (x ∷ xs) = omega (arith, same x, total-by weight other same xs)
-
-nobody : (owner : Address) (amount : ℕ) (traders : Traders) → trader_at owner traders ≡ None → total (of_owner owner amount) (addresses traders) ≡ 0
-nobody owner amount =
-    traders-induction owner (λ traders. trader_at owner traders ≡ None → total (of_owner owner amount) (addresses traders) ≡ 0)
-    (λ none. refl)
+-- accounts are at other addresses than one that none has
+all-apart : (owner : Address) (traders : Traders) → trader_at owner traders ≡ None → All (λ (a : Address). is_same a owner ≡ false) (addresses traders)
+all-apart owner =
+    traders-induction owner (λ traders. trader_at owner traders ≡ None → All (λ (a : Address). is_same a owner ≡ false) (addresses traders))
+    (λ none. All-nil (λ (a : Address). is_same a owner ≡ false))
     (λ entry others same none. let found : trader_at owner (entry ∷ others) ≡ Some entry.1 = trader_at-here owner entry others same in absurd (cc))
     (λ entry others apart rest none.
-    let far : of_owner owner amount entry.0 ≡ 0 = cond-false (is_same entry.0 owner) amount 0 (is_same-sym entry.0 owner ∙ apart) in
-    omega (arith, far, rest (sym (trader_at-there owner entry others apart) ∙ none)))
+    All-cons (λ (a : Address). is_same a owner ≡ false) entry.0 (addresses others) (is_same-sym entry.0 owner ∙ apart)
+    (rest (sym (trader_at-there owner entry others apart) ∙ none)))
+
+nobody : (owner : Address) (amount : ℕ) (traders : Traders) → trader_at owner traders ≡ None → total (of_owner owner amount) (addresses traders) ≡ 0
+nobody owner amount traders none =
+    total-none (of_owner owner amount) (addresses traders)
+    (All-weaker (λ (a : Address). is_same a owner ≡ false) (λ a. of_owner owner amount a ≡ 0) (λ a far. cond-false (is_same a owner) amount 0 far) (addresses traders)
+    (all-apart owner traders none))
 
 one-owner : (owner : Address) (amount : ℕ) (traders : Traders) → AreDistinct traders → IsHere traders owner → total (of_owner owner amount) (addresses traders) ≡ amount
 one-owner owner amount =
@@ -91,7 +89,7 @@ one-owner owner amount =
 
 all-owners : {X : Type 0} (of : X → Address) (weight : X → ℕ) (traders : Traders) → AreDistinct traders → (xs : List X) → All (λ (x : X). IsHere traders (of x)) xs
     → total (λ (a : Address). total (λ (x : X). of_owner (of x) (weight x) a) xs) (addresses traders) ≡ total weight xs
-all-owners of weight traders distinct [] here = total-zero (addresses traders)
+all-owners of weight traders distinct [] here = total-none (λ (a : Address). 0) (addresses traders) (λ k d lt. refl)
 all-owners {X} of weight traders distinct (x ∷ xs) here = omega (
   arith,
   total-plus (of_owner (of x) (weight x)) (λ (a : Address). total (λ (y : X). of_owner (of y) (weight y) a) xs) (addresses traders),
@@ -101,42 +99,16 @@ all-owners {X} of weight traders distinct (x ∷ xs) here = omega (
 
 -- ---- what a market holds for all its accounts
 
-free-one : (token : Token) (a : Address) (traders : Traders) → AreDistinct traders
-    → total (λ (entry : Address × Trader). of_owner entry.0 (free_of token entry.1) a) traders ≡ free_in token (trader_at a traders)
-free-one token a [] distinct = refl
-free-one token a (entry ∷ others) distinct =
-    let rest = free-one token a others distinct.1 in
-    ⊎_elim
-    (λ (same : is_same a entry.0 ≡ true).
-    let none : free_in token (trader_at a others) ≡ 0 =
-    ap (free_in token) (ap (λ (b : Address). trader_at b others) (is_same-true a entry.0 same) ∙ distinct.0) in
-    let here : of_owner entry.0 (free_of token entry.1) a ≡ free_of token entry.1 = cond-true (is_same a entry.0) (free_of token entry.1) 0 same in
-    let found : free_in token (trader_at a (entry ∷ others)) ≡ free_of token entry.1 = ap (free_in token) (trader_at-here a entry others same) in
-    omega (arith, none, here, found, rest))
-    (λ (apart : is_same a entry.0 ≡ false).
-    let far : of_owner entry.0 (free_of token entry.1) a ≡ 0 = cond-false (is_same a entry.0) (free_of token entry.1) 0 apart in
-    let found : free_in token (trader_at a (entry ∷ others)) ≡ free_in token (trader_at a others) = ap (free_in token) (trader_at-there a entry others apart) in
-    omega (arith, far, found, rest))
-    (cases_Bool (is_same a entry.0))
-
-later-here : (entry : Address × Trader) (others : Traders) (a : Address) → IsHere others a → IsHere (entry ∷ others) a
-later-here entry others a here =
-    ⊎_elim {C = IsHere (entry ∷ others) a} (λ (same : is_same a entry.0 ≡ true). (entry.1, trader_at-here a entry others same))
-    (λ (apart : is_same a entry.0 ≡ false). (here.0, trader_at-there a entry others apart ∙ here.1))
-    (cases_Bool (is_same a entry.0))
-
-all-here : (traders : Traders) → All (λ (entry : Address × Trader). IsHere traders entry.0) traders
-all-here [] = All-nil _
-all-here (entry ∷ others) =
-    All-cons (λ (one : Address × Trader). IsHere (entry ∷ others) one.0) entry others (entry.1, trader_at-here entry.0 entry others (is_same-refl entry.0))
-    (All-weaker (λ (one : Address × Trader). IsHere others one.0) (λ (one : Address × Trader). IsHere (entry ∷ others) one.0)
-    (λ (one : Address × Trader) here. later-here entry others one.0 here) others (all-here others))
-
 free-all : (token : Token) (traders : Traders) → AreDistinct traders → total (λ (a : Address). free_in token (trader_at a traders)) (addresses traders) ≡ all_free token traders
-free-all token traders distinct =
-    total-by (λ (a : Address). free_in token (trader_at a traders)) (λ (a : Address). total (λ (entry : Address × Trader). of_owner entry.0 (free_of token entry.1) a) traders)
-    (λ a. sym (free-one token a traders distinct)) (addresses traders)
-    ∙ all-owners (λ (entry : Address × Trader). entry.0) (λ (entry : Address × Trader). free_of token entry.1) traders distinct traders (all-here traders)
+free-all token [] distinct = refl
+free-all token (entry ∷ others) distinct = omega (
+  arith,
+  ap (free_in token) (trader_at-here entry.0 entry others (is_same-refl entry.0)),
+  total-agree (λ (a : Address). free_in token (trader_at a (entry ∷ others))) (λ (a : Address). free_in token (trader_at a others)) (addresses others)
+      (All-weaker (λ (a : Address). is_same a entry.0 ≡ false) (λ a. free_in token (trader_at a (entry ∷ others)) ≡ free_in token (trader_at a others))
+      (λ a apart. ap (free_in token) (trader_at-there a entry others apart)) (addresses others) (all-apart entry.0 others distinct.0)),
+  free-all token others distinct.1,
+)
 
 held-here : (owner : Address) (slot : ℕ) (held : Holding) (traders : Traders) → held_at owner slot traders ≡ Some held → IsHere traders owner
 held-here owner slot held traders is = go (trader_at owner traders) is
@@ -192,128 +164,96 @@ record Flows (token : Token) (named accounts : List Address) (s : Step) : Type 0
       + taken_out token s.reply s.transfers
 
 none-for : (named accounts : List Address) → total (λ (a : Address). for_account a named 0) accounts ≡ 0
-none-for named [] = refl
-none-for named (a ∷ others) = omega (arith, for_account-none a named, none-for named others)
+none-for named accounts = total-none (λ (a : Address). for_account a named 0) accounts (λ k d lt. for_account-none (get_or accounts k d) named)
 
--- nothing moves with such an answer
-record IsStill (reply : Reply) : Type 0 where
-  deposits : (token : Token) (t : Transfers) → deposit_in token reply t ≡ 0
-  settles : (token : Token) → settled_in token reply ≡ 0
-  brings : (token : Token) (t : Transfers) → brought_in token reply t ≡ 0
-  takes : (token : Token) (t : Transfers) → taken_out token reply t ≡ 0
-  sweeps : swept_in reply ≡ 0
-  refers : referred_in reply ≡ 0
-
-quiet : (named accounts : List Address) (m : Market) (reply : Reply) → IsStill reply → (token : Token)
-    → Flows token named accounts (record { market = m; reply = reply; transfers = no_transfers })
-quiet named accounts m reply still token =
-    let none-in = ap (λ (amount : ℕ). total (λ (a : Address). for_account a named amount) accounts) (still.deposits token no_transfers) ∙ none-for named accounts in
-    let none-out = ap (λ (amount : ℕ). total (λ (a : Address). for_account a named amount) accounts) (still.settles token) ∙ none-for named accounts in
-    by-token token none-in none-out
-  where
-    by-token : (token : Token) → total (λ (a : Address). for_account a named (deposit_in token reply no_transfers)) accounts ≡ 0
-        → total (λ (a : Address). for_account a named (settled_in token reply)) accounts ≡ 0
-        → Flows token named accounts (record { market = m; reply = reply; transfers = no_transfers })
-    by-token Coin none-in none-out = record { enters = omega (arith, none-in, still.brings Coin no_transfers); leaves = omega (arith, none-out, still.takes Coin no_transfers) }
-    by-token Pc none-in none-out = record {
-      enters = omega (arith, none-in, still.brings Pc no_transfers);
-      leaves = omega (arith, none-out, still.takes Pc no_transfers, still.sweeps, still.refers);
-    }
-
-still-done : (named accounts : List Address) (m : Market) (token : Token) → Flows token named accounts (done m)
-still-done named accounts m =
-    quiet named accounts m _ (record { deposits = λ token t. refl; settles = λ token. refl; brings = λ token t. refl; takes = λ token t. refl; sweeps = refl; refers = refl })
-
-still-refused : (named accounts : List Address) (refusal : Refusal) (m : Market) (token : Token) → Flows token named accounts (refused refusal m)
-still-refused named accounts refusal m =
-    quiet named accounts m _ (record { deposits = λ token t. refl; settles = λ token. refl; brings = λ token t. refl; takes = λ token t. refl; sweeps = refl; refers = refl })
-
-module _ (named : List Address) (m : Market) (sound : IsSound m) where
+module _ (request : Request) (m : Market) (sound : IsSound m) where
   abbrev Balanced : Step → Type 0
-  Balanced s = (token : Token) → Flows token named (addresses m.traders) s
+  Balanced s = (token : Token) → Flows token request.named (addresses m.traders) s
 
-  party-flows : (does : Party → Step) (party : Option Party) → ((p : Party) → party ≡ Some p → Balanced (does p)) → Balanced (by_party does m party)
-  party-flows does None each = still-done named (addresses m.traders) m
-  party-flows does (Some p) each = each p refl
+  none : total (λ (a : Address). for_account a request.named 0) (addresses m.traders) ≡ 0
+  none = none-for request.named (addresses m.traders)
 
-  -- an amount for the account that the row acts on
-  party-sum : (party : Party) → party_of named m.traders ≡ Some party → (amount : ℕ) → total (λ (a : Address). for_account a named amount) (addresses m.traders) ≡ amount
-  party-sum party found amount =
-      let is : IsParty named m.traders party = party-is named m.traders party found in
-      total-by (λ (a : Address). for_account a named amount) (of_owner party.address amount) (λ a. ap (λ own. cond own amount 0) (is.first a)) (addresses m.traders)
-      ∙ one-owner party.address amount m.traders sound.form.distinct (Open party.account, is.found)
+  done-flows : (after : Market) → Balanced (done after)
+  done-flows after Coin = record { enters = omega (arith, none); leaves = omega (arith, none) }
+  done-flows after Pc = record { enters = omega (arith, none); leaves = omega (arith, none) }
 
-  ordered-flows : (side : Side) (n : NewOrder) (party : Party) (ordering : Ordering) → party_of named m.traders ≡ Some party → Balanced (ordered side n m party ordering)
-  ordered-flows Bid n party ordering found Coin = record { enters = omega (arith, none-for named (addresses m.traders)); leaves = omega (arith, none-for named (addresses m.traders)) }
-  ordered-flows Bid n party ordering found Pc = record { enters = omega (arith, party-sum party found ordering.deposit); leaves = omega (arith, none-for named (addresses m.traders)) }
-  ordered-flows Ask n party ordering found Coin = record { enters = omega (arith, party-sum party found ordering.deposit); leaves = omega (arith, none-for named (addresses m.traders)) }
-  ordered-flows Ask n party ordering found Pc = record { enters = omega (arith, none-for named (addresses m.traders)); leaves = omega (arith, none-for named (addresses m.traders)) }
-
-  settled-flows : (party : Party) (s : Settlement) → party_of named m.traders ≡ Some party → Balanced (settled m party s)
-  settled-flows party s found Coin = record { enters = omega (arith, none-for named (addresses m.traders)); leaves = omega (arith, party-sum party found s.coin) }
-  settled-flows party s found Pc = record { enters = omega (arith, none-for named (addresses m.traders)); leaves = omega (arith, party-sum party found s.pc) }
-
-  sweep-flows : Balanced (act_sweep m)
-  sweep-flows Coin = record { enters = omega (arith, none-for named (addresses m.traders)); leaves = omega (arith, none-for named (addresses m.traders)) }
-  sweep-flows Pc = record { enters = omega (arith, none-for named (addresses m.traders)); leaves = omega (arith, none-for named (addresses m.traders)) }
-
-  take-flows : (side : Side) (t : Take) → Balanced (act_take side t m)
-  take-flows side t Coin = record { enters = omega (arith, none-for named (addresses m.traders)); leaves = omega (arith, none-for named (addresses m.traders)) }
-  take-flows side t Pc = record { enters = omega (arith, none-for named (addresses m.traders)); leaves = omega (arith, none-for named (addresses m.traders)) }
+  refused-flows : (refusal : Refusal) → Balanced (refused refusal m)
+  refused-flows refusal Coin = record { enters = omega (arith, none); leaves = omega (arith, none) }
+  refused-flows refusal Pc = record { enters = omega (arith, none); leaves = omega (arith, none) }
 
   cancel-flows : (gone : ℕ) (after : Market) → Balanced (record { market = after; reply = Cancelled gone; transfers = no_transfers })
-  cancel-flows gone after =
-      quiet named (addresses m.traders) after (Cancelled gone)
-      (record { deposits = λ token t. refl; settles = λ token. refl; brings = λ token t. refl; takes = λ token t. refl; sweeps = refl; refers = refl })
+  cancel-flows gone after Coin = record { enters = omega (arith, none); leaves = omega (arith, none) }
+  cancel-flows gone after Pc = record { enters = omega (arith, none); leaves = omega (arith, none) }
 
   consume-flows : (count : ℕ) (after : Market) → Balanced (record { market = after; reply = Consumed count; transfers = no_transfers })
-  consume-flows count after =
-      quiet named (addresses m.traders) after (Consumed count)
-      (record { deposits = λ token t. refl; settles = λ token. refl; brings = λ token t. refl; takes = λ token t. refl; sweeps = refl; refers = refl })
+  consume-flows count after Coin = record { enters = omega (arith, none); leaves = omega (arith, none) }
+  consume-flows count after Pc = record { enters = omega (arith, none); leaves = omega (arith, none) }
 
-  nothing : (after : Market) → Balanced (done after)
-  nothing after = still-done named (addresses m.traders) after
+  sweep-flows : Balanced (act_sweep m)
+  sweep-flows Coin = record { enters = omega (arith, none); leaves = omega (arith, none) }
+  sweep-flows Pc = record { enters = omega (arith, none); leaves = omega (arith, none) }
+
+  take-flows : (side : Side) (t : Take) → Balanced (act_take side t m)
+  take-flows side t Coin = record { enters = omega (arith, none); leaves = omega (arith, none) }
+  take-flows side t Pc = record { enters = omega (arith, none); leaves = omega (arith, none) }
+
+  -- an amount for the account that the row acts on
+  party-sum : (party : Party) → party_of request.named m.traders ≡ Some party → (amount : ℕ)
+      → total (λ (a : Address). for_account a request.named amount) (addresses m.traders) ≡ amount
+  party-sum party found amount =
+      let is : IsParty request.named m.traders party = party-is request.named m.traders party found in
+      total-agree (λ (a : Address). for_account a request.named amount) (of_owner party.address amount) (addresses m.traders)
+      (λ k d lt. ap (λ own. cond own amount 0) (is.first (get_or (addresses m.traders) k d)))
+      ∙ one-owner party.address amount m.traders sound.form.distinct (Open party.account, is.found)
+
+  ordered-flows : (side : Side) (n : NewOrder) (party : Party) (ordering : Ordering) → party_of request.named m.traders ≡ Some party → Balanced (ordered side n m party ordering)
+  ordered-flows Bid n party ordering found Coin = record { enters = omega (arith, none); leaves = omega (arith, none) }
+  ordered-flows Bid n party ordering found Pc = record { enters = omega (arith, party-sum party found ordering.deposit); leaves = omega (arith, none) }
+  ordered-flows Ask n party ordering found Coin = record { enters = omega (arith, party-sum party found ordering.deposit); leaves = omega (arith, none) }
+  ordered-flows Ask n party ordering found Pc = record { enters = omega (arith, none); leaves = omega (arith, none) }
+
+  settled-flows : (party : Party) (s : Settlement) → party_of request.named m.traders ≡ Some party → Balanced (settled m party s)
+  settled-flows party s found Coin = record { enters = omega (arith, none); leaves = omega (arith, party-sum party found s.coin) }
+  settled-flows party s found Pc = record { enters = omega (arith, none); leaves = omega (arith, party-sum party found s.pc) }
+
+  party-flows : (does : Party → Step) (party : Option Party) → ((p : Party) → party ≡ Some p → Balanced (does p)) → Balanced (by_party does m party)
+  party-flows does None each = done-flows m
+  party-flows does (Some p) each = each p refl
 
   init-flows : (some : List Address) (signer : Address) → Balanced (act_init some signer m)
-  init-flows [] signer = nothing m
-  init-flows (address ∷ others) signer = nothing _
+  init-flows [] signer = done-flows m
+  init-flows (address ∷ others) signer = done-flows _
 
-  acts : (ix : Ix) (request : Request) (seen : Seen) → request.named ≡ named → Balanced (act ix request seen m)
-  acts (InitializeMarket coin_lot pc_lot fee_rate_bps nonce dust) request seen same = nothing m
-  acts (MatchOrders limit) request seen same = nothing m
-  acts (ConsumeEvents limit) request seen same = consume-flows _ _
-  acts SettleFunds request seen same =
-      party-flows (act_settle seen m) (party_of request.named m.traders)
-      (λ party found. settled-flows party (settlement (is_some seen.referrer) party.account) (ap (λ (some : List Address). party_of some m.traders) (sym same) ∙ found))
-  acts DisableMarket request seen same = nothing _
-  acts SweepFees request seen same = sweep-flows
-  acts (NewOrderV3 side price lots max_pc self_trade order_type client limit latest) request seen same =
+  acts : (ix : Ix) (seen : Seen) → Balanced (act ix request seen m)
+  acts (ConsumeEvents limit) seen = consume-flows _ _
+  acts SettleFunds seen =
+      party-flows (act_settle seen m) (party_of request.named m.traders) (λ party found. settled-flows party (settlement (is_some seen.referrer) party.account) found)
+  acts SweepFees seen = sweep-flows
+  acts (NewOrderV3 side price lots max_pc self_trade order_type client limit latest) seen =
       let order : Address → NewOrder = terms_order request seen price lots max_pc self_trade order_type client limit latest in
       party-flows (act_order side order m) (party_of request.named m.traders)
-      (λ party found. ordered-flows side (order party.address) party (order_on side m party.account (order party.address))
-      (ap (λ (some : List Address). party_of some m.traders) (sym same) ∙ found))
-  acts (CancelOrderV2 side id) request seen same = party-flows (act_cancel (ById side id) m) (party_of request.named m.traders) (λ party found. cancel-flows _ _)
-  acts (CancelOrderByClientIdV2 client) request seen same = party-flows (act_cancel (ByClient client) m) (party_of request.named m.traders) (λ party found. cancel-flows _ _)
-  acts (SendTake side price lots max_pc min_lots min_pc limit) request seen same = take-flows side (terms_take seen price lots max_pc min_lots min_pc limit)
-  acts CloseOpenOrders request seen same = party-flows (act_close m) (party_of request.named m.traders) (λ party found. nothing _)
-  acts InitOpenOrders request seen same = init-flows request.named request.signer
-  acts (Prune limit) request seen same = party-flows (act_cancel (First limit) m) (party_of request.named m.traders) (λ party found. cancel-flows _ _)
-  acts (CancelOrdersByClientIds ids) request seen same =
-      party-flows (act_cancel (ByClients (take ids.count ids.ids)) m) (party_of request.named m.traders) (λ party found. cancel-flows _ _)
+      (λ party found. ordered-flows side (order party.address) party (order_on side m party.account (order party.address)) found)
+  acts (CancelOrderV2 side id) seen = party-flows (act_cancel (ById side id) m) (party_of request.named m.traders) (λ party found. cancel-flows _ _)
+  acts (CancelOrderByClientIdV2 client) seen = party-flows (act_cancel (ByClient client) m) (party_of request.named m.traders) (λ party found. cancel-flows _ _)
+  acts (SendTake side price lots max_pc min_lots min_pc limit) seen = take-flows side (terms_take seen price lots max_pc min_lots min_pc limit)
+  acts CloseOpenOrders seen = party-flows (act_close m) (party_of request.named m.traders) (λ party found. done-flows _)
+  acts InitOpenOrders seen = init-flows request.named request.signer
+  acts (Prune limit) seen = party-flows (act_cancel (First limit) m) (party_of request.named m.traders) (λ party found. cancel-flows _ _)
+  acts (CancelOrdersByClientIds ids) seen = party-flows (act_cancel (ByClients (take ids.count ids.ids)) m) (party_of request.named m.traders) (λ party found. cancel-flows _ _)
+  acts ix seen = done-flows _
 
-  decoded-flows : (decodes : Result Ix BadData) (request : Request) (seen : Seen) → request.named ≡ named → Balanced (act_decoded decodes request seen m)
-  decoded-flows (Err rule) request seen same = nothing m
-  decoded-flows (Ok ix) request seen same = acts ix request seen same
+  decoded-flows : (decodes : Result Ix BadData) (seen : Seen) → Balanced (act_decoded decodes request seen m)
+  decoded-flows (Err rule) seen = done-flows m
+  decoded-flows (Ok ix) seen = acts ix seen
 
   unless-flows : (reason : Option Refusal) (acted : Step) → Balanced acted → Balanced (unless_refused reason m acted)
   unless-flows None acted flows = flows
-  unless-flows (Some refusal) acted flows = still-refused named (addresses m.traders) refusal m
+  unless-flows (Some refusal) acted flows = refused-flows refusal
 
 step-flows : (call : Call) (m : Market) → IsSound m → (token : Token) → Flows token (acted_of call).request.named (addresses m.traders) (step_of call m)
 step-flows call m sound =
     let request : Request = (acted_of call).request in
-    unless-flows request.named m sound (why request call.seen m) (act_decoded request.instruction request call.seen m)
-    (decoded-flows request.named m sound request.instruction request call.seen refl)
+    unless-flows request m sound (why request call.seen m) (act_decoded request.instruction request call.seen m) (decoded-flows request m sound request.instruction call.seen)
 
 -- a vault rises by what enters and falls by what leaves
 vault-moves : (token : Token) (m : Market) (s : Step) → KeepsMarket m s → ArePaid s.transfers m
@@ -383,4 +323,4 @@ add-up token m calls sound legal =
     let worths = ap (λ (e : Eager). sum_of token e.worths) (history-market calls m no_moves sound legal) ∙ worths-sum token after ledger after.traders in
     let vaults = vault-is token after (calls-sound calls m sound legal) in
     let moved = moved-sums token (addresses after.traders) calls m no_moves (sym same) sound legal in
-    omega (arith, ints, worths, vaults, moved, part-is token after ledger, away-none token, total-zero (addresses after.traders))
+    omega (arith, ints, worths, vaults, moved, part-is token after ledger, away-none token, total-none (λ (a : Address). 0) (addresses after.traders) (λ k d lt. refl))

@@ -1,6 +1,6 @@
 -- What is held for owners, one order or event more.
-use Rattle.std.proofs.Common.{ℕ, ◌+◌, ◌^◌, ◌≡◌, ◌<◌, ◌≤◌, ⊎_elim, Bool, true, false, List, [], ◌∷◌, Some, length, get_or, take, if◌then◌else◌, refl, sym, ap, ◌∙◌, arith}
-use Rattle.std.proofs.lemmas.Bool.{cases_Bool, cond-true, cond-false}
+use Rattle.std.proofs.Common.{ℕ, ◌+◌, ◌^◌, ◌≡◌, ◌<◌, ◌≤◌, Bool, true, false, List, [], ◌∷◌, Option, Some, None, length, get_or, take, if◌then◌else◌, refl, sym, ap, ◌∙◌, arith}
+use Rattle.std.proofs.lemmas.Bool.{cond_both}
 use Rattle.dex_types.specs.declared.addresses.Address.{Address}
 use Rattle.dex_types.specs.declared.orders.Order.{Order}
 use Rattle.dex_types.specs.declared.terms.Lots.{Lots}
@@ -11,13 +11,14 @@ use Rattle.dex_types.specs.Market.{Market, orders}
 use Rattle.dex_types.specs.Owed.{is_event_of, is_order_of, order_lock, owed}
 use Rattle.dex_types.specs.QueuedEvent.{QueuedEvent}
 use Rattle.dex_types.specs.Side.{Token, Coin, Pc}
-use Rattle.dex_types.specs.Solvency.{all_free, own_locked}
+use Rattle.dex_types.specs.Solvency.{all_free, free_of, own_locked}
 use Rattle.dex_types.specs.Soundness.{IsSound}
 use Rattle.dex_types.specs.Tokens.{locking_side}
 use Rattle.dex_types.specs.Totals.{total, weighed_where}
-use Rattle.dex_types.specs.Trader.{Traders, trader_at}
+use Rattle.dex_types.specs.Trader.{Trader, Traders, trader_at}
 use Rattle.dex_audit_rules.specs.Books.{PlainGathered}
 use Rattle.dex_eager.specs.Worth.{free_in, held_for, own_owed}
+use Rattle.dex_eager.proofs.FundSteps.{found-part}
 use Rattle.dex_totals.specs.Sums.{capped}
 use Rattle.dex_totals.proofs.SumLaws.{total-more}
 use Rattle.dex_worth.specs.declared.amounts.TokenAmounts.{TokenAmounts}
@@ -39,16 +40,10 @@ both-more before coin pc more most false =
 
 side-more : (side : Side) (before : TokenAmounts) (amount more : ℕ) (b : Bool) → both (both before (on_side side amount)) (if b then on_side side more else none)
     ≡ both before (on_side side (amount + (if b then more else 0)))
-side-more Bid before amount more b = both-more before 0 amount 0 more b ∙ same-pair (before.coin + (0 + (if b then 0 else 0))) (before.pc + (amount + (if b then more else 0))) (before.coin + 0) (before.pc + (amount + (if b then more else 0))) (ap (λ (n : ℕ). before.coin + (0 + n)) (nothing b)) refl
-  where
-    nothing : (b : Bool) → (let zero : ℕ = 0 in if b then zero else zero) ≡ 0
-    nothing true = refl
-    nothing false = refl
-side-more Ask before amount more b = both-more before amount 0 more 0 b ∙ same-pair (before.coin + (amount + (if b then more else 0))) (before.pc + (0 + (if b then 0 else 0))) (before.coin + (amount + (if b then more else 0))) (before.pc + 0) refl (ap (λ (n : ℕ). before.pc + (0 + n)) (nothing b))
-  where
-    nothing : (b : Bool) → (let zero : ℕ = 0 in if b then zero else zero) ≡ 0
-    nothing true = refl
-    nothing false = refl
+side-more Bid before amount more true = same-pair (before.coin + 0 + 0) (before.pc + amount + more) (before.coin + 0) (before.pc + (amount + more)) (omega arith) (omega arith)
+side-more Bid before amount more false = same-pair (before.coin + 0 + 0) (before.pc + amount + 0) (before.coin + 0) (before.pc + (amount + 0)) (omega arith) (omega arith)
+side-more Ask before amount more true = same-pair (before.coin + amount + more) (before.pc + 0 + 0) (before.coin + (amount + more)) (before.pc + 0) (omega arith) (omega arith)
+side-more Ask before amount more false = same-pair (before.coin + amount + 0) (before.pc + 0 + 0) (before.coin + (amount + 0)) (before.pc + 0) (omega arith) (omega arith)
 
 -- an order more
 pub locks-more : (side : Side) (sizes : Lots) (orders : List Order) (place : ℕ) (order : Order) (before : Address → TokenAmounts) (owners : List Address) (more : TokenAmounts) (sums after : List TokenAmounts)
@@ -75,16 +70,14 @@ owed-more events place event before owners more sums after lt here told are is =
     (λ of. both (before of) (owed_of (take (place + 1) events) of)) owners after
     (λ of. both-more (before of) (total (weighed_where (is_event_of of) (owed Coin)) (take place events)) (total (weighed_where (is_event_of of) (owed Pc)) (take place events))
     (owed Coin event) (owed Pc event) (is_same of event.owner)
-    ∙ ap (both (before of)) (same-pair
-    (total (weighed_where (is_event_of of) (owed Coin)) (take place events) + weighed_where (is_event_of of) (owed Coin) event)
-    (total (weighed_where (is_event_of of) (owed Pc)) (take place events) + weighed_where (is_event_of of) (owed Pc) event)
-    (total (weighed_where (is_event_of of) (owed Coin)) (take (place + 1) events))
-    (total (weighed_where (is_event_of of) (owed Pc)) (take (place + 1) events))
-    (ap (λ (e : QueuedEvent). total (weighed_where (is_event_of of) (owed Coin)) (take place events) + weighed_where (is_event_of of) (owed Coin) e) (sym here)
-    ∙ sym (total-more (weighed_where (is_event_of of) (owed Coin)) events place event lt))
-    (ap (λ (e : QueuedEvent). total (weighed_where (is_event_of of) (owed Pc)) (take place events) + weighed_where (is_event_of of) (owed Pc) e) (sym here)
-    ∙ sym (total-more (weighed_where (is_event_of of) (owed Pc)) events place event lt))))
+    ∙ (λ i. both (before of) (pair (one-more Coin of i) (one-more Pc of i))))
     (sums-added (λ of. both (before of) (owed_of (take place events) of)) event.owner (owed_amounts event) more owners sums after (ap capped_amounts told) are is)
+  where
+    one-more : (token : Token) (of : Address) → total (weighed_where (is_event_of of) (owed token)) (take place events) + weighed_where (is_event_of of) (owed token) event
+        ≡ total (weighed_where (is_event_of of) (owed token)) (take (place + 1) events)
+    one-more token of =
+        ap (λ (e : QueuedEvent). total (weighed_where (is_event_of of) (owed token)) (take place events) + weighed_where (is_event_of of) (owed token) e) (sym here)
+        ∙ sym (total-more (weighed_where (is_event_of of) (owed token)) events place event lt)
 
 -- ---- all that is held
 
@@ -99,20 +92,15 @@ held-are m traders sizes g t s b a e owner =
 -- in a sound market it is less than 2^64
 own-le : {X : Type 0} (test : X → Bool) (weight : X → ℕ) (xs : List X) → total (weighed_where test weight) xs ≤ total weight xs
 own-le test weight [] = omega arith
-own-le test weight (x ∷ xs) = omega (arith, own-le test weight xs, where-le (test x) (weight x))
-  where
-    where-le : (b : Bool) (n : ℕ) → (if b then n else 0) ≤ n
-    where-le true n = omega arith
-    where-le false n = omega arith
+own-le test weight (x ∷ xs) =
+    omega (arith, own-le test weight xs, cond_both (test x) (weight x) 0 (λ part. part ≤ weight x) (λ is. omega arith) (λ is. omega arith))
 
 free-le : (token : Token) (owner : Address) (traders : Traders) → free_in token (trader_at owner traders) ≤ all_free token traders
-free-le token owner [] = omega arith
-free-le token owner (entry ∷ others) =
-    ⊎_elim
-    (λ (same : is_same owner entry.0 ≡ true). omega (arith, ap (free_in token) (cond-true (is_same owner entry.0) (Some entry.1) (trader_at owner others) same)))
-    (λ (apart : is_same owner entry.0 ≡ false).
-    omega (arith, ap (free_in token) (cond-false (is_same owner entry.0) (Some entry.1) (trader_at owner others) apart), free-le token owner others))
-    (cases_Bool (is_same owner entry.0))
+free-le token owner traders = by (trader_at owner traders) refl
+  where
+    by : (found : Option Trader) → trader_at owner traders ≡ found → free_in token found ≤ all_free token traders
+    by None is = omega arith
+    by (Some trader) is = found-part (free_of token) owner trader traders is
 
 pub held-small : (token : Token) (owner : Address) (m : Market) → IsSound m → held_for token owner m < 2 ^ 64
 held-small token owner m sound =

@@ -1,8 +1,7 @@
 -- The rows of one market.
-use Rattle.std.proofs.Common.{◌≡◌, List, Option, Some, [], map, sym, ap, ◌∙◌, subst, arith}
+use Rattle.std.proofs.Common.{◌≡◌, List, Option, Some, [], map, sym, ap, ◌∙◌}
 use Rattle.std.specs.List.{All}
 use Rattle.std.specs.Option.{unwrap_or}
-use Rattle.std.proofs.lemmas.List.{get_or-map, length-map}
 use Rattle.std.proofs.lemmas.Simd.{map-map}
 use Rattle.dex_types.specs.declared.account_bytes.MarketAccounts.{MarketAccounts}
 use Rattle.dex_types.specs.declared.account_bytes.OrdersAccount.{OrdersAccount}
@@ -15,6 +14,7 @@ use Rattle.dex_history.specs.Journal.{Call}
 use Rattle.dex_orders.specs.StandsFor.{entry_of, traders_of}
 use Rattle.dex_state.specs.Outcomes.{PlainMarketJournal}
 use Rattle.dex_script_types.specs.PlainScript.{PlainScript}
+use Rattle.dex_replay.proofs.MappedLists.{All-unmap}
 use Rattle.dex_replay.specs.EntryCalls.{calls_told}
 use Rattle.dex_replay.specs.WorthTold.{PlainWorthRow, rows_told}
 use Rattle.dex_worth.specs.Entries.{all_in, all_out}
@@ -48,5 +48,4 @@ market-shown script last journal calls told =
 
 -- accounts that are accepted, one by one
 pub accepted-at : (markets : List MarketAccounts) → All IsAccepted (map market_accounts_of markets) → All (λ (market : MarketAccounts). IsAccepted (market_accounts_of market)) markets
-accepted-at markets all k d lt =
-    subst IsAccepted (get_or-map market_accounts_of markets k d (market_accounts_of d) lt) (all k (market_accounts_of d) (omega (arith, lt, length-map markets market_accounts_of)))
+accepted-at markets = All-unmap IsAccepted market_accounts_of markets

@@ -1,7 +1,7 @@
 -- What an entry moved for accounts, by its row.
-use Rattle.std.proofs.Common.{ℕ, ◌≡◌, Bool, true, false, List, [], ◌∷◌, Option, Some, None, is_some, if◌then◌else◌, refl, sym, ap, ◌∙◌, subst, ⊎_elim}
-use Rattle.std.specs.Option.{option_map, unwrap_or}
-use Rattle.std.proofs.lemmas.Bool.{cases_Bool, cond-true, cond-false, false≢true}
+use Rattle.std.proofs.Common.{ℕ, ◌≡◌, Bool, true, false, List, [], ◌∷◌, Option, Some, None, if◌then◌else◌, refl, sym, ap, ◌∙◌, subst}
+use Rattle.std.specs.Option.{option_map}
+use Rattle.std.proofs.lemmas.Option.{none-some, same_Some}
 use Rattle.dex_types.specs.declared.addresses.Address.{Address}
 use Rattle.dex_types.specs.declared.movements.Entry.{Entry}
 use Rattle.dex_types.specs.declared.terms.Side.{Side}
@@ -25,35 +25,28 @@ use Rattle.dex_worth.proofs.Sums.{pair}
 
 first-told : {X Y : Type 0} (test : X → Bool) (told : X → Y) (xs : List X) → first_of test told xs ≡ option_map told (first_of test (λ (x : X). x) xs)
 first-told test told [] = refl
-first-told {X} test told (x ∷ xs) =
-    ⊎_elim
-    (λ (passes : test x ≡ true).
-    cond-true (test x) (Some (told x)) (first_of test told xs) passes
-    ∙ ap (option_map told) (sym (cond-true (test x) (Some x) (first_of test (λ (y : X). y) xs) passes)))
-    (λ (fails : test x ≡ false).
-    cond-false (test x) (Some (told x)) (first_of test told xs) fails
-    ∙ first-told test told xs
-    ∙ ap (option_map told) (sym (cond-false (test x) (Some x) (first_of test (λ (y : X). y) xs) fails)))
-    (cases_Bool (test x))
+first-told {X} test told (x ∷ xs) = by (test x) (first-told test told xs)
+  where
+    by : (passes : Bool) → first_of test told xs ≡ option_map told (first_of test (λ (y : X). y) xs)
+        → (if passes then Some (told x) else first_of test told xs) ≡ option_map told (if passes then Some x else first_of test (λ (y : X). y) xs)
+    by true later = refl
+    by false later = later
+
+found-told : (script : PlainScript) (market : Address) (entry : Entry) (call : Call) (rows : List PlainRow) → rows ≡ script.rows → call_told script market entry ≡ Some call
+    → option_map (call_by script entry) (first_of (is_row_on market entry.row) (λ (one : PlainRow). one) rows) ≡ Some call
+found-told script market entry call rows are told =
+    ap (λ (some : List PlainRow). option_map (call_by script entry) (first_of (is_row_on market entry.row) (λ (one : PlainRow). one) some)) are
+    ∙ sym (first-told (is_row_on market entry.row) (call_by script entry) script.rows) ∙ told
 
 pub call-is : (script : PlainScript) (market : Address) (entry : Entry) (call : Call) (rows : List PlainRow) (row : PlainRow) → rows ≡ script.rows
     → call_told script market entry ≡ Some call → first_of (is_row_on market entry.row) (λ (one : PlainRow). one) rows ≡ Some row → call ≡ call_by script entry row
 call-is script market entry call rows row are told found =
-    let test : PlainRow → Bool = is_row_on market entry.row in
-    ap (λ (o : Option Call). unwrap_or o call)
-    (sym told ∙ first-told test (call_by script entry) script.rows
-    ∙ ap (λ (some : List PlainRow). option_map (call_by script entry) (first_of test (λ (one : PlainRow). one) some)) (sym are)
-    ∙ ap (option_map (call_by script entry)) found)
+    sym (same_Some (call_by script entry row) call (ap (option_map (call_by script entry)) (sym found) ∙ found-told script market entry call rows are told))
 
 pub no-call : (script : PlainScript) (market : Address) (entry : Entry) (call : Call) (rows : List PlainRow) → rows ≡ script.rows
     → call_told script market entry ≡ Some call → first_of (is_row_on market entry.row) (λ (one : PlainRow). one) rows ≡ None → ⊥
 no-call script market entry call rows are told missed =
-    let test : PlainRow → Bool = is_row_on market entry.row in
-    false≢true
-    (ap is_some
-    (sym (ap (option_map (call_by script entry)) missed)
-    ∙ ap (λ (some : List PlainRow). option_map (call_by script entry) (first_of test (λ (one : PlainRow). one) some)) are
-    ∙ sym (first-told test (call_by script entry) script.rows) ∙ told))
+    none-some call (ap (option_map (call_by script entry)) (sym missed) ∙ found-told script market entry call rows are told)
 
 -- ---- amounts of the account that a row names first
 

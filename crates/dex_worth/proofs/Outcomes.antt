@@ -4,10 +4,11 @@ use Rattle.std.specs.List.{All}
 use Rattle.std.specs.Option.{unwrap_or}
 use Rattle.std.proofs.lemmas.List.{append-nil, append_assoc, length-map}
 use Rattle.std.proofs.lemmas.List.Elements.{All-head, All-tail}
+use Rattle.std.proofs.lemmas.Simd.{map-map}
 use Rattle.dex_types.specs.declared.addresses.Address.{Address}
 use Rattle.dex_types.specs.Accounts.{PlainMarketAccounts}
 use Rattle.dex_types.specs.Market.{Market}
-use Rattle.dex_types.specs.Trader.{Trader, Traders}
+use Rattle.dex_types.specs.Trader.{Traders}
 use Rattle.dex_accounts.specs.Decoded.{AreSound, market_in}
 use Rattle.dex_cell.specs.CellState.{AreOfOneMarket}
 use Rattle.dex_history.specs.Journal.{Call, market_after}
@@ -22,7 +23,7 @@ use Rattle.dex_script_types.specs.Facts.{IsScript}
 use Rattle.dex_replay.proofs.MappedLists.{zip-map}
 use Rattle.dex_replay.specs.EntryCalls.{TellsHistory, calls_told}
 use Rattle.dex_replay.specs.Replays.{IsOfStart}
-use Rattle.dex_replay.specs.WorthTold.{PlainWorthRow, calls_of, row_told, rows_told, table_told, tables_told, worth_told, worths_told}
+use Rattle.dex_replay.specs.WorthTold.{PlainWorthRow, calls_of, row_told, rows_told, table_told, tables_told, worths_told}
 use Rattle.dex_worth.specs.declared.ledger.Ledger.{Ledger}
 use Rattle.dex_worth.specs.Ledgers.{AreBlank, AreLedgersOf, AreTaken, owners_in}
 use Rattle.dex_worth.specs.Tables.{IsTold, PaysAtOnce, deals_told, worth_in_row}
@@ -34,32 +35,19 @@ use Rattle.dex_worth.proofs.Tables.{worths-told}
 three-both : {A B C : Type 0} (R S : A → B → C → Type 0) (P : A → Type 0) (f : A → Address) (g : C → Address) → ((x : A) (y : B) (z : C) → R x y z → P x → f x ≡ g z → S x y z)
     → (xs : List A) (ys : List B) (zs : List C) → AllThree R xs ys zs → All P xs → map g zs ≡ map f xs → AllThree S xs ys zs
 three-both R S P f g gives [] [] [] three all same = tt
-three-both R S P f g gives [] [] (z ∷ zs) three all same = absurd three
-three-both R S P f g gives [] (y ∷ ys) zs three all same = absurd three
-three-both R S P f g gives (x ∷ xs) [] zs three all same = absurd three
-three-both R S P f g gives (x ∷ xs) (y ∷ ys) [] three all same = absurd three
 three-both R S P f g gives (x ∷ xs) (y ∷ ys) (z ∷ zs) three all same = (
   gives x y z three.0 (All-head P x xs all) (ap (λ (some : List Address). get_or some 0 (f x)) (sym same)),
   three-both R S P f g gives xs ys zs three.1 (All-tail P x xs all) (ap (drop 1) same),
 )
-
-three-weaker : {A B C : Type 0} (R S : A → B → C → Type 0) → ((x : A) (y : B) (z : C) → R x y z → S x y z) → (xs : List A) (ys : List B) (zs : List C) → AllThree R xs ys zs → AllThree S xs ys zs
-three-weaker R S gives [] [] [] three = tt
-three-weaker R S gives [] [] (z ∷ zs) three = absurd three
-three-weaker R S gives [] (y ∷ ys) zs three = absurd three
-three-weaker R S gives (x ∷ xs) [] zs three = absurd three
-three-weaker R S gives (x ∷ xs) (y ∷ ys) [] three = absurd three
-three-weaker R S gives (x ∷ xs) (y ∷ ys) (z ∷ zs) three = (gives x y z three.0, three-weaker R S gives xs ys zs three.1)
+three-both R S P f g gives xs ys zs three all same = absurd three
 
 -- what holds of the elements at a place
 pub three-at : {A B C : Type 0} (R : A → B → C → Type 0) (xs : List A) (ys : List B) (zs : List C) → AllThree R xs ys zs → (k : ℕ) (x : A) (y : B) (z : C) → k < length ys
     → R (get_or xs k x) (get_or ys k y) (get_or zs k z)
 three-at R [] [] zs three k x y z lt = absurd (omega arith)
-three-at R [] (b ∷ ys) zs three k x y z lt = absurd three
-three-at R (a ∷ xs) [] zs three k x y z lt = absurd three
-three-at R (a ∷ xs) (b ∷ ys) [] three k x y z lt = absurd three
 three-at R (a ∷ xs) (b ∷ ys) (c ∷ zs) three zero x y z lt = three.0
 three-at R (a ∷ xs) (b ∷ ys) (c ∷ zs) three (suc k) x y z lt = three-at R xs ys zs three.1 k x y z (omega arith)
+three-at R xs ys zs three k x y z lt = absurd three
 
 -- ---- a market
 
@@ -76,13 +64,9 @@ module _ (script : PlainScript) (first last : PlainMarketAccounts) (journal : Pl
   pub calls-are : calls_of script journal ≡ calls
   calls-are = ap (λ (o : Option (List Call)). unwrap_or o []) calls-told
 
-  rows-worths : (traders : Traders) → map worth_in_row (map (row_told script last journal) traders) ≡ map (λ (entry : Address × Trader). (entry.0, worth_told entry.0 last (calls_of script journal))) traders
-  rows-worths [] = refl
-  rows-worths (entry ∷ others) = rw (rows-worths others) refl
-
   pub worths-are : map worth_in_row (rows_told script last journal) ≡ (eager_end m calls).worths
   worths-are =
-      rows-worths (market_in last).traders
+      map-map worth_in_row (row_told script last journal) (market_in last).traders
       ∙ ap (λ (some : List Call). worths_told last some) calls-are
       ∙ sym (worths-told m calls last told.sound told.tells.legal told.tells.stands)
 
@@ -117,7 +101,9 @@ pub all-pay : (script : PlainScript) → IsScript script → (outcome : PlainOut
     → AllThree (TellsHistory script) script.start.markets outcome.accounts.markets outcome.markets
     → AllThree (PaysAtOnce script) script.start.markets outcome.accounts.markets outcome.markets
 all-pay script is outcome lawful tells =
-    three-weaker (IsTold script) (PaysAtOnce script) (pays script) script.start.markets outcome.accounts.markets outcome.markets (all-told-here script is outcome lawful tells)
+    three-both (TellsHistory script) (PaysAtOnce script) AreSound (λ (accounts : PlainMarketAccounts). accounts.address) (λ (journal : PlainMarketJournal). journal.address)
+    (λ first last journal tell sound same. pays script first last journal (record { tells = tell; sound = sound.sound; address = same }))
+    script.start.markets outcome.accounts.markets outcome.markets tells is.start.sound lawful.start.market_journals
 
 -- each journal is that of a market
 pub same-markets : (script : PlainScript) (outcome : PlainOutcome) → IsOfStart script outcome
@@ -185,18 +171,13 @@ one-tables : (script other : PlainScript) (firsts lasts : List PlainMarketAccoun
     → AllThree (IsTold script) firsts lasts journals → AllThree (IsTold other) firsts lates seconds → deals_told script journals ≡ deals_told other seconds
     → tables_told script lasts journals ≡ tables_told other lates seconds
 one-tables script other [] [] [] [] [] one two same = refl
-one-tables script other [] [] [] [] (z ∷ seconds) one two same = absurd two
-one-tables script other [] [] [] (y ∷ lates) seconds one two same = absurd two
-one-tables script other [] [] (z ∷ journals) lates seconds one two same = absurd one
-one-tables script other [] (y ∷ lasts) journals lates seconds one two same = absurd one
-one-tables script other (x ∷ firsts) [] journals lates seconds one two same = absurd one
-one-tables script other (x ∷ firsts) (y ∷ lasts) [] lates seconds one two same = absurd one
-one-tables script other (x ∷ firsts) (y ∷ lasts) (z ∷ journals) [] seconds one two same = absurd two
-one-tables script other (x ∷ firsts) (y ∷ lasts) (z ∷ journals) (late ∷ lates) [] one two same = absurd two
+one-tables script other [] [] [] lates seconds one two same = absurd two
 one-tables script other (x ∷ firsts) (y ∷ lasts) (z ∷ journals) (late ∷ lates) (second ∷ seconds) one two same =
     ap (λ (rows : List PlainWorthRow). rows ++ tables_told script lasts journals)
     (one-market script other x y late z second one.0 two.0 (ap (λ (some : List (List Deal)). get_or some 0 []) same))
     ∙ ap (λ (rows : List PlainWorthRow). rows_told other late second ++ rows) (one-tables script other firsts lasts journals lates seconds one.1 two.1 (ap (drop 1) same))
+one-tables script other (x ∷ firsts) (y ∷ lasts) (z ∷ journals) lates seconds one two same = absurd two
+one-tables script other firsts lasts journals lates seconds one two same = absurd one
 
 pub one-table : (script other : PlainScript) (outcome second : PlainOutcome) → IsScript script → IsScript other → IsLawful script outcome → IsLawful other second
     → AllThree (TellsHistory script) script.start.markets outcome.accounts.markets outcome.markets

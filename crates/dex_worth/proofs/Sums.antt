@@ -1,6 +1,5 @@
 -- Sums of owners: what more of one does.
-use Rattle.std.proofs.Common.{ℕ, ◌+◌, ◌≡◌, true, false, List, [], ◌∷◌, map, refl, sym, ap, ◌∙◌, arith, ⊎_elim}
-use Rattle.std.proofs.lemmas.Bool.{cases_Bool, cond-true, cond-false}
+use Rattle.std.proofs.Common.{ℕ, ◌+◌, ◌≡◌, Bool, true, false, if◌then◌else◌, List, [], ◌∷◌, map, refl, sym, ap, ◌∙◌, arith}
 use Rattle.dex_types.specs.declared.addresses.Address.{Address}
 use Rattle.dex_types.specs.Addresses.{is_same}
 use Rattle.dex_totals.specs.Sums.{capped}
@@ -26,17 +25,11 @@ capped-sum one amounts more told =
 -- one sum
 pub with-own : (owner of : Address) (exact amounts more : TokenAmounts) → capped_amounts more ≡ capped_amounts amounts
     → with_own owner more of (capped_amounts exact) ≡ capped_amounts (both exact (own of owner amounts))
-with-own owner of exact amounts more told =
-    ⊎_elim
-    (λ (same : is_same of owner ≡ true).
-    cond-true (is_same of owner) (capped_amounts (both (capped_amounts exact) more)) (capped_amounts exact) same
-    ∙ capped-sum exact amounts more told
-    ∙ ap (λ (more : TokenAmounts). capped_amounts (both exact more)) (sym (cond-true (is_same of owner) amounts none same)))
-    (λ (apart : is_same of owner ≡ false).
-    cond-false (is_same of owner) (capped_amounts (both (capped_amounts exact) more)) (capped_amounts exact) apart
-    ∙ sym (both-none exact)
-    ∙ ap (λ (more : TokenAmounts). capped_amounts (both exact more)) (sym (cond-false (is_same of owner) amounts none apart)))
-    (cases_Bool (is_same of owner))
+with-own owner of exact amounts more told = by (is_same of owner)
+  where
+    by : (same : Bool) → (if same then capped_amounts (both (capped_amounts exact) more) else capped_amounts exact) ≡ capped_amounts (both exact (if same then amounts else none))
+    by true = capped-sum exact amounts more told
+    by false = sym (both-none exact)
 
 -- all sums
 pub sums-added : (exact : Address → TokenAmounts) (owner : Address) (amounts more : TokenAmounts) (owners : List Address) (before after : List TokenAmounts)
@@ -52,8 +45,4 @@ sums-added exact owner amounts more owners before after told are is =
 
 -- sums of what is the same for each owner
 pub sums-agree : (exact other : Address → TokenAmounts) (owners : List Address) (sums : List TokenAmounts) → ((of : Address) → exact of ≡ other of) → AreSums exact owners sums → AreSums other owners sums
-sums-agree exact other owners sums agree are = are ∙ each owners
-  where
-    each : (some : List Address) → map (λ (of : Address). capped_amounts (exact of)) some ≡ map (λ (of : Address). capped_amounts (other of)) some
-    each [] = refl
-    each (of ∷ others) = rw (agree of) rw (each others) refl
+sums-agree exact other owners sums agree are = are ∙ λ i. map (λ (of : Address). capped_amounts (agree of i)) owners

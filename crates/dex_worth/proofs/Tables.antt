@@ -1,19 +1,19 @@
 -- What a journal tells of worth is what a market pays that pays at once.
-use Rattle.std.proofs.Common.{◌≡◌, List, [], ◌∷◌, map, sym, ap, ◌∙◌, refl, arith}
+use Rattle.std.proofs.Common.{◌≡◌, List, map, sym, ap, ◌∙◌, refl, arith}
 use Rattle.dex_types.specs.declared.addresses.Address.{Address}
 use Rattle.dex_types.specs.Accounts.{PlainMarketAccounts}
 use Rattle.dex_types.specs.Market.{Market}
 use Rattle.dex_types.specs.Side.{Token, Coin, Pc}
 use Rattle.dex_types.specs.Soundness.{IsSound}
 use Rattle.dex_types.specs.Totals.{total}
-use Rattle.dex_types.specs.Trader.{Trader, Traders}
+use Rattle.dex_types.specs.Trader.{Trader}
 use Rattle.dex_accounts.specs.Decoded.{market_in}
 use Rattle.dex_accounts.specs.StandsFor.{StandsFor}
 use Rattle.dex_accounts.proofs.Decoded.{told}
 use Rattle.dex_history.specs.Journal.{Call, IsLegal, market_after}
 use Rattle.dex_eager.specs.Eager.{Eager}
 use Rattle.dex_eager.specs.Histories.{eager_end, moves_of}
-use Rattle.dex_eager.specs.Worth.{Worth, no_moves, worth_in, worth_of}
+use Rattle.dex_eager.specs.Worth.{no_moves, worth_in, worth_of}
 use Rattle.dex_eager.proofs.DelayLaws.{history-market}
 use Rattle.dex_replay.specs.WorthTold.{told_of, worth_told, worths_told}
 use Rattle.dex_replay.specs.Told.{told_in, told_out}
@@ -33,15 +33,8 @@ module _ (m : Market) (calls : List Call) (last : PlainMarketAccounts) (sound : 
   each : (owner : Address) → worth_of owner (market_after m calls) (moves_of m calls) ≡ worth_told owner last calls
   each owner = rw (one Coin owner) rw (one Pc owner) refl
 
-  abbrev here : Address × Trader → Address × Worth
-  here entry = (entry.0, worth_of entry.0 (market_after m calls) (moves_of m calls))
-
-  abbrev there : Address × Trader → Address × Worth
-  there entry = (entry.0, worth_told entry.0 last calls)
-
-  all : (traders : Traders) → map here traders ≡ map there traders
-  all [] = refl
-  all (entry ∷ others) = rw (each entry.0) rw (all others) refl
-
   pub worths-told : (eager_end m calls).worths ≡ worths_told last calls
-  worths-told = ap (λ (e : Eager). e.worths) (history-market calls m no_moves sound legal) ∙ all (market_after m calls).traders ∙ ap (λ (at : Market). map there at.traders) (sym end-is)
+  worths-told =
+      ap (λ (e : Eager). e.worths) (history-market calls m no_moves sound legal)
+      ∙ (λ i. map (λ (entry : Address × Trader). (entry.0, each entry.0 i)) (market_after m calls).traders)
+      ∙ ap (λ (at : Market). map (λ (entry : Address × Trader). (entry.0, worth_told entry.0 last calls)) at.traders) (sym end-is)

@@ -4,7 +4,7 @@ use Rattle.std.proofs.lemmas.Bool.{and_parts, cond_both, false≢true}
 use Rattle.dex_types.specs.declared.addresses.Address.{Address}
 use Rattle.dex_types.specs.declared.instructions.BadData.{BadData}
 use Rattle.dex_types.specs.declared.instructions.Ix.{Ix}
-use Rattle.dex_types.specs.declared.instructions.Ix.TheVariants.{InitializeMarket, MatchOrders, ConsumeEvents, SettleFunds, DisableMarket, SweepFees, NewOrderV3, CancelOrderV2, CancelOrderByClientIdV2, SendTake, CloseOpenOrders, InitOpenOrders, Prune, CancelOrdersByClientIds}
+use Rattle.dex_types.specs.declared.instructions.Ix.TheVariants.{SettleFunds, NewOrderV3, CancelOrderV2, CancelOrderByClientIdV2, SendTake, CloseOpenOrders, InitOpenOrders, Prune, CancelOrdersByClientIds}
 use Rattle.dex_types.specs.declared.movements.Entry.{Entry}
 use Rattle.dex_types.specs.declared.refusals.Refusal.{Refusal}
 use Rattle.dex_types.specs.declared.rows.Seen.{Seen}
@@ -32,17 +32,16 @@ abbrev Tells : Option Side → Step → Type 0
 Tells side s = (token : Token) → deposit_in token s.reply s.transfers
     ≡ by_token token (entering side (s.transfers.coin_in + s.transfers.pc_in)).coin_in (entering side (s.transfers.coin_in + s.transfers.pc_in)).pc_in
 
+nothing : (token : Token) → let none : ℕ = 0 in none ≡ by_token token none none
+nothing Coin = refl
+nothing Pc = refl
+
 no-deposit : (side : Option Side) (token : Token) → 0 ≡ by_token token (entering side 0).coin_in (entering side 0).pc_in
-no-deposit None Coin = refl
-no-deposit None Pc = refl
+no-deposit None token = nothing token
 no-deposit (Some Bid) Coin = refl
 no-deposit (Some Bid) Pc = refl
 no-deposit (Some Ask) Coin = refl
 no-deposit (Some Ask) Pc = refl
-
-nothing : (token : Token) → let none : ℕ = 0 in none ≡ by_token token none none
-nothing Coin = refl
-nothing Pc = refl
 
 party-tells : (side : Option Side) (does : Party → Step) (m : Market) (party : Option Party) → ((p : Party) → Tells side (does p)) → Tells side (by_party does m party)
 party-tells side does m None tells = no-deposit side
@@ -64,23 +63,18 @@ ordered-tells : (side : Side) (n : NewOrder) (m : Market) (party : Party) (order
 ordered-tells side n m party ordering token = entered side token ordering.deposit
 
 acts : (ix : Ix) (request : Request) (seen : Seen) (m : Market) → Tells (side_of (Ok ix)) (act ix request seen m)
-acts (InitializeMarket coin_lot pc_lot fee_rate_bps nonce dust) request seen m = nothing
-acts (MatchOrders limit) request seen m = nothing
-acts (ConsumeEvents limit) request seen m = nothing
 acts SettleFunds request seen m = party-tells None _ m (party_of request.named m.traders) (λ party. nothing)
-acts DisableMarket request seen m = nothing
-acts SweepFees request seen m = nothing
 acts (NewOrderV3 side price lots max_pc self_trade order_type client limit latest) request seen m =
     party-tells (Some side) (act_order side (terms_order request seen price lots max_pc self_trade order_type client limit latest) m) m (party_of request.named m.traders)
     (λ party. let n : NewOrder = terms_order request seen price lots max_pc self_trade order_type client limit latest party.address in
     ordered-tells side n m party (order_on side m party.account n))
 acts (CancelOrderV2 side id) request seen m = party-tells None _ m (party_of request.named m.traders) (λ party. nothing)
 acts (CancelOrderByClientIdV2 client) request seen m = party-tells None _ m (party_of request.named m.traders) (λ party. nothing)
-acts (SendTake side price lots max_pc min_lots min_pc limit) request seen m = nothing
 acts CloseOpenOrders request seen m = party-tells None _ m (party_of request.named m.traders) (λ party. nothing)
 acts InitOpenOrders request seen m = init-tells request.named request.signer m
 acts (Prune limit) request seen m = party-tells None _ m (party_of request.named m.traders) (λ party. nothing)
 acts (CancelOrdersByClientIds ids) request seen m = party-tells None _ m (party_of request.named m.traders) (λ party. nothing)
+acts ix request seen m = nothing
 
 decoded-tells : (decodes : Result Ix BadData) (request : Request) (seen : Seen) (m : Market) → Tells (side_of decodes) (act_decoded decodes request seen m)
 decoded-tells (Err rule) request seen m = nothing

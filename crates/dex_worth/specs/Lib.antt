@@ -4,5 +4,4 @@ pub mod Entries
 pub mod Ledgers
 pub mod Holdings
 pub mod Rows
-pub mod HeldText
 pub mod Flows

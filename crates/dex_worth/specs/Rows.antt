@@ -1,7 +1,8 @@
 -- Rows of a table of worth.
-use Rattle.std.specs.Prelude.{pos, ◌+ℤ◌, ◌-ℤ◌}
+use Rattle.std.specs.Prelude.{ℕ, pos, ◌+ℤ◌, ◌-ℤ◌, List}
 use Rattle.dex_types.specs.declared.addresses.Address.{Address}
 use Rattle.dex_eager.specs.Worth.{Worth}
+use Rattle.dex_replay.specs.WorthText.{trader_line}
 use Rattle.dex_replay.specs.WorthTold.{PlainWorthRow}
 use Rattle.dex_worth.specs.declared.amounts.TokenAmounts.{TokenAmounts}
 use Rattle.dex_worth.specs.declared.table.Worth as declared
@@ -14,6 +15,10 @@ plain_worth worth = record { coin = worth.coin; pc = worth.pc }
 -- a row, as it is told
 abbrev pub plain_row : WorthRow → PlainWorthRow
 plain_row row = record { market = row.market; account = row.account; worth = plain_worth row.worth }
+
+-- its line in the text of a table
+abbrev pub line_of : WorthRow → List ℕ
+line_of row = trader_line (plain_row row)
 
 -- what is held, less what was deposited, plus what was settled
 abbrev pub worth_by : TokenAmounts → TokenAmounts → TokenAmounts → Worth

@@ -53,21 +53,11 @@ fn with_own(sum: TokenAmounts, of: Address, owner: Address, more: TokenAmounts) 
 }
 
 /// Adds to the sum of an owner, wherever it stands among these.
-fn add_each(sums: &mut [TokenAmounts], owners: &[Address], owner: Address, more: TokenAmounts)
+pub fn add(sums: &mut [TokenAmounts], owners: &[Address], owner: Address, more: TokenAmounts)
     requires { length sums.old ≡ length owners.now }
-    ensures long { length sums.new ≡ length owners.now }
-    ensures added { sums.new ≡ tally.added owner more owners.now sums.old }
+    ensures { sums.new ≡ tally.added owner more owners.now sums.old }
 {
     for place in 0..owners.len() {
         sums[place] = with_own(sums[place], owners[place], owner, more);
     }
-}
-
-/// Adds to the sum of an owner, wherever it stands among these.
-pub fn add(sums: &mut Vec<TokenAmounts>, owners: &[Address], owner: Address, more: TokenAmounts)
-    requires { length sums.old.items ≡ length owners.now }
-    ensures long { length sums.new.items ≡ length owners.now }
-    ensures added { sums.new.items ≡ tally.added owner more owners.now sums.old.items }
-{
-    add_each(sums, owners, owner, more);
 }

@@ -11,7 +11,6 @@ ghost use Rattle.dex_instruction.specs.Reading.{decoded};
 ghost use Rattle.dex_replay.specs.EntryCalls.{call_told};
 ghost use Rattle.dex_script_types.specs.PlainScript.{PlainScript};
 ghost use Rattle.dex_worth.specs.Amounts as tally;
-ghost use Rattle.dex_replay.specs.Debits.{debits_in};
 ghost use Rattle.dex_worth.specs.Entries as told;
 ghost use Rattle.dex_replay.specs.Told as book;
 
@@ -44,13 +43,6 @@ fn debits_of(moves: &[Option<Movement>]) -> u128
         }
     }
     sum
-}
-
-/// All that an entry's movements take from wallets.
-fn debits_in(entry: &Entry) -> u128
-    ensures { result ≡ debits_in entry.now }
-{
-    debits_of(&entry.moves)
 }
 
 /// The side of a row's new order, where it is one.
@@ -123,7 +115,7 @@ pub(crate) fn moved_by(rows: &[Row], market: Address, entry: &Entry) -> Option<M
     ensures { (script : PlainScript) (call : Call) → map row_of rows.now ≡ script.rows
         → call_told script market entry.now ≡ Some call → told.AreMoved call result }
 {
-    let debits = debits_in(entry);
+    let debits = debits_of(&entry.moves);
     let settled = settled_by(entry.reply);
     if is_nothing(debits, settled) {
         return None;

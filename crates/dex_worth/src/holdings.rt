@@ -1,15 +1,12 @@
 //! What a market's last accounts hold for each account.
 
-ghost use Rattle.std.specs.Prelude.{◌≡◌, ℕ, [], ◌∷◌, ◌++◌, ◌^◌, ◌≤◌, length, map, OnOk, IfOk};
+ghost use Rattle.std.specs.Prelude.{◌≡◌, length, map, IfOk};
 ghost use Rattle.dex_types.specs.declared.addresses.Address.{Address as AddressOf};
 ghost use Rattle.dex_types.specs.Accounts.{market_accounts_of};
-ghost use Rattle.dex_types.specs.Owed.{owed};
 ghost use Rattle.dex_types.specs.QueuedEvent.{decoded_event};
-ghost use Rattle.dex_types.specs.Side.{Coin, Pc};
-ghost use Rattle.dex_types.specs.Trader.{Open, trader_at};
+ghost use Rattle.dex_types.specs.Trader.{Open};
 ghost use Rattle.dex_accounts.specs.Accepted.{IsAccepted};
 ghost use Rattle.dex_accounts.specs.Decoded.{market_in};
-ghost use Rattle.dex_eager.specs.Worth.{free_in};
 ghost use Rattle.dex_audit_rules.specs.Books.{plain_gathered};
 ghost use Rattle.dex_market.specs.MarketAccount.{market_words, sizes_of};
 ghost use Rattle.dex_orders.specs.OrdersAccount.{IsOpen, IsOrders, account_of};
@@ -84,17 +81,15 @@ fn all_free(
 
 /// Adds what the orders of a side lock, each for its owner.
 fn add_locks(
-    held: &mut Vec<TokenAmounts>,
+    held: &mut [TokenAmounts],
     owners: &[Address],
     orders: &[Order],
     side: Side,
     sizes: Lots,
 )
-    requires { length held.old.items ≡ length owners.now }
-    ensures long { length held.new.items ≡ length owners.now }
-    ensures locks { (before : AddressOf → AmountsOf) → tally.AreSums before owners.now held.old.items
-        → tally.AreSums (λ of. tally.both (before of) (holds.locks_of side sizes orders.now of)) owners.now
-        held.new.items }
+    requires { length held.old ≡ length owners.now }
+    ensures { (before : AddressOf → AmountsOf) → tally.AreSums before owners.now held.old
+        → tally.AreSums (λ of. tally.both (before of) (holds.locks_of side sizes orders.now of)) owners.now held.new }
 {
     for place in 0..orders.len() {
         let lock = lock_of(side, sizes, &orders[place]);
@@ -119,12 +114,11 @@ fn owed_by(event: &Event) -> TokenAmounts
 }
 
 /// Adds what pending events owe, each to its owner.
-fn add_owed(held: &mut Vec<TokenAmounts>, owners: &[Address], events: &[Event])
-    requires { length held.old.items ≡ length owners.now }
-    ensures long { length held.new.items ≡ length owners.now }
-    ensures owed { (before : AddressOf → AmountsOf) → tally.AreSums before owners.now held.old.items
+fn add_owed(held: &mut [TokenAmounts], owners: &[Address], events: &[Event])
+    requires { length held.old ≡ length owners.now }
+    ensures { (before : AddressOf → AmountsOf) → tally.AreSums before owners.now held.old
         → tally.AreSums (λ of. tally.both (before of) (holds.owed_of (map decoded_event events.now) of)) owners.now
-        held.new.items }
+        held.new }
 {
     for place in 0..events.len() {
         let owed = owed_by(&events[place]);
@@ -133,10 +127,10 @@ fn add_owed(held: &mut Vec<TokenAmounts>, owners: &[Address], events: &[Event])
 }
 
 /// Adds what resting orders lock and what pending events owe.
-fn add_gathered(held: &mut Vec<TokenAmounts>, owners: &[Address], gathered: &Gathered, sizes: Lots)
-    requires { length held.old.items ≡ length owners.now }
-    ensures { (before : AddressOf → AmountsOf) → tally.AreSums before owners.now held.old.items → tally.AreSums
-        (holds.with_gathered before sizes (plain_gathered gathered.now)) owners.now held.new.items }
+fn add_gathered(held: &mut [TokenAmounts], owners: &[Address], gathered: &Gathered, sizes: Lots)
+    requires { length held.old ≡ length owners.now }
+    ensures { (before : AddressOf → AmountsOf) → tally.AreSums before owners.now held.old → tally.AreSums
+        (holds.with_gathered before sizes (plain_gathered gathered.now)) owners.now held.new }
 {
     add_locks(held, owners, &gathered.bids, Side::Bid, sizes);
     add_locks(held, owners, &gathered.asks, Side::Ask, sizes);
@@ -151,10 +145,7 @@ fn sizes_of(market: &MarketAccounts) -> Lots
     let words = MarketRef {
         bytes: &market.market,
     };
-    Lots {
-        coin: words.coin_lot_size(),
-        pc: words.pc_lot_size(),
-    }
+    words.sizes()
 }
 
 /// What a market's last accounts hold for each of these owners: what is free, what resting orders lock, and what

@@ -1,7 +1,6 @@
 //! The worth of every account of every market.
 
-ghost use Rattle.std.specs.Prelude.{◌≡◌, ℕ, pos, ◌+ℤ◌, ◌-ℤ◌, ◌<◌, ◌≤◌, ◌^◌, ◌++◌, List, [], ◌∷◌, length, map};
-ghost use Rattle.std.specs.Prelude.{OnOk, IfOk};
+ghost use Rattle.std.specs.Prelude.{◌≡◌, ℕ, pos, ◌+ℤ◌, ◌-ℤ◌, ◌<◌, ◌≤◌, ◌^◌, ◌++◌, List, length, map, OnOk, IfOk};
 ghost use Rattle.std.specs.List.{All, AllPairs};
 ghost use Rattle.dex_types.specs.declared.account_bytes.MarketAccounts.{MarketAccounts as MarketAccountsOf};
 ghost use Rattle.dex_types.specs.declared.addresses.Address.{Address as AddressOf};
@@ -62,8 +61,8 @@ fn signed(amount: u128) -> Result<i128, NoMemory>
 
 /// What is held and what was settled, less what was deposited, exactly.
 fn difference(held: u128, deposited: u128, settled: u128) -> Result<i128, NoMemory>
-    ensures { IfOk result (λ worth. (h d s : ℕ) → held ≡ capped h → deposited ≡ capped d → settled ≡ capped s
-        → worth ≡ (pos h -ℤ pos d) +ℤ pos s) }
+    ensures { IfOk result (λ worth. (h d s : ℕ) → held ≡ capped h → deposited ≡ capped d
+        → settled ≡ capped s → worth ≡ (pos h -ℤ pos d) +ℤ pos s) }
 {
     let plus = signed(held.saturating_add(settled))?;
     let less = signed(deposited)?;
@@ -79,15 +78,6 @@ fn worth_of(held: TokenAmounts, moved: Moved) -> Result<Worth, NoMemory>
     let coin = difference(held.coin, moved.deposited.coin, moved.settled.coin)?;
     let pc = difference(held.pc, moved.deposited.pc, moved.settled.pc)?;
     Ok(Worth { coin, pc })
-}
-
-/// Puts a row after the others.
-fn push_row(table: &mut Vec<WorthRow>, row: WorthRow) -> Result<(), NoMemory>
-    ensures { OnOk result (map shown.plain_row table.new.items
-        ≡ map shown.plain_row table.old.items ++ shown.plain_row row ∷ []) }
-{
-    table.push(row)?;
-    Ok(())
 }
 
 /// Adds the rows of accounts of a market, by what is held and what was moved for each.
@@ -106,14 +96,11 @@ fn add_rows(
     for place in 0..accounts.len() {
         let worth = worth_of(held[place], accounts[place])?;
         let account = accounts[place].owner;
-        push_row(
-            table,
-            WorthRow {
-                market,
-                account,
-                worth,
-            },
-        )?;
+        table.push(WorthRow {
+            market,
+            account,
+            worth,
+        })?;
     }
     Ok(())
 }

@@ -4,8 +4,7 @@ ghost use Rattle.std.specs.Prelude.{◌≡◌, ◌++◌, Some, map, IfOk, OnOk};
 ghost use Rattle.std.specs.List.{flat_map};
 ghost use Rattle.std.specs.String.{string_bytes};
 ghost use Rattle.dex_replay.specs.WorthText as lines;
-ghost use Rattle.dex_worth.specs.HeldText as held;
-ghost use Rattle.dex_worth.specs.Rows.{plain_row};
+ghost use Rattle.dex_worth.specs.Rows.{line_of, plain_row};
 
 use crate::WorthRow;
 use std::alloc::{AllocError, Global};
@@ -32,7 +31,7 @@ impl fmt::Display for TraderLine {
 }
 
 fn write_traders(text: &mut String, table: &[WorthRow]) -> Result<(), AllocError>
-    ensures { OnOk result (string_bytes text.new ≡ string_bytes text.old ++ flat_map held.line_of table.now) }
+    ensures { OnOk result (string_bytes text.new ≡ string_bytes text.old ++ flat_map line_of table.now) }
 {
     'traders: for row in table {
         write!(text, "{}", TraderLine(*row))?;
@@ -42,7 +41,7 @@ fn write_traders(text: &mut String, table: &[WorthRow]) -> Result<(), AllocError
 
 /// The lines of a table of this many markets.
 fn lines_of(alloc: Global, markets: usize, table: &[WorthRow]) -> Result<String, AllocError>
-    ensures { IfOk result (λ text. string_bytes text ≡ held.lines_text markets table.now) }
+    ensures { IfOk result (λ text. string_bytes text ≡ lines.with_lines markets (flat_map line_of table.now)) }
 {
     let mut text = String::new(alloc);
     write!(text, "worth {markets}\n")?;

@@ -1,13 +1,13 @@
 use Rattle.std.proofs.Common.{ℕ, ◌≡◌, ◌<◌, List, [], ◌∷◌, ◌++◌, append_assoc, get_or, length, map, take, sym, ap, ◌∙◌, arith}
-use Rattle.std.proofs.lemmas.List.{get_or-map, length-map, take_all}
+use Rattle.std.proofs.lemmas.List.{get_or-map, length-map, map_more, map_push, take_all}
 use Rattle.dex_types.specs.declared.addresses.Address.{Address}
 use Rattle.dex_replay.specs.WorthTold.{PlainWorthRow}
 use Rattle.dex_worth.specs.declared.amounts.TokenAmounts.{TokenAmounts}
 use Rattle.dex_worth.specs.declared.entries.Moved.{Moved}
+use Rattle.dex_worth.specs.declared.table.WorthRow.{WorthRow}
 use Rattle.dex_worth.specs.Amounts.{capped_amounts, none}
 use Rattle.dex_worth.specs.Entries.{all_in, all_out, moved_told}
-use Rattle.dex_worth.specs.Rows.{plain_row, plain_worth, row_by}
-use Rattle.dex_worth.proofs.Lists.{map-more}
+use Rattle.dex_worth.specs.Rows.{plain_row, row_by}
 use Rattle.dex_worth.proofs.table.add_rows.Goals as goal
 
 pub loop-place-preserved : goal.loop-place-preserved
@@ -25,12 +25,13 @@ loop-place-preserved c = λ amounts owners calls held moved.
     ap (λ (all : List TokenAmounts). get_or all place none) held ∙ get_or-map (λ (of : Address). capped_amounts (amounts of)) owners place a none lt in
     let worth = c.in_ok-worth.ensures (amounts owner) (all_in calls owner) (all_out calls owner) held_here
     (ap (λ (one : Moved). one.deposited) here) (ap (λ (one : Moved). one.settled) here) in
-    let row : PlainWorthRow = record { market = c.args.market; account = (get_or c.args.accounts.now place nobody).owner; worth = plain_worth c.in_ok-worth.worth } in
-    c.in_ok-push_row.ensures
-    ∙ ap (λ (rows : List PlainWorthRow). rows ++ row ∷ []) (c.loop-place.invariant amounts owners calls held moved)
-    ∙ append_assoc before (map shown (take place owners)) (row ∷ [])
+    let row : WorthRow = record { market = c.args.market; account = (get_or c.args.accounts.now place nobody).owner; worth = c.in_ok-worth.worth } in
+    ap (map plain_row) c.in_ok-push.ensures.items
+    ∙ map_push plain_row c.loop-place.table.items row
+    ∙ ap (λ (rows : List PlainWorthRow). rows ++ plain_row row ∷ []) (c.loop-place.invariant amounts owners calls held moved)
+    ∙ append_assoc before (map shown (take place owners)) (plain_row row ∷ [])
     ∙ (λ i. before ++ (map shown (take place owners) ++ record { market = c.args.market; account = ap (λ (one : Moved). one.owner) here i; worth = worth i } ∷ []))
-    ∙ ap (λ (rows : List PlainWorthRow). before ++ rows) (sym (map-more shown owners place a lt))
+    ∙ ap (λ (rows : List PlainWorthRow). before ++ rows) (sym (map_more shown owners place a lt))
 
 pub returns : goal.returns
 returns c = λ amounts owners calls held moved.

@@ -2,9 +2,8 @@ use Rattle.std.proofs.Common.{ℕ, ◌≡◌, List, [], ◌∷◌, ◌++◌, map
 use Rattle.std.specs.List.{flat_map}
 use Rattle.std.proofs.lemmas.Result.{IfOk-weaker}
 use Rattle.dex_worth.specs.declared.table.WorthRow.{WorthRow}
-use Rattle.dex_worth.specs.Rows.{plain_row}
+use Rattle.dex_worth.specs.Rows.{line_of, plain_row}
 use Rattle.dex_replay.specs.WorthText.{trader_line, with_lines}
-use Rattle.dex_worth.specs.HeldText.{line_of}
 use Rattle.dex_worth.proofs.text.worth_text.Goals as goal
 
 lines-are : (table : List WorthRow) → flat_map line_of table ≡ flat_map trader_line (map plain_row table)

@@ -1,7 +1,7 @@
 use Rattle.std.proofs.Common.{◌≡◌, ◌++◌, take}
 use Rattle.std.specs.List.{flat_map}
 use Rattle.std.specs.String.{string_bytes}
-use Rattle.dex_worth.specs.HeldText.{line_of}
+use Rattle.dex_worth.specs.Rows.{line_of}
 use Rattle.dex_worth.proofs.text.write_traders.Given as goal
 
 abbrev pub invariant-traders : goal.invariant-traders

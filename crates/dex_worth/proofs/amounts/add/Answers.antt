@@ -3,7 +3,7 @@ use Rattle.dex_types.specs.declared.addresses.Address.{Address}
 use Rattle.dex_worth.specs.declared.amounts.TokenAmounts.{TokenAmounts}
 use Rattle.dex_worth.specs.Amounts.{added, none, with_own}
 use Rattle.dex_worth.proofs.Lists.{added-more}
-use Rattle.dex_worth.proofs.amounts.add_each.Goals as goal
+use Rattle.dex_worth.proofs.amounts.add.Goals as goal
 
 pub loop-place-preserved : goal.loop-place-preserved
 loop-place-preserved c =
