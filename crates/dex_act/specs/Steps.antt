@@ -89,7 +89,8 @@ pub record HasEntered (row : PlainRow) (waits : Bool) (seen : Seen) (before afte
   pub kept : IsMarketCell after
   pub start : after.start ≡ before.start
   pub room : after.room ≡ before.room
-  pub refused : (waits || is_refusal (row_step (doing waits row) seen (market_at before)).reply) ≡ true → after.accounts ≡ before.accounts
+  pub refused : (waits || is_refusal (row_step (doing waits row) seen (market_at before)).reply) ≡ true
+      → after.accounts ≡ before.accounts
 
 -- a row acted, or was held back, on a market and on the wallets that it names, and this was its reply
 pub record HasDone (row : PlainRow) (waits : Bool) (seen : Seen) (answer : Reply) (before after : MarketCellState)

@@ -10,7 +10,8 @@ use Rattle.dex_eager_market.specs.declared.accounts.Account.{Account}
 
 -- the account of an address for which these amounts are held
 abbrev pub account_of : (Address → TokenAmounts) → Address → Account
-account_of amounts owner = record { address = owner; total = record { gained = capped_amounts (amounts owner); paid = none } }
+account_of amounts owner =
+    record { address = owner; total = record { gained = capped_amounts (amounts owner); paid = none } }
 
 -- the accounts of a market, each with what the market holds for it
 abbrev pub held_accounts : Market → List Account
