@@ -93,9 +93,8 @@ module _ {A B C : Type 0} where
       → (xs : List A) (ys : List B) (zs : List C) → AllZip P xs zs → AllZip Q ys zs → AllThree R xs ys zs
   AllThree-of P Q R each [] [] [] one other = tt
   AllThree-of P Q R each (x ∷ xs) (y ∷ ys) (z ∷ zs) one other = (each x y z one.0 other.0, AllThree-of P Q R each xs ys zs one.1 other.1)
-  AllThree-of P Q R each _ [] (z ∷ zs) one other = absurd other
-  AllThree-of P Q R each _ (y ∷ ys) [] one other = absurd other
-  AllThree-of P Q R each _ _ _ one other = absurd one
+  AllThree-of P Q R each _ _ [] one other = absurd (assumption)
+  AllThree-of P Q R each _ _ (z ∷ zs) one other = absurd (assumption)
 
   -- of the second and the third, from what holds of the first and the second
   pub AllZip-of : (P : A → B → Type 0) (R : A → B → C → Type 0) (Q : B → C → Type 0) → ((x : A) (y : B) (z : C) → P x y → R x y z → Q y z)
@@ -111,9 +110,7 @@ module _ {A B C : Type 0} where
   AllZip-last_of P R S K Q each [] [] [] [] one all more kept = tt
   AllZip-last_of P R S K Q each (x ∷ xs) (y ∷ ys) (z ∷ zs) (w ∷ ws) one all more kept =
       (each x y z w one.0 all.0 more.0 (All-head K w ws kept), AllZip-last_of P R S K Q each xs ys zs ws one.1 all.1 more.1 (All-tail K w ws kept))
-  AllZip-last_of P R S K Q each [] [] [] (w ∷ ws) one all more kept = absurd more
-  AllZip-last_of P R S K Q each (x ∷ xs) (y ∷ ys) (z ∷ zs) [] one all more kept = absurd more
-  AllZip-last_of P R S K Q each _ _ _ ws one all more kept = absurd all
+  AllZip-last_of P R S K Q each _ _ _ _ one all more kept = absurd (assumption)
 
 -- ---- columns, each with an item for each of some rows
 
@@ -137,10 +134,7 @@ module _ {S G D P Z : Type 0} (R : S → G → D → P → Type 0) where
     subst (λ list. AllZip (R s g) (rows ++ row ∷ []) list) (sym longer.0.items) (all_zipped_more (R s g) rows b.items row i all.0 each.0),
     columns-more starts gates rows row items before after all.1 each.1 longer.1,
   )
-  columns-more (s ∷ starts) (g ∷ gates) rows row (i ∷ items) (b ∷ before) [] all each longer = absurd longer
-  columns-more [] [] rows row [] (b ∷ before) after all each longer = absurd all
-  columns-more (s ∷ starts) (g ∷ gates) rows row (i ∷ items) [] after all each longer = absurd all
-  columns-more _ _ rows row _ _ after all each longer = absurd each
+  columns-more _ _ rows row _ _ _ all each longer = absurd (assumption)
 
   -- where there is room for more rows, each column has room for one
   pub columns-free : (count : ℕ) (starts : List S) (gates : List G) (rows : List D) (columns : List (Vec P Z)) → Columns starts gates rows columns

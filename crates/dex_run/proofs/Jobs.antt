@@ -29,9 +29,7 @@ module _ {R P : Type 0} where
       subst (λ (l : Lanes). HasRun l.bank.now seat done.seat) are.0.lanes_are (subst (λ (s : SeatState). HasRun job.lanes.bank.now s done.seat) are.0.seat_is ran.0),
       jobs-ran seats before after are.1 ran.1,
     )
-    jobs-ran _ [] (job ∷ after) are ran = absurd ran
-    jobs-ran _ (job ∷ before) [] are ran = absurd ran
-    jobs-ran _ _ _ are ran = absurd are
+    jobs-ran _ _ _ are ran = absurd (assumption)
 
 -- ---- all seats, before and after
 

@@ -1,13 +1,13 @@
 -- The places at which the items of lanes begin, found row by row; and the items of a lane, one after the other.
 use Rattle.std.proofs.Common.{◌≡◌, ℕ, ◌+◌, ◌<◌, ◌≤◌, ⊎_elim, Bool, cond, List, [], ◌∷◌, ◌++◌, Vec, Global, length, get_or, set, map, take, drop, refl, sym, ap, ◌∙◌, subst, arith, append_assoc, append-nil, All}
-use Rattle.dex_world.proofs.Common.{PlainRow, Row, eq-eqb, ne_eqb, row_of, rows_of_lane, take_all, take_more}
+use Rattle.dex_world.proofs.Common.{PlainRow, Row, eq-eqb, ne_eqb, row_of, rows_of_lane, take_all}
 use Rattle.dex_replay.proofs.Common.{AreRows, PlainScript}
 use Rattle.dex_world.proofs.MappedLists.{same-get}
 use Rattle.dex_run.proofs.Common.{Begins, IsAlone, IsDone, IsIndex, IsItemOf, IsRest, IsRestAt, IsSwapAt, SeatState, rows_before}
 use Rattle.dex_run.proofs.LaneRows.{are-legs, rows_of_lane-append}
 use Rattle.std.proofs.Math.ListN.{drop_of_length-le}
 use Rattle.std.proofs.lemmas.Bool.{cases_eq}
-use Rattle.std.proofs.lemmas.List.{drop_more, get_or-set_other, get_or-set_same, length-append, length-set, map-append}
+use Rattle.std.proofs.lemmas.List.{map_more, drop_more, get_or-set_other, get_or-set_same, length-append, length-set}
 
 -- ---- how many rows of a lane stand before a place
 
@@ -16,9 +16,7 @@ module _ (lane : ℕ) (rows : List Row) where
   before-more i row within at =
       let before : List PlainRow = map row_of (take i rows) in
       let one : map row_of (take (i + 1) rows) ≡ before ++ row_of row ∷ [] =
-      ap (map row_of) (take_more rows i row within)
-      ∙ map-append row_of (take i rows) (get_or rows i row ∷ [])
-      ∙ ap (λ (r : Row). before ++ row_of r ∷ []) (sym at) in
+      map_more row_of rows i row within ∙ ap (λ (r : Row). before ++ row_of r ∷ []) (sym at) in
       ap (λ (l : List PlainRow). length (rows_of_lane lane l)) one
       ∙ ap length (rows_of_lane-append lane before (row_of row ∷ []))
       ∙ length-append (rows_of_lane lane before) (rows_of_lane lane (row_of row ∷ []))

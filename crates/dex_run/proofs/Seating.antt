@@ -51,17 +51,14 @@ module _ {S E O : Type 0} (lanes : ℕ) (from : S → O) (starts : List S) (gate
 pub seat-is : (bank : BankState) (lane : ℕ) (seat : SeatState) (markets : List (PassView (Stamped Call) MarketOrigin)) (wallets : List (PassView (Stamped WalletEntry) WalletOrigin))
     → seat ≡ fresh_seat lane bank.script markets wallets → markets ≡ passes_of lane bank.markets → wallets ≡ passes_of lane bank.wallets → seat ≡ seat_in bank lane
 seat-is bank lane seat markets wallets is markets_are wallets_are =
-    is
-    ∙ ap (λ (l : List (PassView (Stamped Call) MarketOrigin)). fresh_seat lane bank.script l wallets) markets_are
-    ∙ ap (λ (l : List (PassView (Stamped WalletEntry) WalletOrigin)). fresh_seat lane bank.script (passes_of lane bank.markets) l) wallets_are
+    is ∙ (λ k. fresh_seat lane bank.script (markets_are k) (wallets_are k))
 
 -- one seat more
 pub seats-more : (bank : BankState) (lane : ℕ) (old new : List SeatState) (seat : SeatState) → 1 ≤ lane → old ≡ map (seat_in bank) (range_with_len 1 (lane - 1))
     → seat ≡ seat_in bank lane → new ≡ old ++ seat ∷ [] → new ≡ map (seat_in bank) (range_with_len 1 (lane + 1 - 1))
 seats-more bank lane old new seat some before is added =
     added
-    ∙ ap (λ (l : List SeatState). l ++ seat ∷ []) before
-    ∙ ap (λ (s : SeatState). map (seat_in bank) (range_with_len 1 (lane - 1)) ++ s ∷ []) is
+    ∙ (λ k. before k ++ is k ∷ [])
     ∙ sym (map-range_with_len_more (seat_in bank) 1 (lane - 1) lane (omega (arith, some)))
     ∙ ap (λ (n : ℕ). map (seat_in bank) (range_with_len 1 n)) (omega (arith, some))
 
