@@ -1,5 +1,5 @@
 -- Cancels: what is taken off, by how the orders are named.
-use Rattle.std.proofs.Common.{ℕ, zero, suc, ◌≡◌, eqb, Bool, true, false, not, List, [], ◌∷◌, ◌++◌, length, map, take, Option, Some, None, is_some, refl, sym, ap, ◌∙◌, if◌then◌else◌, slice_get}
+use Rattle.std.proofs.Common.{ℕ, zero, suc, ◌≡◌, eqb, Bool, true, false, not, List, [], ◌∷◌, ◌++◌, length, take, Option, Some, None, is_some, refl, sym, ap, ◌∙◌, if◌then◌else◌, slice_get}
 use Rattle.dex_types.specs.declared.addresses.Address.{Address}
 use Rattle.dex_types.specs.declared.orders.Order.{Order}
 use Rattle.dex_types.specs.declared.refusals.Refusal.TheVariants as refusal
@@ -9,8 +9,7 @@ use Rattle.dex_types.specs.Cancel.{RestingOrder, ById, ByClient, all_orders_of, 
 use Rattle.dex_types.specs.Reasons.{first_of, no_order, not_resting, not_yours}
 use Rattle.dex_types.specs.Side.{by_side, opposite}
 use Rattle.dex_eager.specs.Eager.{Eager, eager_cancel, orders_on, unchanged, without_all}
-use Rattle.dex_eager_market.specs.declared.listing.Resting.{Resting}
-use Rattle.dex_eager_market.specs.Listing.{own_resting, resting_of, resting_there}
+use Rattle.dex_eager_market.specs.Listing.{own_resting}
 
 -- by side and id: an order of the account, or nothing
 pub id-taken : (owner : Address) (side : Side) (id : ℕ) (e : Eager)
@@ -56,12 +55,6 @@ all-next [] zero e = refl
 all-next [] (suc place) e = refl
 all-next (first ∷ all) zero e = refl
 all-next (first ∷ all) (suc place) e = all-next all place _
-
--- a listed order, looked up by its place
-pub listed-at : (list : List Resting) (place : ℕ) → resting_there (slice_get list place) ≡ slice_get (map resting_of list) place
-listed-at [] place = refl
-listed-at (first ∷ list) zero = refl
-listed-at (first ∷ list) (suc place) = listed-at list place
 
 -- of a list of client ids, the next one
 pub ids-next : (client : ℕ) (clients : List ℕ) (gone : Option RestingOrder) (listed left : List RestingOrder) (e after : Eager) → gone ≡ taken_by client listed

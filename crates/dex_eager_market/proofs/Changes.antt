@@ -1,9 +1,8 @@
 -- Changes of what accounts gained and paid.
-use Rattle.std.proofs.Common.{ℕ, zero, suc, pos, ◌+◌, ◌-ℤ◌, ◌+ℤ◌, ◌<◌, ◌≤◌, ◌≡◌, ⊎_elim, Bool, true, false, if◌then◌else◌, List, [], ◌∷◌, ◌++◌, length, map, get_or, take, drop, refl, sym, ap, ◌∙◌, subst, arith}
+use Rattle.std.proofs.Common.{ℕ, zero, suc, pos, ◌+◌, ◌-ℤ◌, ◌+ℤ◌, ◌<◌, ◌≤◌, ◌≡◌, Bool, true, false, if◌then◌else◌, List, [], ◌∷◌, ◌++◌, length, map, get_or, take, drop, refl, ap, arith}
 use Rattle.std.specs.List.{All}
-use Rattle.std.proofs.lemmas.Bool.{cases_Bool, cond-true, cond-false}
 use Rattle.std.proofs.lemmas.Int.{ints}
-use Rattle.std.proofs.lemmas.List.Elements.{All-nil, All-cons, All-head, All-tail, All-weaker}
+use Rattle.std.proofs.lemmas.List.Elements.{All-map, All-weaker}
 use Rattle.dex_types.specs.declared.addresses.Address.{Address}
 use Rattle.dex_types.specs.Addresses.{is_same}
 use Rattle.dex_eager.specs.Eager.{with_change}
@@ -22,23 +21,17 @@ worth-both one other =
     rw (difference one.gained.coin one.paid.coin other.gained.coin other.paid.coin)
     rw (difference one.gained.pc one.paid.pc other.gained.pc other.paid.pc) refl
 
--- an account's worth after a change
-entry-changed : (owner : Address) (change : Change) (account : Account) (own : Bool) → is_same account.address owner ≡ own
-    → entry_of (changed owner change account)
-    ≡ (account.address, (if own then plus (worth_of account.total) (worth_of change) else worth_of account.total))
-entry-changed owner change account true is =
-    ap entry_of (cond-true (is_same account.address owner) (record { address = account.address; total = both account.total change }) account is)
-    ∙ ap (λ (w : Worth). (account.address, w)) (worth-both account.total change)
-entry-changed owner change account false is =
-    ap entry_of (cond-false (is_same account.address owner) (record { address = account.address; total = both account.total change }) account is)
-
 -- all accounts after a change
 pub entries-changed : (owner : Address) (change : Change) (accounts : List Account)
     → map entry_of (map (changed owner change) accounts) ≡ with_change owner (worth_of change) (map entry_of accounts)
 entries-changed owner change [] = refl
 entries-changed owner change (account ∷ others) =
-    rw (entries-changed owner change others) (ap (λ (e : Address × Worth). e ∷ with_change owner (worth_of change) (map entry_of others))
-    (entry-changed owner change account (is_same account.address owner) refl))
+    rw (entries-changed owner change others) (ap (λ (e : Address × Worth). e ∷ with_change owner (worth_of change) (map entry_of others)) (here (is_same account.address owner)))
+  where
+    here : (own : Bool) → entry_of (if own then record { address = account.address; total = both account.total change } else account)
+        ≡ (account.address, (if own then plus (worth_of account.total) (worth_of change) else worth_of account.total))
+    here true = ap (λ (w : Worth). (account.address, w)) (worth-both account.total change)
+    here false = refl
 
 -- the bound grows by that of the change
 small-both : (bound more : ℕ) (one other : Change) → IsSmall bound one → IsSmall more other → IsSmall (bound + more) (both one other)
@@ -55,23 +48,17 @@ small-more bound more change le small = record {
 
 within-changed : (bound more : ℕ) (owner : Address) (change : Change) (account : Account) → IsSmall more change → IsWithin bound account
     → IsWithin (bound + more) (changed owner change account)
-within-changed bound more owner change account small within =
-    ⊎_elim
-    (λ (own : is_same account.address owner ≡ true).
-    subst (IsWithin (bound + more)) (sym (cond-true (is_same account.address owner) (record { address = account.address; total = both account.total change }) account own))
-    (small-both bound more account.total change within small))
-    (λ (other : is_same account.address owner ≡ false).
-    subst (IsWithin (bound + more)) (sym (cond-false (is_same account.address owner) (record { address = account.address; total = both account.total change }) account other))
-    (small-more bound (bound + more) account.total (omega arith) within))
-    (cases_Bool (is_same account.address owner))
+within-changed bound more owner change account small within = by (is_same account.address owner)
+  where
+    by : (own : Bool) → IsWithin (bound + more) (if own then record { address = account.address; total = both account.total change } else account)
+    by true = small-both bound more account.total change within small
+    by false = small-more bound (bound + more) account.total (omega arith) within
 
 pub all-changed : (bound more : ℕ) (owner : Address) (change : Change) (accounts : List Account) → IsSmall more change → All (IsWithin bound) accounts
     → All (IsWithin (bound + more)) (map (changed owner change) accounts)
-all-changed bound more owner change [] small all = All-nil (IsWithin (bound + more))
-all-changed bound more owner change (account ∷ others) small all =
-    All-cons (IsWithin (bound + more)) (changed owner change account) (map (changed owner change) others)
-    (within-changed bound more owner change account small (All-head (IsWithin bound) account others all))
-    (all-changed bound more owner change others small (All-tail (IsWithin bound) account others all))
+all-changed bound more owner change accounts small all =
+    All-map (IsWithin (bound + more)) (changed owner change) accounts
+    (All-weaker (IsWithin bound) (λ account. IsWithin (bound + more) (changed owner change account)) (λ account within. within-changed bound more owner change account small within) accounts all)
 
 pub all-more : (bound more : ℕ) (accounts : List Account) → bound ≤ more → All (IsWithin bound) accounts → All (IsWithin more) accounts
 all-more bound more accounts le all = All-weaker (IsWithin bound) (IsWithin more) (λ account within. small-more bound more account.total le within) accounts all
@@ -85,16 +72,3 @@ get-rest f (x ∷ xs) (suc i) d lt = get-rest f xs i d (omega arith)
 -- an account that stands for none
 abbrev pub no_account : Account
 no_account = record { address = record { 0 = [] }; total = record { gained = amounts.none; paid = amounts.none } }
-
--- a list that is mapped in place keeps its length, and is mapped at the end
-pub length-over : {X : Type 0} (f : X → X) (xs : List X) (i : ℕ) → length (map f (take i xs) ++ drop i xs) ≡ length xs
-length-over f [] zero = refl
-length-over f [] (suc i) = refl
-length-over f (x ∷ xs) zero = refl
-length-over f (x ∷ xs) (suc i) = ap suc (length-over f xs i)
-
-pub over-all : {X : Type 0} (f : X → X) (xs : List X) (i : ℕ) → length xs ≤ i → map f (take i xs) ++ drop i xs ≡ map f xs
-over-all f [] zero le = refl
-over-all f [] (suc i) le = refl
-over-all f (x ∷ xs) zero le = absurd (omega arith)
-over-all f (x ∷ xs) (suc i) le = ap (λ rest. f x ∷ rest) (over-all f xs i (omega arith))

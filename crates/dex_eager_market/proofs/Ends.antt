@@ -1,7 +1,8 @@
 -- A meeting that goes no further was foreseen.
-use Rattle.std.proofs.Common.{ℕ, zero, suc, ◌-◌, ◌*◌, ◌≤◌, ◌≡◌, false, List, [], ◌∷◌, length, drop, is_some, refl, sym, ap, ◌∙◌, arith}
+use Rattle.std.proofs.Common.{ℕ, ◌-◌, ◌*◌, ◌≤◌, ◌≡◌, List, [], ◌∷◌, length, drop, is_some, refl, sym, ap, ◌∙◌, arith}
 use Rattle.std.specs.List.{All}
 use Rattle.std.proofs.Math.Nat.{mul-le-mul_right, mul-le-mul_left}
+use Rattle.std.proofs.lemmas.List.{length-drop}
 use Rattle.std.proofs.lemmas.List.Elements.{All-nil, All-cons, All-head, All-tail, All-drop}
 use Rattle.dex_types.specs.declared.orders.Order.{Order}
 use Rattle.dex_types.specs.declared.terms.Lots.{Lots}
@@ -9,55 +10,31 @@ use Rattle.dex_types.specs.declared.terms.Side.{Side}
 use Rattle.dex_types.specs.declared.terms.Side.TheVariants.{Bid, Ask}
 use Rattle.dex_types.specs.Meeting.{TakerTerms, Meeting, aborts_at, less, met_none}
 use Rattle.dex_types.specs.Posting.{still_crosses}
-use Rattle.dex_types.specs.Side.{crosses, price_of}
+use Rattle.dex_types.specs.Side.{price_of}
 use Rattle.dex_fills.specs.Taker.{demand}
 use Rattle.dex_eager_market.specs.declared.foreseeing.ListProspect.{ListProspect}
 use Rattle.dex_eager_market.specs.Foreseen.{CanFill, IsForeseen, left_by, less_first}
 use Rattle.dex_eager_market.proofs.Meetings.{IsCarried}
 
--- with these orders left, of which the first is this one
-pub foreseen-ended : (side : Side) (t : TakerTerms) (limit : ℕ) (orders : List Order) (whole rest : Meeting) (met : ListProspect) (order : Order) (others : List Order) (result : ListProspect)
-    → IsCarried t.sizes.coin whole rest met.sums → rest ≡ met_none side t (demand met.want) (order ∷ others)
-    → left_by result.gone result.part orders ≡ order ∷ others → result.gone ≤ length orders
-    → result.want ≡ met.want → result.sums ≡ met.sums → result.crosses ≡ crosses side limit (price_of order.id)
-    → result.aborts ≡ is_some (aborts_at side t (demand met.want) (order ∷ others)) → IsForeseen side t.sizes limit orders whole result
-foreseen-ended side t limit orders whole rest met order others result carried none left_is within want_is sums_is crosses_is aborts_is =
-    let left : order ∷ others ≡ whole.left = sym (ap (λ (m : Meeting). m.left) none) ∙ carried.left in
-    let w : demand met.want ≡ whole.demand = sym (ap (λ (m : Meeting). m.demand) none) ∙ carried.demand in
-    let aborts : aborts_at side t (demand met.want) (order ∷ others) ≡ whole.aborts = sym (ap (λ (m : Meeting). m.aborts) none) ∙ carried.aborts in
+-- with these orders left
+pub foreseen-ended : (side : Side) (t : TakerTerms) (limit : ℕ) (orders : List Order) (whole rest : Meeting) (met : ListProspect) (left : List Order) (result : ListProspect)
+    → IsCarried t.sizes.coin whole rest met.sums → rest ≡ met_none side t (demand met.want) left
+    → left_by result.gone result.part orders ≡ left → result.gone ≤ length orders
+    → result.want ≡ met.want → result.sums ≡ met.sums → result.crosses ≡ still_crosses side limit left
+    → result.aborts ≡ is_some (aborts_at side t (demand met.want) left) → IsForeseen side t.sizes limit orders whole result
+foreseen-ended side t limit orders whole rest met left result carried none left_is within want_is sums_is crosses_is aborts_is =
+    let same : left ≡ whole.left = sym (ap (λ (m : Meeting). m.left) none) ∙ carried.left in
     let none_met : rest.lots ≡ 0 = ap (λ (m : Meeting). m.lots) none in
     let lots : rest.lots * t.sizes.coin ≡ 0 = ap (λ (n : ℕ). n * t.sizes.coin) none_met ∙ omega arith in
-    let pc : rest.pc ≡ 0 = ap (λ (m : Meeting). m.pc) none in
-    let rebates : rest.rebates ≡ 0 = ap (λ (m : Meeting). m.rebates) none in
     record {
-      demand_is = ap demand want_is ∙ w;
+      demand_is = ap demand want_is ∙ sym (ap (λ (m : Meeting). m.demand) none) ∙ carried.demand;
       base = omega (arith, carried.base, lots, ap (λ s. s.base) sums_is);
-      pc = omega (arith, carried.pc, pc, ap (λ s. s.pc) sums_is);
-      rebates = omega (arith, carried.rebates, rebates, ap (λ s. s.rebates) sums_is);
-      left = left_is ∙ left;
+      pc = omega (arith, carried.pc, ap (λ (m : Meeting). m.pc) none, ap (λ s. s.pc) sums_is);
+      rebates = omega (arith, carried.rebates, ap (λ (m : Meeting). m.rebates) none, ap (λ s. s.rebates) sums_is);
+      left = left_is ∙ same;
       within = within;
-      crosses = crosses_is ∙ ap (still_crosses side limit) left;
-      aborts = aborts_is ∙ ap is_some aborts;
-    }
-
--- with no order left
-pub foreseen-all : (side : Side) (t : TakerTerms) (limit : ℕ) (orders : List Order) (whole rest : Meeting) (met : ListProspect)
-    → IsCarried t.sizes.coin whole rest met.sums → rest ≡ met_none side t (demand met.want) []
-    → left_by met.gone met.part orders ≡ [] → met.gone ≤ length orders → met.crosses ≡ false → met.aborts ≡ false → IsForeseen side t.sizes limit orders whole met
-foreseen-all side t limit orders whole rest met carried none left_is within crosses_is aborts_is =
-    let left : [] ≡ whole.left = sym (ap (λ (m : Meeting). m.left) none) ∙ carried.left in
-    let aborts : aborts_at side t (demand met.want) [] ≡ whole.aborts = sym (ap (λ (m : Meeting). m.aborts) none) ∙ carried.aborts in
-    let none_met : rest.lots ≡ 0 = ap (λ (m : Meeting). m.lots) none in
-    let lots : rest.lots * t.sizes.coin ≡ 0 = ap (λ (n : ℕ). n * t.sizes.coin) none_met ∙ omega arith in
-    record {
-      demand_is = sym (ap (λ (m : Meeting). m.demand) none) ∙ carried.demand;
-      base = omega (arith, carried.base, lots);
-      pc = omega (arith, carried.pc, ap (λ (m : Meeting). m.pc) none);
-      rebates = omega (arith, carried.rebates, ap (λ (m : Meeting). m.rebates) none);
-      left = left_is ∙ left;
-      within = within;
-      crosses = crosses_is ∙ ap (still_crosses side limit) left;
-      aborts = aborts_is ∙ ap is_some aborts;
+      crosses = crosses_is ∙ ap (still_crosses side limit) same;
+      aborts = aborts_is ∙ ap is_some (sym (ap (λ (m : Meeting). m.aborts) none) ∙ carried.aborts);
     }
 
 -- an order with fewer lots can fill too
@@ -84,13 +61,8 @@ length-less_first : (part : ℕ) (orders : List Order) → length (less_first pa
 length-less_first part [] = refl
 length-less_first part (order ∷ others) = refl
 
-length-drop-le : (n : ℕ) (orders : List Order) → length (drop n orders) ≤ length orders
-length-drop-le zero orders = omega arith
-length-drop-le (suc n) [] = omega arith
-length-drop-le (suc n) (order ∷ others) = omega (arith, length-drop-le n others)
-
 pub length-left : (gone part : ℕ) (orders : List Order) → length (left_by gone part orders) ≤ length orders
-length-left gone part orders = omega (arith, length-less_first part (drop gone orders), length-drop-le gone orders)
+length-left gone part orders = omega (arith, length-less_first part (drop gone orders), length-drop gone orders)
 
 -- what is left where the next order lost nothing, and where it lost a part
 pub left-same : (orders : List Order) (gone : ℕ) (order : Order) (others : List Order) (g p : ℕ) → g ≡ gone → p ≡ 0 → drop gone orders ≡ order ∷ others

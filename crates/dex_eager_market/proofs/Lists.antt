@@ -1,9 +1,10 @@
 -- Walks along lists from the front, one item more.
-use Rattle.std.proofs.Common.{ℕ, zero, suc, ◌+◌, ◌-◌, ◌≡◌, ◌<◌, ◌≤◌, ◌||◌, if◌then◌else◌, eqb, Bool, true, false, List, [], ◌∷◌, ◌++◌, length, map, take, drop, get_or, append-nil, Some, None, nat_lt, inl, inr, refl, sym, ap, ◌∙◌, arith, take_all}
+use Rattle.std.proofs.Common.{ℕ, ◌+◌, ◌-◌, ◌≡◌, ◌<◌, ◌≤◌, ◌||◌, if◌then◌else◌, eqb, Bool, true, false, List, [], ◌∷◌, ◌++◌, length, map, take, drop, get_or, append-nil, Some, nat_lt, inl, inr, refl, sym, ap, ◌∙◌, arith, take_all}
 use Rattle.std.specs.List.{insert, slice_get}
 use Rattle.std.proofs.lemmas.Bool.{cases_lt, cond-true, cond-false}
 use Rattle.std.proofs.lemmas.Bool.Decides.{nat_tests}
 use Rattle.std.proofs.lemmas.List.{append_assoc, drop_all, drop_more, map-append, take_more}
+use Rattle.std.proofs.lemmas.Option.{slice_get-get_or, slice_get_past}
 use Rattle.dex_types.specs.declared.addresses.Address.{Address}
 use Rattle.dex_types.specs.declared.orders.Order.{Order}
 use Rattle.dex_types.specs.declared.terms.Side.{Side}
@@ -34,17 +35,6 @@ place-here side id orders place d lt behind is =
     let here = ap (place_of side id) (drop_more orders place d lt) ∙ cond-false (precedes side (get_or orders place d).id id) (place_of side id (drop (place + 1) orders) + 1) 0 behind in
     omega (arith, is, here)
 
--- an item looked up by its place
-pub slice-at : {X : Type 0} (xs : List X) (place : ℕ) (d : X) → place < length xs → slice_get xs place ≡ Some (get_or xs place d)
-slice-at [] place d lt = absurd (omega arith)
-slice-at (x ∷ xs) zero d lt = refl
-slice-at (x ∷ xs) (suc place) d lt = slice-at xs place d (omega arith)
-
-pub slice-behind : {X : Type 0} (xs : List X) (place : ℕ) → length xs ≤ place → slice_get xs place ≡ None
-slice-behind [] place le = refl
-slice-behind (x ∷ xs) zero le = absurd (omega arith)
-slice-behind (x ∷ xs) (suc place) le = slice-behind xs place (omega arith)
-
 -- a resting order that stands for none
 abbrev pub no_resting : Resting
 no_resting = record { side = Bid; order = no_order }
@@ -58,7 +48,7 @@ pub find-here : (id : ℕ) (orders : List Order) (place : ℕ) (d : Order) → p
     → order_with id (drop place orders) ≡ slice_get orders place
 find-here id orders place d lt same =
     ap (order_with id) (drop_more orders place d lt) ∙ cond-true (eqb (get_or orders place d).id id) (Some (get_or orders place d)) (order_with id (drop (place + 1) orders)) same
-    ∙ sym (slice-at orders place d lt)
+    ∙ sym (slice_get-get_or orders place d lt)
 
 pub find-more : (id : ℕ) (orders : List Order) (place : ℕ) (d : Order) → place < length orders → eqb (get_or orders place d).id id ≡ false
     → order_with id (drop place orders) ≡ order_with id (drop (place + 1) orders)
@@ -66,7 +56,7 @@ find-more id orders place d lt other =
     ap (order_with id) (drop_more orders place d lt) ∙ cond-false (eqb (get_or orders place d).id id) (Some (get_or orders place d)) (order_with id (drop (place + 1) orders)) other
 
 pub find-none : (id : ℕ) (orders : List Order) (place : ℕ) → length orders ≤ place → order_with id (drop place orders) ≡ slice_get orders (length orders)
-find-none id orders place le = ap (order_with id) (drop_all place orders le) ∙ sym (slice-behind orders (length orders) (omega arith))
+find-none id orders place le = ap (order_with id) (drop_all place orders le) ∙ sym (slice_get_past orders (length orders) (omega arith))
 
 -- the orders without the one of an id
 pub without-here : (id : ℕ) (orders : List Order) (place : ℕ) (d : Order) → place < length orders → eqb (get_or orders place d).id id ≡ true

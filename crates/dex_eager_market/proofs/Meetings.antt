@@ -1,8 +1,7 @@
 -- How a meeting goes on, order by order: what is met so far, joined to the meeting of what is left, is the whole.
-use Rattle.std.proofs.Common.{ℕ, ◌+◌, ◌*◌, ◌^◌, ◌<◌, ◌≤◌, ◌≡◌, ⊎_elim, true, false, List, [], ◌∷◌, length, drop, refl, sym, ap, ◌∙◌, subst, arith}
+use Rattle.std.proofs.Common.{ℕ, ◌+◌, ◌*◌, ◌^◌, ◌<◌, ◌≤◌, ◌≡◌, ⊎_elim, true, false, List, [], ◌∷◌, drop, refl, sym, ap, ◌∙◌, subst, arith}
 use Rattle.std.proofs.Math.Nat.{mul-le-mul_right, mul-le-mul_left, add-mul}
 use Rattle.std.proofs.lemmas.Bool.{cases_Bool}
-use Rattle.std.proofs.lemmas.List.{drop_all}
 use Rattle.dex_types.specs.declared.orders.Order.{Order}
 use Rattle.dex_types.specs.declared.terms.Side.{Side}
 use Rattle.dex_types.specs.declared.terms.Side.TheVariants.{Bid, Ask}
@@ -12,7 +11,7 @@ use Rattle.dex_laws.proofs.DemandLaws.{demand_after-matches, met_lots-demand, me
 use Rattle.dex_laws.proofs.Taken.{Takes, Takes-taken}
 use Rattle.dex_fills.proofs.MeetingSteps.{meet-ended, meet-part, meet-whole}
 use Rattle.dex_eager_market.specs.declared.foreseeing.Sums.{Sums}
-use Rattle.dex_eager_market.specs.Foreseen.{CanFill, IsModest}
+use Rattle.dex_eager_market.specs.Foreseen.{AddsOrder, CanFill, IsModest}
 
 -- what was met so far, joined to the meeting of what is left, is the whole
 pub record IsCarried (coin : ℕ) (whole rest : Meeting) (sums : Sums) : Type 0 where
@@ -33,12 +32,6 @@ carried-start coin whole = record {
   aborts = refl;
 }
 
--- the sums with those of one more order
-pub record AddsOrder (t : TakerTerms) (order : Order) (n : ℕ) (sums after : Sums) : Type 0 where
-  pub base : after.base ≡ sums.base + met_lots t order n * t.sizes.coin
-  pub pc : after.pc ≡ sums.pc + met_pc t order n
-  pub rebates : after.rebates ≡ sums.rebates + met_rebate t order n
-
 pub carried-more : (side : Side) (t : TakerTerms) (order : Order) (lots : ℕ) (whole met rest : Meeting) (sums after : Sums) → IsCarried t.sizes.coin whole met sums
     → met ≡ met_first side t order lots rest → AddsOrder t order lots sums after → IsCarried t.sizes.coin whole rest after
 carried-more side t order lots whole met rest sums after carried first adds =
@@ -58,9 +51,6 @@ carried-more side t order lots whole met rest sums after carried first adds =
       aborts = sym d ∙ carried.aborts;
     }
 
-pub carried-same : (coin : ℕ) (whole rest now : Meeting) (sums : Sums) → rest ≡ now → IsCarried coin whole rest sums → IsCarried coin whole now sums
-carried-same coin whole rest now sums same carried = subst (λ (m : Meeting). IsCarried coin whole m sums) same carried
-
 -- an own order fills nothing; of another's no more fills than it has
 met_lots-le : (t : TakerTerms) (order : Order) (lots most : ℕ) → lots ≤ most → met_lots t order lots ≤ most
 met_lots-le t order lots most le =
@@ -78,7 +68,6 @@ pub record FitsOrder (side : Side) (t : TakerTerms) (w : Demand) (order : Order)
   pub base : met_lots t order lots * t.sizes.coin < 2 ^ 64
   pub pc : met_pc t order lots < 2 ^ 64
   pub modest : IsModest side t.sizes (demand_after side t w order lots)
-  pub of_order : lots ≤ order.lots
   pub matches : (demand_after side t w order lots).matches + 1 ≡ w.matches
 
 pub fits-order : (side : Side) (t : TakerTerms) (w : Demand) (order : Order) (lots : ℕ) → IsModest side t.sizes w → CanFill (opposite side) t.sizes order
@@ -96,7 +85,6 @@ fits-order Bid t w order lots modest can is some =
         lots = λ ask. absurd cc;
         matches = omega (arith, one, modest.matches);
       };
-      of_order = takes.within;
       matches = omega (arith, one, takes.may_meet);
     }
 fits-order Ask t w order lots modest can is some =
@@ -113,7 +101,6 @@ fits-order Ask t w order lots modest can is some =
         lots = λ ask. omega (arith, mul-le-mul_right t.sizes.coin after, modest.lots refl);
         matches = omega (arith, one, modest.matches);
       };
-      of_order = takes.within;
       matches = omega (arith, one, takes.may_meet);
     }
 
@@ -122,10 +109,6 @@ fits-order Ask t w order lots modest can is some =
 -- an order that stands for none
 abbrev pub no_order : Order
 no_order = record { id = 0; owner = record { 0 = [] }; slot = 0; tier = 0; lots = 0; client = 0 }
-
--- no order is left at the end
-pub none-left : (orders : List Order) (place : ℕ) → length orders ≤ place → drop place orders ≡ []
-none-left orders place end = drop_all place orders end
 
 -- the meeting from there on, where nothing is taken, part of the order, or all of it
 pub meets-none : (side : Side) (t : TakerTerms) (w : Demand) (orders : List Order) (place : ℕ) (order : Order) (lots : ℕ) → drop place orders ≡ order ∷ drop (place + 1) orders

@@ -1,38 +1,32 @@
 -- What a new order or a take leaves, part by part, is the market after it.
-use Rattle.std.proofs.Common.{ℕ, ◌+◌, ◌-◌, ◌*◌, ◌/◌, ◌^◌, ◌<◌, ◌≤◌, ◌≡◌, ◌||◌, Bool, true, false, eqb, List, length, map, take, Option, Some, is_some, refl, sym, ap, ◌∙◌, subst, arith, inl, inr}
+use Rattle.std.proofs.Common.{ℕ, ◌+◌, ◌-◌, ◌*◌, ◌/◌, ◌^◌, ◌<◌, ◌≤◌, ◌≡◌, ◌||◌, Bool, true, false, eqb, List, length, map, is_some, refl, sym, ap, subst, arith}
 use Rattle.std.specs.List.{All}
 use Rattle.std.specs.Vec.{vec_capacity}
 use Rattle.std.proofs.Math.Nat.{mul-div-le, mul_comm}
-use Rattle.std.proofs.lemmas.Bool.{cond-false, cases_lt, eqb-false}
+use Rattle.std.proofs.lemmas.Bool.{cond-false, eqb-false, or_parts}
 use Rattle.std.proofs.lemmas.Bool.Decides.{nat_tests}
-use Rattle.std.proofs.lemmas.List.Elements.{All-take}
 use Rattle.dex_types.specs.declared.orders.Order.{Order}
 use Rattle.dex_types.specs.declared.terms.Lots.{Lots}
 use Rattle.dex_types.specs.declared.terms.Side.{Side}
 use Rattle.dex_types.specs.declared.terms.Side.TheVariants.{Bid, Ask}
-use Rattle.dex_types.specs.declared.terms.Tier.{Tier}
-use Rattle.dex_types.specs.declared.terms.Tier.TheVariants.{Base, Srm2, Srm3, Srm4, Srm5, Srm6, Msrm}
 use Rattle.dex_types.specs.Cancel.{without_order}
 use Rattle.dex_types.specs.Fees.{spendable, tier_number}
 use Rattle.dex_types.specs.Meeting.{TakerTerms, Demand, Meeting, meet}
 use Rattle.dex_types.specs.NewOrder.{NewOrder, budget, demand_of, fee_of, full_lock, rested, resting, terms_of}
 use Rattle.dex_types.specs.Posting.{post, still_crosses}
-use Rattle.dex_types.specs.Side.{by_side, id_of, lock, price_of}
-use Rattle.dex_types.specs.Take.{Take, take_demand, take_fee, take_meeting, take_terms}
-use Rattle.dex_fees.proofs.FeeLaws.{spendable-within}
+use Rattle.dex_types.specs.Side.{id_of, lock, price_of}
+use Rattle.dex_types.specs.Take.{Take, take_demand, take_fee, take_meeting}
+use Rattle.dex_fees.proofs.FeeLaws.{spendable-le}
+use Rattle.dex_laws.proofs.BookLaws.{All-post}
 use Rattle.dex_laws.proofs.BookSideLaws.{All-without_order, length-without_order}
 use Rattle.dex_laws.proofs.DemandLaws.{meet-budget}
 use Rattle.dex_laws.proofs.IdLaws.{price_of-id_of}
-use Rattle.dex_laws.proofs.PostLaws.{All-posted, post-full, post-none, post-room}
 use Rattle.dex_laws.proofs.SpendLaws.{rested-paid}
 use Rattle.dex_match.specs.declared.order_terms.Taker.{Taker}
-use Rattle.dex_match.specs.OrderTerms.{meeting_with as order_meets, order_of}
-use Rattle.dex_fills.specs.declared.wants.MeetingTerms.{MeetingTerms}
-use Rattle.dex_fills.specs.declared.wants.Want.{Want}
-use Rattle.dex_fills.specs.Taker.{demand, taking}
+use Rattle.dex_match.specs.OrderTerms.{order_of}
 use Rattle.dex_sound.specs.Exchange.{taker_gets, taker_pays}
 use Rattle.dex_take.specs.TakeTerms.{meeting_with as take_meets, take_of}
-use Rattle.dex_eager.specs.Eager.{Eager, EagerStep, Worths, after_meeting, after_new_order, is_too_large, order_by, take_by, with_change, with_fills}
+use Rattle.dex_eager.specs.Eager.{Eager, EagerStep, after_meeting, after_new_order, is_too_large, order_by, take_by, with_change, with_fills}
 use Rattle.dex_eager.specs.Slots.{maker_fills}
 use Rattle.dex_eager.specs.Worth.{net}
 use Rattle.dex_eager_market.specs.declared.states.Book.{Book}
@@ -42,7 +36,7 @@ use Rattle.dex_eager_market.specs.Accounts.{entry_of, worth_of}
 use Rattle.dex_eager_market.specs.declared.foreseeing.ListProspect.{ListProspect}
 use Rattle.dex_eager_market.specs.Foreseen.{CanFill, IsForeseen, IsModest, left_by}
 use Rattle.dex_eager_market.specs.States.{CanList, IsBook, IsKept, IsTill, market_by}
-use Rattle.dex_eager_market.specs.Trading.{IsOrderForeseen, IsTakeForeseen, base_too_large, quote_too_large, rested_by, stops, taker_change}
+use Rattle.dex_eager_market.specs.Trading.{base_too_large, quote_too_large, rested_by, stops, taker_change}
 use Rattle.dex_eager_market.proofs.Changes.{all-more}
 use Rattle.dex_eager_market.proofs.Ends.{can-fill-left, length-left}
 
@@ -56,10 +50,6 @@ budget-paid : (sizes : Lots) (n : NewOrder) → budget Bid sizes n * sizes.pc �
 budget-paid sizes n =
     rw (mul_comm (spendable n.program n.tier n.max_pc / sizes.pc) sizes.pc) (mul-div-le (spendable n.program n.tier n.max_pc) sizes.pc)
 
--- a lock can spend no more than itself
-spendable-le : (sizes : Lots) (n : NewOrder) → spendable n.program n.tier n.max_pc ≤ n.max_pc
-spendable-le sizes n = omega (arith, spendable-within n.program n.tier n.max_pc (spendable n.program n.tier n.max_pc) (omega arith))
-
 small-base : (sizes : Lots) (lots : ℕ) → base_too_large Ask sizes lots ≡ false → lots * sizes.coin < 2 ^ 64
 small-base sizes lots not = grind (arith, nat_tests)
 
@@ -70,7 +60,7 @@ small-quote pc not = grind (arith, nat_tests)
 pub modest-order : (side : Side) (sizes : Lots) (n : NewOrder) → n.max_pc < 2 ^ 64 → n.matches < 2 ^ 16 → base_too_large side sizes n.lots ≡ false
     → IsModest side sizes (demand_of side sizes n)
 modest-order Bid sizes n max matches not = record {
-  budget = λ bid. omega (arith, budget-paid sizes n, spendable-le sizes n);
+  budget = λ bid. omega (arith, budget-paid sizes n, spendable-le n.program n.tier n.max_pc);
   lots = λ ask. absurd cc;
   matches = matches;
 }
@@ -85,7 +75,7 @@ lock-small Ask sizes n max not = small-base sizes n.lots not
 pub quote-small : (side : Side) (sizes : Lots) (n : NewOrder) (t : TakerTerms) (orders : List Order) → t.sizes ≡ sizes → n.max_pc < 2 ^ 64
     → quote_too_large side (meet side t (demand_of side sizes n) orders).pc ≡ false → (meet side t (demand_of side sizes n) orders).pc < 2 ^ 64
 quote-small Bid sizes n t orders same max not =
-    omega (arith, meet-budget t (demand_of Bid sizes n) orders, ap (λ (s : Lots). budget Bid sizes n * s.pc) same, budget-paid sizes n, spendable-le sizes n)
+    omega (arith, meet-budget t (demand_of Bid sizes n) orders, ap (λ (s : Lots). budget Bid sizes n * s.pc) same, budget-paid sizes n, spendable-le n.program n.tier n.max_pc)
 quote-small Ask sizes n t orders same max not = small-quote (meet Ask t (demand_of Ask sizes n) orders).pc not
 
 -- what rests, by what was foreseen
@@ -112,20 +102,6 @@ resting-fills side sizes n next orders small within tier =
       tier = tier;
     }
 
--- what can fill still can after one more was posted
-pub post-fills : (P : Order → Type 0) (side : Side) (room : ℕ) (order : Order) (orders : List Order) → P order → All P orders → All P (post side room order orders).side
-post-fills P side room order orders one all =
-    elim (cases_lt 0 order.lots) [
-      | inl some ↦
-          elim (cases_lt (length orders) room) [
-            | inl free ↦ subst (λ s. All P s) (sym (ap (λ p. p.side) (post-room side room order orders some free))) (All-posted P side order one orders all)
-            | inr full ↦
-                subst (λ s. All P s) (sym (ap (λ p. p.side) (post-full side room order orders some full)))
-                (All-posted P side order one (take (length orders - 1) orders) (All-take P (length orders - 1) orders all))
-          ]
-      | inr none ↦ subst (λ s. All P s) (sym (ap (λ p. p.side) (post-none side room order orders (omega arith)))) all
-    ]
-
 -- the market after a new order, part by part
 pub record HasTraded (side : Side) (sizes : Lots) (n : NewOrder) (met : Meeting) (own opposing own' opposing' : Book) (till till' : Till) : Type 0 where
   pub own_room : own'.room ≡ own.room
@@ -137,41 +113,27 @@ pub record HasTraded (side : Side) (sizes : Lots) (n : NewOrder) (met : Meeting)
       (with_fills (maker_fills met.events) (map entry_of till.accounts.items))
   pub takings_are : till'.takings ≡ till.takings + (fee_of n met - met.rebates)
 
-abbrev market-from : Side → Lots → ℕ → ℕ → List Order → List Order → ℕ → Worths → ℕ → Eager
-market-from side sizes own_room opposing_room own opposing next worths takings = record {
-  sizes = sizes;
-  bid_capacity = by_side side own_room opposing_room;
-  ask_capacity = by_side side opposing_room own_room;
-  bids = by_side side own opposing;
-  asks = by_side side opposing own;
-  next_sequence = next;
-  worths = worths;
-  takings = takings;
+-- markets whose parts are the same
+pub same-market : {one other : Eager} → one.sizes ≡ other.sizes → one.bid_capacity ≡ other.bid_capacity → one.ask_capacity ≡ other.ask_capacity → one.bids ≡ other.bids
+    → one.asks ≡ other.asks → one.next_sequence ≡ other.next_sequence → one.worths ≡ other.worths → one.takings ≡ other.takings → one ≡ other
+same-market sizes bid_room ask_room bids asks next worths takings = λ i. record {
+  sizes = sizes i;
+  bid_capacity = bid_room i;
+  ask_capacity = ask_room i;
+  bids = bids i;
+  asks = asks i;
+  next_sequence = next i;
+  worths = worths i;
+  takings = takings i;
 }
 
 pub order-left : (side : Side) (sizes : Lots) (n : NewOrder) (met : Meeting) (own opposing own' opposing' : Book) (till till' : Till)
     → HasTraded side sizes n met own opposing own' opposing' till till'
     → market_by side sizes own' opposing' till' ≡ after_new_order side n met (market_by side sizes own opposing till)
-order-left side sizes n met own opposing own' opposing' till till' has =
-    let posted : List Order = (post side own.room (resting side till.next_sequence 0 n (rested side sizes n met)) own.orders.items).side in
-    let paid : Worths = with_change n.owner (net (taker_gets side sizes met (fee_of n met)) (taker_pays side sizes met (fee_of n met)))
-    (with_fills (maker_fills met.events) (map entry_of till.accounts.items)) in
-    ap (λ (r : ℕ). market-from side sizes r opposing'.room own'.orders.items opposing'.orders.items till'.next_sequence (map entry_of till'.accounts.items) till'.takings) has.own_room
-    ∙ ap (λ (r : ℕ). market-from side sizes own.room r own'.orders.items opposing'.orders.items till'.next_sequence (map entry_of till'.accounts.items) till'.takings) has.opposing_room
-    ∙ ap (λ (o : List Order). market-from side sizes own.room opposing.room o opposing'.orders.items till'.next_sequence (map entry_of till'.accounts.items) till'.takings) has.own_is
-    ∙ ap (λ (o : List Order). market-from side sizes own.room opposing.room posted o till'.next_sequence (map entry_of till'.accounts.items) till'.takings) has.opposing_is
-    ∙ ap (λ (k : ℕ). market-from side sizes own.room opposing.room posted met.left k (map entry_of till'.accounts.items) till'.takings) has.next
-    ∙ ap (λ (w : Worths). market-from side sizes own.room opposing.room posted met.left (till.next_sequence + 1) w till'.takings) has.worths
-    ∙ ap (λ (k : ℕ). market-from side sizes own.room opposing.room posted met.left (till.next_sequence + 1) paid k) has.takings_are
-    ∙ by-side side
-  where
-    by-side : (s : Side)
-        → market-from s sizes own.room opposing.room (post s own.room (resting s till.next_sequence 0 n (rested s sizes n met)) own.orders.items).side met.left
-        (till.next_sequence + 1) (with_change n.owner (net (taker_gets s sizes met (fee_of n met)) (taker_pays s sizes met (fee_of n met)))
-        (with_fills (maker_fills met.events) (map entry_of till.accounts.items))) (till.takings + (fee_of n met - met.rebates))
-        ≡ after_new_order s n met (market_by s sizes own opposing till)
-    by-side Bid = refl
-    by-side Ask = refl
+order-left Bid sizes n met own opposing own' opposing' till till' has =
+    same-market refl has.own_room has.opposing_room has.own_is has.opposing_is has.next has.worths has.takings_are
+order-left Ask sizes n met own opposing own' opposing' till till' has =
+    same-market refl has.opposing_room has.own_room has.opposing_is has.own_is has.next has.worths has.takings_are
 
 -- the market after a take, part by part
 pub record HasMet (met : Meeting) (fee : ℕ) (opposing opposing' : Book) (till till' : Till) : Type 0 where
@@ -183,18 +145,8 @@ pub record HasMet (met : Meeting) (fee : ℕ) (opposing opposing' : Book) (till 
 
 pub take-left : (side : Side) (sizes : Lots) (fee : ℕ) (met : Meeting) (own opposing opposing' : Book) (till till' : Till) → HasMet met fee opposing opposing' till till'
     → market_by side sizes own opposing' till' ≡ after_meeting side met fee (market_by side sizes own opposing till)
-take-left side sizes fee met own opposing opposing' till till' has =
-    ap (λ (r : ℕ). market-from side sizes own.room r own.orders.items opposing'.orders.items till'.next_sequence (map entry_of till'.accounts.items) till'.takings) has.room
-    ∙ ap (λ (o : List Order). market-from side sizes own.room opposing.room own.orders.items o till'.next_sequence (map entry_of till'.accounts.items) till'.takings) has.left
-    ∙ ap (λ (k : ℕ). market-from side sizes own.room opposing.room own.orders.items met.left k (map entry_of till'.accounts.items) till'.takings) has.next
-    ∙ ap (λ (w : Worths). market-from side sizes own.room opposing.room own.orders.items met.left till.next_sequence w till'.takings) has.worths
-    ∙ ap (λ (k : ℕ). market-from side sizes own.room opposing.room own.orders.items met.left till.next_sequence (with_fills (maker_fills met.events) (map entry_of till.accounts.items)) k) has.takings_are
-    ∙ by-side side
-  where
-    by-side : (s : Side) → market-from s sizes own.room opposing.room own.orders.items met.left till.next_sequence (with_fills (maker_fills met.events) (map entry_of till.accounts.items))
-        (till.takings + (fee - met.rebates)) ≡ after_meeting s met fee (market_by s sizes own opposing till)
-    by-side Bid = refl
-    by-side Ask = refl
+take-left Bid sizes fee met own opposing opposing' till till' has = same-market refl refl has.room refl has.left has.next has.worths has.takings_are
+take-left Ask sizes fee met own opposing opposing' till till' has = same-market refl has.room refl has.left refl has.next has.worths has.takings_are
 
 -- ---- whether it changes anything
 
@@ -221,10 +173,6 @@ goes-on side pc next aborts small not =
     let parts = or_parts (quote_too_large side pc || eqb next (2 ^ 64 - 1)) aborts not in
     let first = or_parts (quote_too_large side pc) (eqb next (2 ^ 64 - 1)) parts.0 in
     (omega (arith, eqb-false next (2 ^ 64 - 1) first.1, small), first.0)
-  where
-    or_parts : (a b : Bool) → (a || b) ≡ false → (a ≡ false) × (b ≡ false)
-    or_parts true b not = absurd cc
-    or_parts false b not = (refl, not)
 
 -- an order that changes something
 pub order-moves : (side : Side) (n : NewOrder) (met : Meeting) (e : Eager) → (is_too_large side e.sizes n.lots met || eqb e.next_sequence (2 ^ 64 - 1) || is_some met.aborts) ≡ false
@@ -268,7 +216,7 @@ pub book-posted : (side : Side) (sizes : Lots) (book after : Book) (order : Orde
     → after.orders.items ≡ (post side book.room order book.orders.items).side → IsBook side sizes after
 book-posted side sizes book after order is can room reserved within posted = record {
   has_room = record { some = omega (arith, room, is.has_room.some); within = within; reserved = reserved };
-  can_fill = subst (All (CanFill side sizes)) (sym posted) (post-fills (CanFill side sizes) side book.room order book.orders.items can is.can_fill);
+  can_fill = subst (All (CanFill side sizes)) (sym posted) (All-post (CanFill side sizes) side book.room order book.orders.items (λ some. can) is.can_fill);
 }
 
 -- a side that lost an order
@@ -301,55 +249,11 @@ kept-more bound more s le kept = record {
 pub can-list : (bound : ℕ) (s : State) → IsKept bound s → CanList s
 can-list bound s kept = omega (arith, kept.listed, kept.bids.has_room.within, kept.asks.has_room.within)
 
--- the number of a tier is below 7
-pub tier-small : (tier : Tier) → tier_number tier < 7
-tier-small Base = omega arith
-tier-small Srm2 = omega arith
-tier-small Srm3 = omega arith
-tier-small Srm4 = omega arith
-tier-small Srm5 = omega arith
-tier-small Srm6 = omega arith
-tier-small Msrm = omega arith
-
 -- ---- what the code's terms meet is what the order, or the take, meets
 
-pub order-met : (sizes : Lots) (taker : Taker) (terms : MeetingTerms) (want : Want) (found items : List Order) → taking terms ≡ terms_of sizes (order_of taker)
-    → demand want ≡ demand_of taker.id_side sizes (order_of taker) → found ≡ items → meet taker.id_side (taking terms) (demand want) found ≡ order_meets sizes taker items
-order-met sizes taker terms want found items keeps wants are =
-    ap (λ (t : TakerTerms). meet taker.id_side t (demand want) found) keeps
-    ∙ ap (λ (w : Demand). meet taker.id_side (terms_of sizes (order_of taker)) w found) wants
-    ∙ ap (meet taker.id_side (terms_of sizes (order_of taker)) (demand_of taker.id_side sizes (order_of taker))) are
+pub same-met : (side : Side) {t t' : TakerTerms} {w w' : Demand} {orders orders' : List Order} → t ≡ t' → w ≡ w' → orders ≡ orders' → meet side t w orders ≡ meet side t' w' orders'
+same-met side terms wants are = λ i. meet side (terms i) (wants i) (are i)
 
-pub take-met : (sizes : Lots) (taker : Taker) (terms : MeetingTerms) (want : Want) (found items : List Order) → taking terms ≡ take_terms sizes (take_of taker 0 0)
-    → demand want ≡ demand_of taker.id_side sizes (order_of taker) → found ≡ items → meet taker.id_side (taking terms) (demand want) found ≡ take_meets sizes taker items
-take-met sizes taker terms want found items keeps wants are =
-    ap (λ (t : TakerTerms). meet taker.id_side t (demand want) found) keeps
-    ∙ ap (λ (w : Demand). meet taker.id_side (take_terms sizes (take_of taker 0 0)) w found) (wants ∙ sym (take-demand taker.id_side sizes taker))
-    ∙ ap (meet taker.id_side (take_terms sizes (take_of taker 0 0)) (take_demand taker.id_side sizes (take_of taker 0 0))) are
-
-pub seen-as : (sizes : Lots) (taker : Taker) (terms : MeetingTerms) (met meeting : Meeting) (found items : List Order) (foreseen : ListProspect) → terms.sizes ≡ sizes
-    → terms.limit_price ≡ taker.price → met ≡ meeting → found ≡ items → IsForeseen taker.id_side terms.sizes terms.limit_price found met foreseen
-    → IsForeseen taker.id_side sizes taker.price items meeting foreseen
-seen-as sizes taker terms met meeting found items foreseen size price is are seen =
-    subst (λ (m : Meeting). IsForeseen taker.id_side sizes taker.price items m foreseen) is
-    (subst (λ (os : List Order). IsForeseen taker.id_side sizes taker.price os met foreseen) are
-    (subst (λ (p : ℕ). IsForeseen taker.id_side sizes p found met foreseen) price
-    (subst (λ (s : Lots). IsForeseen taker.id_side s terms.limit_price found met foreseen) size seen)))
-
--- what was foreseen, where something was
-pub order-known : (sizes : Lots) (taker : Taker) (next : ℕ) (items : List Order) (found : Option ListProspect) (foreseen : ListProspect) → found ≡ Some foreseen
-    → IsOrderForeseen sizes taker next items found → IsOrderForeseen sizes taker next items (Some foreseen)
-order-known sizes taker next items found foreseen is known = subst (IsOrderForeseen sizes taker next items) is known
-
-pub take-known : (sizes : Lots) (taker : Taker) (items : List Order) (found : Option ListProspect) (foreseen : ListProspect) → found ≡ Some foreseen
-    → IsTakeForeseen sizes taker items found → IsTakeForeseen sizes taker items (Some foreseen)
-take-known sizes taker items found foreseen is known = subst (IsTakeForeseen sizes taker items) is known
-
--- and back
-pub seen-by : (sizes : Lots) (taker : Taker) (terms : MeetingTerms) (met meeting : Meeting) (items : List Order) (foreseen : ListProspect) → terms.sizes ≡ sizes
-    → terms.limit_price ≡ taker.price → met ≡ meeting → IsForeseen taker.id_side sizes taker.price items meeting foreseen
-    → IsForeseen taker.id_side terms.sizes terms.limit_price items met foreseen
-seen-by sizes taker terms met meeting items foreseen size price is seen =
-    subst (λ (s : Lots). IsForeseen taker.id_side s terms.limit_price items met foreseen) (sym size)
-    (subst (λ (p : ℕ). IsForeseen taker.id_side sizes p items met foreseen) (sym price)
-    (subst (λ (m : Meeting). IsForeseen taker.id_side sizes taker.price items m foreseen) (sym is) seen))
+pub same-foreseen : {side : Side} {sizes sizes' : Lots} {limit limit' : ℕ} {orders orders' : List Order} {met met' : Meeting} {foreseen : ListProspect} → sizes ≡ sizes'
+    → limit ≡ limit' → orders ≡ orders' → met ≡ met' → IsForeseen side sizes limit orders met foreseen → IsForeseen side sizes' limit' orders' met' foreseen
+same-foreseen sizes limit are met seen = rw (← sizes, ← limit, ← are, ← met) seen

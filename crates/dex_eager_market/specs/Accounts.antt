@@ -2,6 +2,8 @@
 use Rattle.std.specs.Prelude.{ℕ, pos, ◌+◌, ◌-ℤ◌, ◌≤◌, List, Option, Some, None, if◌then◌else◌}
 use Rattle.std.specs.List.{All}
 use Rattle.dex_types.specs.declared.addresses.Address.{Address}
+use Rattle.dex_types.specs.declared.terms.Side.{Side}
+use Rattle.dex_types.specs.declared.terms.Side.TheVariants.{Bid, Ask}
 use Rattle.dex_types.specs.Addresses.{is_same}
 use Rattle.dex_eager.specs.Worth.{Worth}
 use Rattle.dex_worth.specs.Amounts as amounts
@@ -39,6 +41,11 @@ IsWithin bound account = IsSmall bound account.total
 -- what came in for each account and was paid by it grows by this much at most
 abbrev pub Grows : ℕ → List Account → List Account → Type 0
 Grows more before after = (bound : ℕ) → All (IsWithin bound) before → All (IsWithin (bound + more)) after
+
+-- what a trade of so much base and quote changes for who buys the base (a bid), or sells it (an ask)
+abbrev pub traded : Side → ℕ → ℕ → Change
+traded Bid base pc = record { gained = record { coin = base; pc = 0 }; paid = record { coin = 0; pc = pc } }
+traded Ask base pc = record { gained = record { coin = 0; pc = pc }; paid = record { coin = base; pc = 0 } }
 
 -- both changes together
 abbrev pub both : Change → Change → Change

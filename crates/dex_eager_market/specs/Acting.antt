@@ -1,8 +1,8 @@
 -- The account that a row names first, and its new order.
-use Rattle.std.specs.Prelude.{List, [], ◌∷◌, Option, Some, None, if◌then◌else◌}
+use Rattle.std.specs.Prelude.{Option, Some, None}
 use Rattle.dex_types.specs.declared.addresses.Address.{Address}
 use Rattle.dex_types.specs.NewOrder.{NewOrder}
-use Rattle.dex_eager.specs.Eager.{Eager, EagerStep, Worths, has_account, unchanged}
+use Rattle.dex_eager.specs.Eager.{Eager, EagerStep, unchanged}
 use Rattle.dex_match.specs.declared.order_terms.Taker.{Taker}
 use Rattle.dex_match.specs.OrderTerms.{order_of}
 
@@ -10,12 +10,7 @@ use Rattle.dex_match.specs.OrderTerms.{order_of}
 abbrev pub order_for : Address → Taker → NewOrder
 order_for owner taker = record (order_of taker) { owner = owner }
 
--- the account that is named first, where it is one of these
-abbrev pub account_named : List Address → Worths → Option Address
-account_named [] worths = None
-account_named (owner ∷ others) worths = if has_account owner worths then Some owner else None
-
--- what that account does, if there is one
+-- what an account does, if there is one
 abbrev pub acted : (Address → EagerStep) → Eager → Option Address → EagerStep
 acted act e None = unchanged e
 acted act e (Some owner) = act owner

@@ -1,14 +1,15 @@
 -- What a taker would meet of a list of orders.
-use Rattle.std.specs.Prelude.{ℕ, ◌≡◌, ◌*◌, ◌^◌, ◌<◌, ◌≤◌, List, [], ◌∷◌, is_some, drop, length}
+use Rattle.std.specs.Prelude.{ℕ, ◌≡◌, ◌+◌, ◌*◌, ◌^◌, ◌<◌, ◌≤◌, List, [], ◌∷◌, is_some, drop, length}
 use Rattle.dex_types.specs.declared.orders.Order.{Order}
 use Rattle.dex_types.specs.declared.terms.Lots.{Lots}
 use Rattle.dex_types.specs.declared.terms.Side.{Side}
 use Rattle.dex_types.specs.declared.terms.Side.TheVariants.{Bid, Ask}
-use Rattle.dex_types.specs.Meeting.{Demand, Meeting, less}
+use Rattle.dex_types.specs.Meeting.{Demand, Meeting, TakerTerms, less, met_lots, met_pc, met_rebate}
 use Rattle.dex_types.specs.Owed.{order_lock}
 use Rattle.dex_types.specs.Posting.{still_crosses}
 use Rattle.dex_fills.specs.Taker.{demand}
 use Rattle.dex_eager_market.specs.declared.foreseeing.ListProspect.{ListProspect}
+use Rattle.dex_eager_market.specs.declared.foreseeing.Sums.{Sums}
 
 -- the fills of a resting order fit 64 bits, and it has the number of a tier
 pub record CanFill (side : Side) (sizes : Lots) (order : Order) : Type 0 where
@@ -20,6 +21,12 @@ pub record IsModest (side : Side) (sizes : Lots) (w : Demand) : Type 0 where
   pub budget : side ≡ Bid → w.budget * sizes.pc < 2 ^ 64
   pub lots : side ≡ Ask → w.lots * sizes.coin < 2 ^ 64
   pub matches : w.matches < 2 ^ 16
+
+-- the sums with what one more order moves that loses these lots
+pub record AddsOrder (t : TakerTerms) (order : Order) (lots : ℕ) (sums after : Sums) : Type 0 where
+  pub base : after.base ≡ sums.base + met_lots t order lots * t.sizes.coin
+  pub pc : after.pc ≡ sums.pc + met_pc t order lots
+  pub rebates : after.rebates ≡ sums.rebates + met_rebate t order lots
 
 -- the orders, of which the first has lost so many lots
 abbrev pub less_first : ℕ → List Order → List Order

@@ -1,5 +1,4 @@
 pub mod Accounts
-pub mod Fills
 pub mod Foreseen
 pub mod Listing
 pub mod States

@@ -1,5 +1,6 @@
 -- Resting orders with their sides.
 use Rattle.std.specs.Prelude.{Option, Some, None, if◌then◌else◌}
+use Rattle.std.specs.Option.{option_map}
 use Rattle.dex_types.specs.declared.addresses.Address.{Address}
 use Rattle.dex_types.specs.declared.orders.Order.{Order}
 use Rattle.dex_types.specs.declared.terms.Side.{Side}
@@ -13,8 +14,7 @@ resting_of resting = record { side = resting.side; order = resting.order }
 
 -- the resting order, if there is one
 abbrev pub resting_there : Option Resting → Option RestingOrder
-resting_there None = None
-resting_there (Some resting) = Some (resting_of resting)
+resting_there = option_map resting_of
 
 -- an order of this side that may be there, where it is the owner's
 abbrev pub own_resting : Address → Side → Option Order → Option RestingOrder

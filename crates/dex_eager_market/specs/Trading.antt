@@ -9,10 +9,12 @@ use Rattle.dex_types.specs.Meeting.{Meeting}
 use Rattle.dex_types.specs.NewOrder.{demand_of, full_lock}
 use Rattle.dex_types.specs.Posting.{affordable, can_rest}
 use Rattle.dex_eager.specs.Eager.{is_too_large}
+use Rattle.dex_fills.specs.declared.fills.Fill.{Fill}
 use Rattle.dex_match.specs.declared.order_terms.Taker.{Taker}
 use Rattle.dex_match.specs.OrderTerms.{meeting_with as order_met, order_of}
 use Rattle.dex_take.specs.TakeTerms.{meeting_with as take_met}
 use Rattle.dex_eager_market.specs.declared.accounts.Change.{Change}
+use Rattle.dex_eager_market.specs.Accounts.{traded}
 use Rattle.dex_eager_market.specs.declared.foreseeing.ListProspect.{ListProspect}
 use Rattle.dex_eager_market.specs.Foreseen.{IsForeseen, IsModest}
 
@@ -29,14 +31,14 @@ quote_too_large Ask pc = nat_le (2 ^ 64) pc
 -- what a taker of so much base and quote gets and pays: a bid gets base and pays quote and the fee, an ask pays base
 -- and gets quote less the fee
 abbrev pub taker_change : Side → ℕ → ℕ → ℕ → Change
-taker_change Bid base pc fee = record {
-  gained = record { coin = base; pc = 0 };
-  paid = record { coin = 0; pc = pc + fee };
-}
-taker_change Ask base pc fee = record {
-  gained = record { coin = 0; pc = pc - fee };
-  paid = record { coin = base; pc = 0 };
-}
+taker_change Bid base pc fee = traded Bid base (pc + fee)
+taker_change Ask base pc fee = traded Ask base (pc - fee)
+
+-- what a fill of the taker's side changes for the maker: an ask pays base and gets quote and the rebate, a bid gets
+-- base and pays quote less the rebate
+abbrev pub maker_change : Side → Fill → Change
+maker_change Bid fill = traded Ask fill.base (fill.pc + fill.rebate)
+maker_change Ask fill = traded Bid fill.base (fill.pc - fill.rebate)
 
 -- the lots that rest of an order, where so much of a bid's lock is left
 abbrev pub rested_by : Side → Lots → OrderType → ℕ → Bool → ℕ → ℕ → ℕ

@@ -6,7 +6,7 @@ ghost use Rattle.dex_eager.specs.Eager as eager;
 ghost use Rattle.dex_eager_market.specs.Accounts.{AreUpTo};
 ghost use Rattle.dex_eager_market.specs.Accounts as book;
 
-use dex_types::{Address, is_same};
+use dex_types::{Address, Side, is_same};
 use dex_worth::amounts::TokenAmounts;
 
 /// What came in for an account, and what it paid, in native units.
@@ -21,6 +21,22 @@ pub struct Change {
 pub struct Account {
     pub address: Address,
     pub total: Change,
+}
+
+/// What a trade of so much base and quote changes for who buys the base (a bid), or sells it (an ask).
+pub fn traded(side: Side, base: u128, pc: u128) -> Change
+    ensures { result ≡ book.traded side base pc }
+{
+    match side {
+        Side::Bid => Change {
+            gained: TokenAmounts { coin: base, pc: 0 },
+            paid: TokenAmounts { coin: 0, pc },
+        },
+        Side::Ask => Change {
+            gained: TokenAmounts { coin: 0, pc },
+            paid: TokenAmounts { coin: base, pc: 0 },
+        },
+    }
 }
 
 /// Both together.
@@ -39,7 +55,7 @@ fn sum(one: TokenAmounts, other: TokenAmounts) -> TokenAmounts
 fn changed(account: Account, owner: Address, change: Change) -> Account
     requires account { book.IsWithin (2 ^ 126) account }
     requires change { book.IsSmall (2 ^ 126) change }
-    ensures value { result ≡ book.changed owner change account }
+    ensures { result ≡ book.changed owner change account }
 {
     if is_same(account.address, owner) {
         Account {
@@ -55,13 +71,10 @@ fn changed(account: Account, owner: Address, change: Change) -> Account
 }
 
 /// Changes what the owner's account gained and paid.
-pub fn change_worth(accounts: &mut [Account], owner: Address, change: Change)
+fn change_worth(accounts: &mut [Account], owner: Address, change: Change)
     requires accounts { All (book.IsWithin (2 ^ 126)) accounts.old }
     requires change { book.IsSmall (2 ^ 126) change }
-    ensures worths { map book.entry_of accounts.new
-        ≡ eager.with_change owner (book.worth_of change) (map book.entry_of accounts.old) }
-    ensures within { (bound more : ℕ) → All (book.IsWithin bound) accounts.old → book.IsSmall more change
-        → All (book.IsWithin (bound + more)) accounts.new }
+    ensures { accounts.new ≡ map (book.changed owner change) accounts.old }
 {
     for place in 0..accounts.len() {
         accounts[place] = changed(accounts[place], owner, change);

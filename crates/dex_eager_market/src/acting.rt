@@ -1,6 +1,6 @@
 //! What an instruction does.
 
-ghost use Rattle.std.specs.Prelude.{◌≡◌, ℕ, ◌+◌, ◌^◌, ◌≤◌, map};
+ghost use Rattle.std.specs.Prelude.{◌≡◌, ℕ, ◌+◌, ◌^◌, map};
 ghost use Rattle.dex_types.specs.declared.addresses.Address.{Address as AddressOf};
 ghost use Rattle.dex_eager.specs.Eager as eager;
 ghost use Rattle.dex_history.specs.Journal.{request_of};
@@ -34,9 +34,10 @@ fn has_account(accounts: &[Account], owner: Address) -> bool
     false
 }
 
-/// The account that a row names first, where it is one of the market's.
+/// The account that a row names first, where it is one of the market's: what it does is what is done by the row.
 fn acting(state: &State, named: &[Address]) -> Option<Address>
-    ensures { result ≡ acts.account_named named.now (map entry_of state.now.till.accounts.items) }
+    ensures { (act : AddressOf → eager.EagerStep) → eager.by_account act (eager_of state.now) named.now
+        ≡ acts.acted act (eager_of state.now) result }
 {
     if named.is_empty() {
         return None;

@@ -6,7 +6,7 @@ ghost use Rattle.dex_fills.specs.Taker.{demand, met_by, taking};
 ghost use Rattle.dex_types.specs.declared.orders.Order.{Order as OrderOf};
 ghost use Rattle.dex_types.specs.Meeting as meeting;
 ghost use Rattle.dex_types.specs.Side as book;
-ghost use Rattle.dex_eager_market.specs.Foreseen.{CanFill, IsForeseen, IsModest};
+ghost use Rattle.dex_eager_market.specs.Foreseen.{AddsOrder, CanFill, IsForeseen, IsModest};
 
 use dex_fills::fills::{Fill, fill_met, want_after};
 use dex_fills::prices::{crosses, price_of};
@@ -52,31 +52,6 @@ fn sums_with(sums: Sums, fill: Fill) -> Sums
     }
 }
 
-/// A taker that has met nothing.
-fn unmet(want: Want) -> ListProspect
-    ensures { result ≡ record {
-      want = want;
-      sums = record { base = 0; pc = 0; rebates = 0 };
-      gone = 0;
-      part = 0;
-      crosses = false;
-      aborts = false;
-    } }
-{
-    ListProspect {
-        want,
-        sums: Sums {
-            base: 0,
-            pc: 0,
-            rebates: 0,
-        },
-        gone: 0,
-        part: 0,
-        crosses: false,
-        aborts: false,
-    }
-}
-
 /// What is foreseen of a taker that goes no further, with this best order left, which has lost this part.
 fn ended(
     side: Side,
@@ -119,9 +94,7 @@ fn foreseen_with(
 
     // The taker wants less, and the sums are greater by what the order moves.
     ensures want { demand result.want ≡ meeting.demand_after side (taking taker) (demand met.want) order lots }
-    ensures base { result.sums.base ≡ met.sums.base + meeting.met_lots (taking taker) order lots * taker.sizes.coin }
-    ensures pc { result.sums.pc ≡ met.sums.pc + meeting.met_pc (taking taker) order lots }
-    ensures rebates { result.sums.rebates ≡ met.sums.rebates + meeting.met_rebate (taking taker) order lots }
+    ensures adds { AddsOrder (taking taker) order lots met.sums result.sums }
     ensures small { result.sums.rebates ≤ met.sums.rebates + meeting.met_pc (taking taker) order lots }
 
     // Nothing else changes.
@@ -147,7 +120,18 @@ pub fn foresee(side: Side, taker: MeetingTerms, want: Want, orders: &[Order]) ->
     ensures base { result.sums.base < 2 ^ 81 }
     ensures pc { result.sums.pc < 2 ^ 81 }
 {
-    let mut met = unmet(want);
+    let mut met = ListProspect {
+        want,
+        sums: Sums {
+            base: 0,
+            pc: 0,
+            rebates: 0,
+        },
+        gone: 0,
+        part: 0,
+        crosses: false,
+        aborts: false,
+    };
     'orders: while met.gone < orders.len() {
         let order = orders[met.gone];
         let lots = taken(side, taker, met.want, order);

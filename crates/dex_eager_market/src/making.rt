@@ -1,8 +1,9 @@
 //! The state of a market that pays at once, of a market's accounts.
 
-ghost use Rattle.std.specs.Prelude.{◌≡◌, ◌+◌, ◌^◌, ◌<◌, ◌≤◌, ◌++◌, [], ◌∷◌, length, map, IfOk, OnOk};
+ghost use Rattle.std.specs.Prelude.{◌≡◌, ◌+◌, ◌^◌, ◌<◌, ◌≤◌, length, map, IfOk};
 ghost use Rattle.std.specs.Vec.{vec_capacity};
 ghost use Rattle.dex_types.specs.declared.account_bytes.OrdersAccount.{OrdersAccount as OrdersAccountOf};
+ghost use Rattle.dex_types.specs.declared.addresses.Address.{Address as AddressOf};
 ghost use Rattle.dex_types.specs.Accounts.{market_accounts_of};
 ghost use Rattle.dex_accounts.specs.Accepted.{IsAccepted};
 ghost use Rattle.dex_accounts.specs.Decoded.{market_in};
@@ -12,6 +13,8 @@ ghost use Rattle.dex_market.specs.MarketAccount.{market_words, sizes_of};
 ghost use Rattle.dex_market.specs.RequestQueue.{next_sequence};
 ghost use Rattle.dex_slab.specs.Slab.{IsSlab, room_in};
 ghost use Rattle.dex_types.specs.Soundness.{IsSound};
+ghost use Rattle.dex_worth.specs.declared.amounts.TokenAmounts.{TokenAmounts as AmountsOf};
+ghost use Rattle.dex_worth.specs.Amounts.{AreSums};
 ghost use Rattle.dex_eager_market.specs.Making as made;
 ghost use Rattle.dex_eager_market.specs.States.{IsKept, eager_of};
 
@@ -26,33 +29,19 @@ use dex_worth::amounts::{NONE, TokenAmounts};
 use dex_worth::holdings::held_of;
 use std::alloc::Global;
 
-/// Puts an item after the others.
-fn push<T: Copy>(list: &mut Vec<T>, item: T) -> Result<(), NoMemory>
-    ensures items { OnOk result (list.new.items ≡ list.old.items ++ item ∷ []) }
-    ensures capacity { OnOk result (vec_capacity list.old ≤ vec_capacity list.new) }
-{
-    match list.push(item) {
-        Ok(()) => Ok(()),
-        Err(_) => Err(NoMemory),
-    }
-}
-
 /// A side with these orders, all in slot 0, and room for this many, all reserved here.
 fn book_of(alloc: Global, room: u32, orders: &[Order]) -> Result<Book, NoMemory>
     ensures room { IfOk result (λ book. book.room ≡ room) }
     ensures reserved { IfOk result (λ book. room ≤ vec_capacity book.orders) }
     ensures orders { IfOk result (λ book. book.orders.items ≡ without_slots orders.now) }
 {
-    let mut all = match Vec::with_capacity(alloc, room as usize) {
-        Ok(all) => all,
-        Err(_) => return Err(NoMemory),
-    };
+    let mut all = Vec::with_capacity(alloc, room as usize)?;
     for place in 0..orders.len() {
         let order = Order {
             slot: 0,
             ..orders[place]
         };
-        push(&mut all, order)?;
+        all.push(order)?;
     }
     Ok(Book { room, orders: all })
 }
@@ -64,7 +53,7 @@ fn owners_of(alloc: Global, accounts: &[OrdersAccount]) -> Result<Vec<Address>, 
 {
     let mut owners = Vec::new(alloc);
     for place in 0..accounts.len() {
-        push(&mut owners, accounts[place].address)?;
+        owners.push(accounts[place].address)?;
     }
     Ok(owners)
 }
@@ -76,7 +65,8 @@ fn accounts_of(
     held: &[TokenAmounts],
 ) -> Result<Vec<Account>, NoMemory>
     requires { length held.now ≡ length owners.now }
-    ensures { IfOk result (λ accounts. accounts.items ≡ made.accounts_with owners.now held.now) }
+    ensures { IfOk result (λ accounts. (amounts : AddressOf → AmountsOf) → AreSums amounts owners.now held.now
+        → accounts.items ≡ map (made.account_of amounts) owners.now) }
 {
     let mut accounts = Vec::new(alloc);
     for place in 0..owners.len() {
@@ -85,7 +75,7 @@ fn accounts_of(
             paid: NONE,
         };
         let address = owners[place];
-        push(&mut accounts, Account { address, total })?;
+        accounts.push(Account { address, total })?;
     }
     Ok(accounts)
 }
@@ -137,10 +127,8 @@ fn room_of(bytes: &[u8], side: Side) -> u32
 fn list_with(alloc: Global, bids: u32, asks: u32) -> Result<Vec<Resting>, NoMemory>
     ensures { IfOk result (λ list. bids + asks ≤ vec_capacity list) }
 {
-    match Vec::with_capacity(alloc, bids as usize + asks as usize) {
-        Ok(list) => Ok(list),
-        Err(_) => Err(NoMemory),
-    }
+    let list = Vec::with_capacity(alloc, bids as usize + asks as usize)?;
+    Ok(list)
 }
 
 /// The accounts of a market, each with what the market holds for it.

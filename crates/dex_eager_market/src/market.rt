@@ -1,6 +1,6 @@
 //! A market that pays each fill at once, row by row.
 
-ghost use Rattle.std.specs.Prelude.{◌≡◌, ◌+◌, ◌-ℤ◌, ◌^◌, ◌<◌, ◌≤◌, pos, List, map, IfOk, MatchOption, None, Some};
+ghost use Rattle.std.specs.Prelude.{◌≡◌, ◌+◌, ◌-ℤ◌, ◌^◌, ◌<◌, ◌≤◌, pos, map, IfOk, None, Some};
 ghost use Rattle.std.specs.List.{All};
 ghost use Rattle.dex_types.specs.Accounts.{market_accounts_of};
 ghost use Rattle.dex_types.specs.Rows.{row_of};
@@ -9,7 +9,6 @@ ghost use Rattle.dex_accounts.specs.Decoded.{AreSound, market_in};
 ghost use Rattle.dex_eager.specs.Eager.{eager_step, worth_at};
 ghost use Rattle.dex_eager.specs.Histories.{eager_start};
 ghost use Rattle.dex_history.specs.Journal.{request_of};
-ghost use Rattle.dex_eager_market.specs.Accounts.{AreUpTo};
 ghost use Rattle.dex_worth.specs.Rows.{plain_worth};
 ghost use Rattle.dex_eager_market.specs.Accounts as book;
 

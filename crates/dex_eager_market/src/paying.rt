@@ -1,6 +1,6 @@
 //! Makers are paid as they are met.
 
-ghost use Rattle.std.specs.Prelude.{◌≡◌, ℕ, ◌+◌, ◌*◌, ◌^◌, ◌<◌, ◌≤◌, map};
+ghost use Rattle.std.specs.Prelude.{◌≡◌, ◌+◌, ◌*◌, ◌^◌, ◌<◌, ◌≤◌, map};
 ghost use Rattle.std.specs.List.{All};
 ghost use Rattle.dex_eager.specs.Eager.{with_fills};
 ghost use Rattle.dex_eager.specs.Slots.{maker_fills};
@@ -8,15 +8,14 @@ ghost use Rattle.dex_fills.specs.Taker.{demand, met_by, taking};
 ghost use Rattle.dex_types.specs.Meeting as meeting;
 ghost use Rattle.dex_types.specs.Side as book;
 ghost use Rattle.dex_eager_market.specs.Accounts.{Grows, IsSmall, IsWithin, entry_of};
-ghost use Rattle.dex_eager_market.specs.Fills.{maker_change};
+ghost use Rattle.dex_eager_market.specs.Trading.{maker_change};
 ghost use Rattle.dex_eager_market.specs.Foreseen.{CanFill, IsModest};
 
-use crate::accounts::{Account, Change, add};
+use crate::accounts::{Account, Change, add, traded};
 use dex_fills::fills::{Fill, fill_met, want_after};
 use dex_fills::taking::{is_own, taken};
 use dex_fills::{MeetingTerms, Want};
 use dex_types::{Order, Side};
-use dex_worth::amounts::TokenAmounts;
 
 /// What a fill of the taker's side changes for the maker: an ask pays base and gets quote and the rebate, a bid gets
 /// base and pays quote less the rebate.
@@ -29,20 +28,8 @@ fn maker_change(side: Side, fill: Fill) -> Change
     let pc = u128::from(fill.pc);
     let rebate = u128::from(fill.rebate);
     match side {
-        Side::Bid => Change {
-            gained: TokenAmounts {
-                coin: 0,
-                pc: pc + rebate,
-            },
-            paid: TokenAmounts { coin: base, pc: 0 },
-        },
-        Side::Ask => Change {
-            gained: TokenAmounts { coin: base, pc: 0 },
-            paid: TokenAmounts {
-                coin: 0,
-                pc: pc - rebate,
-            },
-        },
+        Side::Bid => traded(Side::Ask, base, pc + rebate),
+        Side::Ask => traded(Side::Bid, base, pc - rebate),
     }
 }
 

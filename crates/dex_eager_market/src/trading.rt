@@ -11,12 +11,12 @@ ghost use Rattle.dex_types.specs.NewOrder as orders;
 ghost use Rattle.dex_types.specs.Side as book;
 ghost use Rattle.dex_types.specs.Take as takes;
 ghost use Rattle.dex_eager_market.specs.Accounts.{Grows, IsSmall, IsWithin, entry_of};
-ghost use Rattle.dex_eager_market.specs.Foreseen.{CanFill, IsForeseen, IsModest};
+ghost use Rattle.dex_eager_market.specs.Foreseen.{IsForeseen, IsModest};
 ghost use Rattle.dex_eager_market.specs.States.{IsBook, IsTill, StaysBook, TillGrows, market_by};
 ghost use Rattle.dex_eager_market.specs.Trading as trading;
 ghost use Rattle.dex_eager_market.specs.declared.states.Book.{Book as BookOf};
 
-use crate::accounts::{Account, Change, add};
+use crate::accounts::{Account, Change, add, traded};
 use crate::book_list::{post, take_front};
 use crate::foreseeing::{ListProspect, Sums, foresee};
 use crate::paying::pay_makers;
@@ -28,7 +28,6 @@ use dex_fills::{MeetingTerms, Want};
 use dex_match::{Taker, terms_of, want_of};
 use dex_take::take_terms;
 use dex_types::{Lots, Order, Side};
-use dex_worth::amounts::TokenAmounts;
 
 /// The least amount that 64 bits do not hold.
 const TOO_LARGE: u128 = 0x1_0000_0000_0000_0000;
@@ -95,20 +94,8 @@ fn taker_change(side: Side, base: u128, pc: u64, fee: u64) -> Change
     let pc = u128::from(pc);
     let fee = u128::from(fee);
     match side {
-        Side::Bid => Change {
-            gained: TokenAmounts { coin: base, pc: 0 },
-            paid: TokenAmounts {
-                coin: 0,
-                pc: pc + fee,
-            },
-        },
-        Side::Ask => Change {
-            gained: TokenAmounts {
-                coin: 0,
-                pc: pc.saturating_sub(fee),
-            },
-            paid: TokenAmounts { coin: base, pc: 0 },
-        },
+        Side::Bid => traded(Side::Bid, base, pc + fee),
+        Side::Ask => traded(Side::Ask, base, pc.saturating_sub(fee)),
     }
 }
 

@@ -1,11 +1,12 @@
 use Rattle.std.proofs.Common.{ℕ, suc, List, Option, ◌≡◌, ◌∙◌, ◌+◌, length, map, min, slice_get, take, ap, sym, arith}
 use Rattle.std.proofs.lemmas.List.{length-map, take_min}
+use Rattle.std.proofs.lemmas.Option.{slice_get-map}
 use Rattle.dex_types.specs.Cancel.{RestingOrder, all_orders_of, at_most_one}
 use Rattle.dex_eager.specs.Eager.{Eager, without_all}
 use Rattle.dex_eager_market.specs.declared.listing.Resting.{Resting}
 use Rattle.dex_eager_market.specs.Listing.{resting_of, resting_there}
 use Rattle.dex_eager_market.specs.States.{eager_of}
-use Rattle.dex_eager_market.proofs.Cancels.{all-next, listed-at}
+use Rattle.dex_eager_market.proofs.Cancels.{all-next}
 use Rattle.dex_eager_market.proofs.cancelling.cancel_first.Goals as goal
 
 pub loop-place-init : goal.loop-place-init
@@ -18,7 +19,7 @@ loop-place-preserved c =
     let place = c.loop-place.place in
     let found = c.resting_at-found.result in
     let found_is : resting_there found ≡ slice_get all place =
-    ap resting_there (c.resting_at-found.ensures ∙ ap (λ (l : List Resting). slice_get l place) c.deref.ensures.value) ∙ listed-at c.loop-place.state.listed.items place
+    ap resting_there (c.resting_at-found.ensures ∙ ap (λ (l : List Resting). slice_get l place) c.deref.ensures.value) ∙ sym (slice_get-map resting_of c.loop-place.state.listed.items place)
     ∙ ap (λ (l : List RestingOrder). slice_get l place) c.loop-place.invariant.listed in
     let next : suc place ≡ place + 1 = omega arith in
     record {

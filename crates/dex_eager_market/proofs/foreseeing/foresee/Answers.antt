@@ -1,5 +1,5 @@
-use Rattle.std.proofs.Common.{ℕ, ◌≡◌, ◌∙◌, ◌+◌, drop, get_or, refl, sym, ap, subst, arith}
-use Rattle.std.proofs.lemmas.List.{drop_more}
+use Rattle.std.proofs.Common.{ℕ, ◌≡◌, ◌<◌, ◌∙◌, ◌+◌, [], ◌∷◌, drop, get_or, refl, sym, ap, subst, arith}
+use Rattle.std.proofs.lemmas.List.{drop_all, drop_more}
 use Rattle.std.proofs.lemmas.List.Elements.{All-get_or}
 use Rattle.dex_types.specs.declared.orders.Order.{Order}
 use Rattle.dex_types.specs.Meeting.{Demand, less, meet}
@@ -7,38 +7,41 @@ use Rattle.dex_types.specs.Side.{opposite}
 use Rattle.dex_fills.specs.Taker.{taking, demand}
 use Rattle.dex_eager_market.specs.declared.foreseeing.Sums.{Sums}
 use Rattle.dex_eager_market.specs.Foreseen.{CanFill, IsModest, less_first}
-use Rattle.dex_eager_market.proofs.Ends.{foreseen-all, foreseen-ended, left-less, left-same}
-use Rattle.dex_eager_market.proofs.Meetings.{AddsOrder, FitsOrder, carried-more, carried-same, carried-start, fits-order, meets-none, meets-part, meets-whole, no_order, none-left}
+use Rattle.dex_eager_market.proofs.Ends.{foreseen-ended, left-less, left-same}
+use Rattle.dex_eager_market.proofs.Meetings.{FitsOrder, IsCarried, carried-more, carried-start, fits-order, meets-none, meets-part, meets-whole, no_order}
 use Rattle.dex_eager_market.proofs.foreseeing.foresee.Goals as goal
+use Rattle.dex_eager_market.proofs.foreseeing.foresee.Goals.{After-taken-lots}
 
 pub orders-init : goal.orders-init
-orders-init c =
-    rw c.unmet-met.ensures (record {
-      carried = carried-start _ _;
-      modest = c.requires.modest;
-      matches = omega arith;
-      base = omega arith;
-      pc = omega arith;
-      rebates = omega arith;
-      within = omega arith;
-      part = refl;
-      crosses = refl;
-      aborts = refl;
-    })
+orders-init c = record {
+  carried = carried-start _ _;
+  modest = c.requires.modest;
+  matches = omega arith;
+  base = omega arith;
+  pc = omega arith;
+  rebates = omega arith;
+  within = omega arith;
+  part = refl;
+  crosses = refl;
+  aborts = refl;
+}
+
+-- what the next order moves fits, where it is met
+fits : (c : After-taken-lots) → 0 < c.taken-lots.result
+    → FitsOrder c.args.side (taking c.args.taker) (demand c.orders.met.want) (get_or c.args.orders.now c.orders.met.gone no_order) c.taken-lots.result
+fits c some =
+    fits-order c.args.side (taking c.args.taker) (demand c.orders.met.want) (get_or c.args.orders.now c.orders.met.gone no_order) c.taken-lots.result c.orders.invariant.modest
+    (All-get_or (CanFill (opposite c.args.side) c.args.taker.sizes) c.args.orders.now c.orders.met.gone no_order (omega arith) c.requires.orders) c.taken-lots.ensures some
 
 pub foreseen_with-met-requires-clause-tier : goal.foreseen_with-met-requires-clause-tier
 foreseen_with-met-requires-clause-tier c =
     (All-get_or (CanFill (opposite c.args.side) c.args.taker.sizes) c.args.orders.now c.orders.met.gone no_order (omega arith) c.requires.orders).tier
 
 pub foreseen_with-met-requires-clause-base : goal.foreseen_with-met-requires-clause-base
-foreseen_with-met-requires-clause-base c =
-    let can = All-get_or (CanFill (opposite c.args.side) c.args.taker.sizes) c.args.orders.now c.orders.met.gone no_order (omega arith) c.requires.orders in
-    (fits-order c.args.side (taking c.args.taker) (demand c.orders.met.want) (get_or c.args.orders.now c.orders.met.gone no_order) c.taken-lots.result c.orders.invariant.modest can c.taken-lots.ensures (omega arith)).base
+foreseen_with-met-requires-clause-base c = (fits (goal.at.foreseen_with-met-requires-clause-base c).After-taken-lots (omega arith)).base
 
 pub foreseen_with-met-requires-clause-pc : goal.foreseen_with-met-requires-clause-pc
-foreseen_with-met-requires-clause-pc c =
-    let can = All-get_or (CanFill (opposite c.args.side) c.args.taker.sizes) c.args.orders.now c.orders.met.gone no_order (omega arith) c.requires.orders in
-    (fits-order c.args.side (taking c.args.taker) (demand c.orders.met.want) (get_or c.args.orders.now c.orders.met.gone no_order) c.taken-lots.result c.orders.invariant.modest can c.taken-lots.ensures (omega arith)).pc
+foreseen_with-met-requires-clause-pc c = (fits (goal.at.foreseen_with-met-requires-clause-pc c).After-taken-lots (omega arith)).pc
 
 pub returns-then-lots-eq0-clause-foreseen : goal.returns-then-lots-eq0-clause-foreseen
 returns-then-lots-eq0-clause-foreseen c =
@@ -47,7 +50,7 @@ returns-then-lots-eq0-clause-foreseen c =
     let gone = c.orders.met.gone in
     let on = drop_more orders gone no_order (omega arith) in
     let ended = meets-none c.args.side t (demand c.orders.met.want) orders gone (get_or c.args.orders.now c.orders.met.gone no_order) c.taken-lots.result on c.taken-lots.ensures c.if-lots-eq0.true in
-    foreseen-ended c.args.side t c.args.taker.limit_price orders _ _ c.orders.met (get_or c.args.orders.now c.orders.met.gone no_order) (drop (gone + 1) orders) c.ended.result c.orders.invariant.carried ended
+    foreseen-ended c.args.side t c.args.taker.limit_price orders _ _ c.orders.met (get_or c.args.orders.now c.orders.met.gone no_order ∷ drop (gone + 1) orders) c.ended.result c.orders.invariant.carried ended
     (left-same orders gone (get_or c.args.orders.now c.orders.met.gone no_order) (drop (gone + 1) orders) c.ended.result.gone c.ended.result.part c.ended.ensures.gone c.ended.ensures.part on)
     (omega (arith, c.ended.ensures.gone, c.orders.invariant.within))
     c.ended.ensures.want c.ended.ensures.sums c.ended.ensures.crosses (c.ended.ensures.aborts (drop (gone + 1) orders))
@@ -63,10 +66,9 @@ returns-then-lots-order-clause-foreseen c =
     let on = drop_more orders gone no_order (omega arith) in
     let first = meets-part c.args.side t (demand c.orders.met.want) (demand c.foreseen_with-met.result.want) orders gone order lots on c.taken-lots.ensures (omega arith) c.if-lots-order.true
     c.foreseen_with-met.ensures.want in
-    let adds : AddsOrder t order lots c.orders.met.sums c.foreseen_with-met.result.sums =
-    record { base = c.foreseen_with-met.ensures.base; pc = c.foreseen_with-met.ensures.pc; rebates = c.foreseen_with-met.ensures.rebates } in
-    let carried = carried-more c.args.side t order lots _ _ _ c.orders.met.sums c.foreseen_with-met.result.sums c.orders.invariant.carried first adds in
-    foreseen-ended c.args.side t c.args.taker.limit_price orders _ _ c.foreseen_with-met.result (less order lots) others c.ended-then-lots-order.result carried refl
+    let carried = carried-more c.args.side t order lots _ _ _ c.orders.met.sums c.foreseen_with-met.result.sums c.orders.invariant.carried first
+    c.foreseen_with-met.ensures.adds in
+    foreseen-ended c.args.side t c.args.taker.limit_price orders _ _ c.foreseen_with-met.result (less order lots ∷ others) c.ended-then-lots-order.result carried refl
     (left-less orders gone order others lots c.ended-then-lots-order.result.gone c.ended-then-lots-order.result.part
     (c.ended-then-lots-order.ensures.gone ∙ c.foreseen_with-met.ensures.gone) c.ended-then-lots-order.ensures.part on)
     (omega (arith, c.ended-then-lots-order.ensures.gone, c.foreseen_with-met.ensures.gone, c.orders.invariant.within))
@@ -80,24 +82,21 @@ orders-preserved c =
     let lots = c.taken-lots.result in
     let order : Order = (get_or c.args.orders.now c.orders.met.gone no_order) in
     let now = c.foreseen_with-met.result in
-    let can = All-get_or (CanFill (opposite c.args.side) c.args.taker.sizes) orders gone no_order (omega arith) c.requires.orders in
-    let fits : FitsOrder c.args.side t (demand c.orders.met.want) order lots =
-    fits-order c.args.side t (demand c.orders.met.want) order lots c.orders.invariant.modest can c.taken-lots.ensures (omega arith) in
+    let here = fits (goal.at.orders-preserved c).After-taken-lots (omega arith) in
     let on = drop_more orders gone no_order (omega arith) in
     let first = meets-whole c.args.side t (demand c.orders.met.want) (demand now.want) orders gone order lots on c.taken-lots.ensures (omega arith) c.if-lots-order.false
     c.foreseen_with-met.ensures.want in
-    let adds : AddsOrder t order lots c.orders.met.sums now.sums =
-    record { base = c.foreseen_with-met.ensures.base; pc = c.foreseen_with-met.ensures.pc; rebates = c.foreseen_with-met.ensures.rebates } in
-    let carried = carried-more c.args.side t order lots _ _ _ c.orders.met.sums now.sums c.orders.invariant.carried first adds in
+    let carried = carried-more c.args.side t order lots _ _ _ c.orders.met.sums now.sums c.orders.invariant.carried first c.foreseen_with-met.ensures.adds in
     let next : gone + 1 ≡ now.gone + 1 = omega (arith, c.foreseen_with-met.ensures.gone) in
-    let matches : now.want.matches + 1 ≡ c.orders.met.want.matches = omega (arith, fits.matches, ap (λ (d : Demand). d.matches) c.foreseen_with-met.ensures.want) in
+    let matches : now.want.matches + 1 ≡ c.orders.met.want.matches = omega (arith, here.matches, ap (λ (d : Demand). d.matches) c.foreseen_with-met.ensures.want) in
     record {
-      carried = carried-same _ _ _ _ now.sums (ap (λ (n : ℕ). meet c.args.side t (demand now.want) (drop n orders)) next) carried;
-      modest = subst (IsModest c.args.side c.args.taker.sizes) (sym c.foreseen_with-met.ensures.want) fits.modest;
+      carried = subst (λ (n : ℕ). IsCarried c.args.taker.sizes.coin (meet c.args.side t (demand c.args.want) orders) (meet c.args.side t (demand now.want) (drop n orders)) now.sums) next
+          carried;
+      modest = subst (IsModest c.args.side c.args.taker.sizes) (sym c.foreseen_with-met.ensures.want) here.modest;
       matches = omega (arith, matches, c.orders.invariant.matches);
-      base = omega (arith, matches, c.orders.invariant.matches, c.orders.invariant.base, c.foreseen_with-met.ensures.base, fits.base);
-      pc = omega (arith, matches, c.orders.invariant.matches, c.orders.invariant.pc, c.foreseen_with-met.ensures.pc, fits.pc);
-      rebates = omega (arith, matches, c.orders.invariant.matches, c.orders.invariant.rebates, c.foreseen_with-met.ensures.small, fits.pc);
+      base = omega (arith, matches, c.orders.invariant.matches, c.orders.invariant.base, c.foreseen_with-met.ensures.adds.base, here.base);
+      pc = omega (arith, matches, c.orders.invariant.matches, c.orders.invariant.pc, c.foreseen_with-met.ensures.adds.pc, here.pc);
+      rebates = omega (arith, matches, c.orders.invariant.matches, c.orders.invariant.rebates, c.foreseen_with-met.ensures.small, here.pc);
       within = omega (arith, c.foreseen_with-met.ensures.gone);
       part = c.foreseen_with-met.ensures.part ∙ c.orders.invariant.part;
       crosses = c.foreseen_with-met.ensures.crosses ∙ c.orders.invariant.crosses;
@@ -109,9 +108,9 @@ returns-clause-foreseen c =
     let t = taking c.args.taker in
     let orders = c.args.orders.now in
     let gone = c.orders.met.gone in
-    let none = none-left orders gone (omega arith) in
-    foreseen-all c.args.side t c.args.taker.limit_price orders _ _ c.orders.met c.orders.invariant.carried (ap (meet c.args.side t (demand c.orders.met.want)) none)
-    (ap (less_first c.orders.met.part) none) c.orders.invariant.within c.orders.invariant.crosses c.orders.invariant.aborts
+    let none = drop_all gone orders (omega arith) in
+    foreseen-ended c.args.side t c.args.taker.limit_price orders _ _ c.orders.met [] c.orders.met c.orders.invariant.carried (ap (meet c.args.side t (demand c.orders.met.want)) none)
+    (ap (less_first c.orders.met.part) none) c.orders.invariant.within refl refl c.orders.invariant.crosses c.orders.invariant.aborts
 
 pub foreseen_with-met-requires-clause-base_sum : goal.foreseen_with-met-requires-clause-base_sum
 foreseen_with-met-requires-clause-base_sum c = omega (arith, c.orders.invariant.base, c.requires.modest.matches)
@@ -130,15 +129,13 @@ returns-then-lots-eq0-clause-pc c = omega (arith, ap (λ (s : Sums). s.pc) c.end
 
 pub returns-then-lots-order-clause-base : goal.returns-then-lots-order-clause-base
 returns-then-lots-order-clause-base c =
-    let can = All-get_or (CanFill (opposite c.args.side) c.args.taker.sizes) c.args.orders.now c.orders.met.gone no_order (omega arith) c.requires.orders in
-    let fits = fits-order c.args.side (taking c.args.taker) (demand c.orders.met.want) (get_or c.args.orders.now c.orders.met.gone no_order) c.taken-lots.result c.orders.invariant.modest can c.taken-lots.ensures (omega arith) in
-    omega (arith, ap (λ (s : Sums). s.base) c.ended-then-lots-order.ensures.sums, c.foreseen_with-met.ensures.base, fits.base, c.orders.invariant.base, c.requires.modest.matches)
+    let here = fits (goal.at.returns-then-lots-order-clause-base c).After-taken-lots (omega arith) in
+    omega (arith, ap (λ (s : Sums). s.base) c.ended-then-lots-order.ensures.sums, c.foreseen_with-met.ensures.adds.base, here.base, c.orders.invariant.base, c.requires.modest.matches)
 
 pub returns-then-lots-order-clause-pc : goal.returns-then-lots-order-clause-pc
 returns-then-lots-order-clause-pc c =
-    let can = All-get_or (CanFill (opposite c.args.side) c.args.taker.sizes) c.args.orders.now c.orders.met.gone no_order (omega arith) c.requires.orders in
-    let fits = fits-order c.args.side (taking c.args.taker) (demand c.orders.met.want) (get_or c.args.orders.now c.orders.met.gone no_order) c.taken-lots.result c.orders.invariant.modest can c.taken-lots.ensures (omega arith) in
-    omega (arith, ap (λ (s : Sums). s.pc) c.ended-then-lots-order.ensures.sums, c.foreseen_with-met.ensures.pc, fits.pc, c.orders.invariant.pc, c.requires.modest.matches)
+    let here = fits (goal.at.returns-then-lots-order-clause-pc c).After-taken-lots (omega arith) in
+    omega (arith, ap (λ (s : Sums). s.pc) c.ended-then-lots-order.ensures.sums, c.foreseen_with-met.ensures.adds.pc, here.pc, c.orders.invariant.pc, c.requires.modest.matches)
 
 pub returns-clause-base : goal.returns-clause-base
 returns-clause-base c = omega (arith, c.orders.invariant.base, c.requires.modest.matches)

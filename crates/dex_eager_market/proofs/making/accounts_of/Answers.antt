@@ -1,27 +1,22 @@
-use Rattle.std.proofs.Common.{ℕ, List, suc, ◌≡◌, ◌∙◌, ◌∷◌, [], ◌+◌, ◌++◌, get_or, take, take_all, ap, sym, arith}
+use Rattle.std.proofs.Common.{ℕ, List, ◌≡◌, ◌∙◌, ◌∷◌, [], ◌++◌, get_or, map, take_all, ap, sym, arith}
+use Rattle.std.proofs.lemmas.List.{get_or-map, map_more}
 use Rattle.dex_types.specs.declared.addresses.Address.{Address}
 use Rattle.dex_worth.specs.declared.amounts.TokenAmounts.{TokenAmounts}
-use Rattle.dex_worth.specs.Amounts.{none}
-use Rattle.dex_eager_market.specs.declared.accounts.Account.{Account}
-use Rattle.dex_eager_market.specs.Making.{account_with, accounts_with}
+use Rattle.dex_worth.specs.Amounts.{capped_amounts, none}
+use Rattle.dex_eager_market.specs.Making.{account_of}
 use Rattle.dex_eager_market.proofs.Acts.{no_address}
-use Rattle.dex_eager_market.proofs.Starts.{accounts-more}
 use Rattle.dex_eager_market.proofs.making.accounts_of.Goals as goal
 
 pub loop-place-preserved : goal.loop-place-preserved
-loop-place-preserved c =
+loop-place-preserved c = λ amounts are.
     let place : ℕ = c.loop-place.place in
     let owners : List Address = c.args.owners.now in
-    let held : List TokenAmounts = c.args.held.now in
-    let next : suc place ≡ place + 1 = omega arith in
+    let here : get_or c.args.held.now place none ≡ capped_amounts (amounts (get_or owners place no_address)) =
+    ap (λ (all : List TokenAmounts). get_or all place none) are ∙ get_or-map (λ (of : Address). capped_amounts (amounts of)) owners place no_address none (omega arith) in
     c.in_ok-push.ensures.items
-    ∙ ap (λ (l : List Account). l ++ account_with (get_or owners place no_address) (get_or held place none) ∷ []) c.loop-place.invariant
-    ∙ sym (accounts-more owners held place no_address none (omega arith) c.requires)
-    ∙ ap (λ (n : ℕ). accounts_with (take n owners) (take n held)) next
+    ∙ (λ i. c.loop-place.invariant amounts are i ++ record { address = get_or owners place no_address; total = record { gained = here i; paid = none } } ∷ [])
+    ∙ sym (map_more (account_of amounts) owners place no_address (omega arith))
 
 pub returns : goal.returns
-returns c =
-    let place : ℕ = c.loop-place.place in
-    let owners : List Address = c.args.owners.now in
-    c.loop-place.invariant ∙ ap (λ (l : List Address). accounts_with l (take place c.args.held.now)) (take_all place owners (omega arith))
-    ∙ ap (accounts_with owners) (take_all place c.args.held.now (omega (arith, c.requires)))
+returns c = λ amounts are.
+    c.loop-place.invariant amounts are ∙ ap (map (account_of amounts)) (take_all c.loop-place.place c.args.owners.now (omega arith))

@@ -1,6 +1,6 @@
 use Rattle.std.proofs.Common.{List, ◌∙◌, ◌∷◌, [], ◌++◌, get_or, take_all, ap, sym, arith}
+use Rattle.std.proofs.lemmas.List.{map_more}
 use Rattle.dex_types.specs.declared.orders.Order.{Order}
-use Rattle.dex_worth.proofs.Lists.{map-more}
 use Rattle.dex_eager.specs.Slots.{without_slot, without_slots}
 use Rattle.dex_eager_market.proofs.Meetings.{no_order}
 use Rattle.dex_eager_market.proofs.making.book_of.Goals as goal
@@ -11,7 +11,7 @@ loop-place-preserved c =
     let order : Order = get_or orders c.loop-place.place no_order in
     record {
       orders = c.in_ok-push.ensures.items ∙ ap (λ (l : List Order). l ++ without_slot order ∷ []) c.loop-place.invariant.orders
-          ∙ sym (map-more without_slot orders c.loop-place.place no_order (omega arith));
+          ∙ sym (map_more without_slot orders c.loop-place.place no_order (omega arith));
       reserved = omega (arith, c.in_ok-push.ensures.capacity, c.loop-place.invariant.reserved);
     }
 

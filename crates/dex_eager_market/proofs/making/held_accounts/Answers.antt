@@ -1,6 +1,7 @@
 use Rattle.std.proofs.Common.{List, ◌≡◌, ◌∙◌, length, map, ap, sym}
 use Rattle.std.proofs.lemmas.List.{length-map}
 use Rattle.std.proofs.lemmas.Result.{IfOk-weaker}
+use Rattle.std.proofs.lemmas.Simd.{map-map}
 use Rattle.dex_types.specs.declared.account_bytes.OrdersAccount.{OrdersAccount}
 use Rattle.dex_types.specs.declared.addresses.Address.{Address}
 use Rattle.dex_types.specs.Accounts.{market_accounts_of}
@@ -10,8 +11,7 @@ use Rattle.dex_worth.specs.declared.amounts.TokenAmounts.{TokenAmounts}
 use Rattle.dex_worth.specs.Amounts.{AreSums, capped_amounts}
 use Rattle.dex_worth.specs.Holdings.{held_amounts}
 use Rattle.dex_worth.proofs.Markets.{owners-are}
-use Rattle.dex_eager_market.specs.Making.{accounts_with, held_accounts}
-use Rattle.dex_eager_market.proofs.Starts.{accounts-made}
+use Rattle.dex_eager_market.specs.Making.{account_of}
 use Rattle.dex_eager_market.proofs.making.held_accounts.Goals as goal
 
 pub accounts_of-requires : goal.accounts_of-requires
@@ -33,5 +33,6 @@ returns c =
     let same : c.deref-2.result.now ≡ owners = c.deref-2.ensures.value ∙ sym c.deref-3.ensures.value in
     let are : AreSums (held_amounts m) owners held =
     c.deref-4.ensures.value ∙ c.in_ok-held.ensures ∙ ap (map (λ (owner : Address). capped_amounts (held_amounts m owner))) same in
-    IfOk-weaker c.accounts_of.result (λ accounts. accounts.items ≡ accounts_with owners held) (λ accounts. accounts.items ≡ held_accounts m)
-    (λ accounts is. is ∙ accounts-made m owners held named are) c.accounts_of.ensures
+    IfOk-weaker c.accounts_of.result _ _
+    (λ accounts is. is (held_amounts m) are ∙ ap (map (account_of (held_amounts m))) named ∙ map-map (account_of (held_amounts m)) (λ (entry : Address × Trader). entry.0) m.traders)
+    c.accounts_of.ensures

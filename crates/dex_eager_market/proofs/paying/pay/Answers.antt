@@ -3,7 +3,7 @@ use Rattle.dex_eager.specs.Eager.{with_change}
 use Rattle.dex_fills.specs.Taker.{taking}
 use Rattle.dex_eager_market.specs.declared.accounts.Change.{Change}
 use Rattle.dex_eager_market.specs.Accounts.{entry_of, worth_of}
-use Rattle.dex_eager_market.specs.Fills.{maker_change}
+use Rattle.dex_eager_market.specs.Trading.{maker_change}
 use Rattle.dex_eager_market.proofs.Changes.{all-more, small-more}
 use Rattle.dex_eager_market.proofs.Pays.{pays-other, pays-own}
 use Rattle.dex_eager_market.proofs.paying.pay.Goals as goal

@@ -5,12 +5,12 @@ use Rattle.dex_types.specs.NewOrder.{demand_of}
 use Rattle.dex_types.specs.Side.{opposite}
 use Rattle.dex_types.specs.Take.{take_terms}
 use Rattle.dex_match.specs.OrderTerms.{order_of}
-use Rattle.dex_fills.specs.Taker.{demand, taking}
 use Rattle.dex_take.specs.TakeTerms.{meeting_with, take_of}
-use Rattle.dex_eager_market.specs.Foreseen.{CanFill}
+use Rattle.dex_eager_market.specs.Foreseen.{CanFill, IsForeseen}
 use Rattle.dex_eager_market.specs.Trading.{quote_too_large}
-use Rattle.dex_eager_market.proofs.Trades.{take-met, seen-as, lock-small, modest-order, quote-small, take-demand, take-stops, take-too-large}
+use Rattle.dex_eager_market.proofs.Trades.{lock-small, modest-order, quote-small, same-foreseen, same-met, take-demand, take-stops, take-too-large}
 use Rattle.dex_eager_market.proofs.trading.foresee_take.Goals as goal
+use Rattle.dex_eager_market.proofs.trading.foresee_take.Goals.{After-foresee-foreseen}
 
 pub returns-then-base_too_large : goal.returns-then-base_too_large
 returns-then-base_too_large c =
@@ -26,14 +26,20 @@ pub foresee-foreseen-requires-clause-orders : goal.foresee-foreseen-requires-cla
 foresee-foreseen-requires-clause-orders c =
     rw c.take_terms-terms.ensures.sizes (subst (All (CanFill (opposite c.args.taker.id_side) c.args.sizes)) (sym c.deref.ensures.value) c.requires.can_fill)
 
+-- what was foreseen is what the take meets
+reached : (c : After-foresee-foreseen)
+    → IsForeseen c.args.taker.id_side c.args.sizes c.args.taker.price c.args.opposing.now.orders.items (meeting_with c.args.sizes c.args.taker c.args.opposing.now.orders.items)
+    c.foresee-foreseen.result
+reached c =
+    same-foreseen c.take_terms-terms.ensures.sizes c.take_terms-terms.ensures.limit c.deref.ensures.value
+    (same-met c.args.taker.id_side c.take_terms-terms.ensures.keeps (c.want_of.ensures ∙ sym (take-demand c.args.taker.id_side c.args.sizes c.args.taker)) c.deref.ensures.value)
+    c.foresee-foreseen.ensures.foreseen
+
 pub returns-then-quote_too_large : goal.returns-then-quote_too_large
 returns-then-quote_too_large c =
     take-stops c.args.taker.id_side c.args.sizes c.args.taker.lots c.foresee-foreseen.result.sums.pc (meeting_with c.args.sizes c.args.taker c.args.opposing.now.orders.items)
-    (sym c.base_too_large.ensures ∙ c.if-base_too_large.false) (seen-as c.args.sizes c.args.taker c.take_terms-terms.result (meet c.args.taker.id_side (taking c.take_terms-terms.result) (demand c.want_of.result) c.deref.result.now)
-    (meeting_with c.args.sizes c.args.taker c.args.opposing.now.orders.items) c.deref.result.now c.args.opposing.now.orders.items c.foresee-foreseen.result
-    c.take_terms-terms.ensures.sizes c.take_terms-terms.ensures.limit
-    (take-met c.args.sizes c.args.taker c.take_terms-terms.result c.want_of.result c.deref.result.now c.args.opposing.now.orders.items c.take_terms-terms.ensures.keeps c.want_of.ensures c.deref.ensures.value)
-    c.deref.ensures.value c.foresee-foreseen.ensures.foreseen).pc ∙ sym c.quote_too_large.ensures ∙ c.if-quote_too_large.true
+    (sym c.base_too_large.ensures ∙ c.if-base_too_large.false) (reached (goal.at.returns-then-quote_too_large c).After-foresee-foreseen).pc
+    ∙ sym c.quote_too_large.ensures ∙ c.if-quote_too_large.true
 
 pub returns : goal.returns
 returns c =
@@ -44,17 +50,13 @@ returns c =
     let met : Meeting = meeting_with c.args.sizes c.args.taker items in
     let same : met ≡ meet side t (demand_of side c.args.sizes n) items = ap (λ (w : Demand). meet side t w items) (take-demand side c.args.sizes c.args.taker) in
     let foreseen = c.foresee-foreseen.result in
-    let reached = seen-as c.args.sizes c.args.taker c.take_terms-terms.result (meet c.args.taker.id_side (taking c.take_terms-terms.result) (demand c.want_of.result) c.deref.result.now)
-    (meeting_with c.args.sizes c.args.taker c.args.opposing.now.orders.items) c.deref.result.now c.args.opposing.now.orders.items c.foresee-foreseen.result
-    c.take_terms-terms.ensures.sizes c.take_terms-terms.ensures.limit
-    (take-met c.args.sizes c.args.taker c.take_terms-terms.result c.want_of.result c.deref.result.now c.args.opposing.now.orders.items c.take_terms-terms.ensures.keeps c.want_of.ensures c.deref.ensures.value)
-    c.deref.ensures.value c.foresee-foreseen.ensures.foreseen in
+    let here = reached (goal.at.returns c).After-foresee-foreseen in
     let small = sym c.base_too_large.ensures ∙ c.if-base_too_large.false in
     let free = sym c.quote_too_large.ensures ∙ c.if-quote_too_large.false in
-    let pc_is : foreseen.sums.pc ≡ (meet side t (demand_of side c.args.sizes n) items).pc = reached.pc ∙ ap (λ (m : Meeting). m.pc) same in (
-      take-stops side c.args.sizes c.args.taker.lots foreseen.sums.pc met small reached.pc ∙ free,
+    let pc_is : foreseen.sums.pc ≡ (meet side t (demand_of side c.args.sizes n) items).pc = here.pc ∙ ap (λ (m : Meeting). m.pc) same in (
+      take-stops side c.args.sizes c.args.taker.lots foreseen.sums.pc met small here.pc ∙ free,
       record {
-        reached = reached;
+        reached = here;
         modest = modest-order side c.args.sizes n (omega arith) (omega arith) small;
         lock = lock-small side c.args.sizes n (omega arith) small;
         base = c.foresee-foreseen.ensures.base;

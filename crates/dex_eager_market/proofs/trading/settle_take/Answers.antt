@@ -1,4 +1,4 @@
-use Rattle.std.proofs.Common.{ℕ, ◌≡◌, ◌∙◌, ◌+◌, ◌-◌, ◌^◌, map, refl, ap, arith}
+use Rattle.std.proofs.Common.{ℕ, ◌≡◌, ◌∙◌, ◌+◌, ◌-◌, ◌^◌, map, refl, sym, ap, arith}
 use Rattle.dex_types.specs.Fees.{taker_fee}
 use Rattle.dex_types.specs.Meeting.{Meeting, meet}
 use Rattle.dex_types.specs.Take.{take_fee}
@@ -8,8 +8,9 @@ use Rattle.dex_fills.specs.Taker.{demand, taking}
 use Rattle.dex_take.specs.TakeTerms.{meeting_with, take_of}
 use Rattle.dex_eager_market.specs.Accounts.{entry_of}
 use Rattle.dex_eager_market.proofs.Changes.{all-more}
-use Rattle.dex_eager_market.proofs.Trades.{seen-by, take-left, take-met}
+use Rattle.dex_eager_market.proofs.Trades.{same-foreseen, same-met, take-demand, take-left}
 use Rattle.dex_eager_market.proofs.trading.settle_take.Goals as goal
+use Rattle.dex_eager_market.proofs.trading.settle_take.Goals.{After-want_of-want}
 
 pub meet_book-requires-clause-modest : goal.meet_book-requires-clause-modest
 meet_book-requires-clause-modest c = rw c.take_terms-terms.ensures.sizes rw c.want_of-want.ensures c.requires.trade.modest
@@ -20,21 +21,22 @@ meet_book-requires-clause-book c = rw c.take_terms-terms.ensures.sizes c.require
 pub meet_book-requires-clause-accounts : goal.meet_book-requires-clause-accounts
 meet_book-requires-clause-accounts c = all-more (2 ^ 124) (2 ^ 125) c.args.till.now.accounts.items (omega arith) c.requires.till.accounts
 
+-- what the code's terms meet is what the take meets
+met-is : (c : After-want_of-want) → meet c.args.taker.id_side (taking c.take_terms-terms.result) (demand c.want_of-want.result) c.args.opposing.now.orders.items
+    ≡ meeting_with c.args.sizes c.args.taker c.args.opposing.now.orders.items
+met-is c =
+    same-met c.args.taker.id_side c.take_terms-terms.ensures.keeps (c.want_of-want.ensures ∙ sym (take-demand c.args.taker.id_side c.args.sizes c.args.taker)) refl
+
 pub meet_book-requires-clause-foreseen : goal.meet_book-requires-clause-foreseen
 meet_book-requires-clause-foreseen c =
-    seen-by c.args.sizes c.args.taker c.take_terms-terms.result
-    (meet c.args.taker.id_side (taking c.take_terms-terms.result) (demand c.want_of-want.result) c.args.opposing.now.orders.items)
-    (meeting_with c.args.sizes c.args.taker c.args.opposing.now.orders.items) c.args.opposing.now.orders.items c.args.foreseen.now
-    c.take_terms-terms.ensures.sizes c.take_terms-terms.ensures.limit
-    (take-met c.args.sizes c.args.taker c.take_terms-terms.result c.want_of-want.result c.args.opposing.now.orders.items c.args.opposing.now.orders.items c.take_terms-terms.ensures.keeps c.want_of-want.ensures refl)
+    same-foreseen (sym c.take_terms-terms.ensures.sizes) (sym c.take_terms-terms.ensures.limit) refl (sym (met-is (goal.at.meet_book-requires-clause-foreseen c).After-want_of-want))
     c.requires.trade.reached
 
 pub returns-clause-market : goal.returns-clause-market
 returns-clause-market c = λ own.
     let t = take_of c.args.taker 0 0 in
     let met : Meeting = meeting_with c.args.sizes c.args.taker c.args.opposing.now.orders.items in
-    let met_is =
-    take-met c.args.sizes c.args.taker c.take_terms-terms.result c.want_of-want.result c.args.opposing.now.orders.items c.args.opposing.now.orders.items c.take_terms-terms.ensures.keeps c.want_of-want.ensures refl in
+    let met_is = met-is (goal.at.returns-clause-market c).After-want_of-want in
     let fee_is : c.taker_fee-fee.result ≡ take_fee t met =
     c.taker_fee-fee.ensures.value ∙ ap (taker_fee c.args.taker.program c.args.taker.tier) (c.narrow.ensures ∙ c.requires.trade.reached.pc) in
     take-left c.args.taker.id_side c.args.sizes (take_fee t met) met own c.args.opposing.now c.meet_book.new.opposing c.args.till.now
