@@ -10,7 +10,7 @@ use Rattle.dex_types.specs.declared.terms.Side.{Side}
 use Rattle.dex_types.specs.declared.terms.Side.TheVariants.{Bid, Ask}
 use Rattle.dex_types.specs.Meeting.{TakerTerms, Meeting, aborts_at, less, met_none}
 use Rattle.dex_types.specs.Posting.{still_crosses}
-use Rattle.dex_types.specs.Side.{crosses, price_of}
+use Rattle.dex_types.specs.Side.{price_of}
 use Rattle.dex_fills.specs.Taker.{demand}
 use Rattle.dex_eager_market.specs.declared.foreseeing.ListProspect.{ListProspect}
 use Rattle.dex_eager_market.specs.Foreseen.{CanFill, IsForeseen, left_by, less_first}

@@ -24,7 +24,6 @@ use Rattle.dex_laws.proofs.IdLaws.{price_of-id_of}
 use Rattle.dex_laws.proofs.SpendLaws.{rested-paid}
 use Rattle.dex_match.specs.declared.order_terms.Taker.{Taker}
 use Rattle.dex_match.specs.OrderTerms.{order_of}
-use Rattle.dex_fills.specs.Taker.{demand}
 use Rattle.dex_sound.specs.Exchange.{taker_gets, taker_pays}
 use Rattle.dex_take.specs.TakeTerms.{meeting_with as take_meets, take_of}
 use Rattle.dex_eager.specs.Eager.{Eager, EagerStep, after_meeting, after_new_order, is_too_large, order_by, take_by, with_change, with_fills}
