@@ -19,7 +19,7 @@ use Rattle.dex_script_types.specs.Places.{ArePlaced, IsBeside, IsPlaced}
 use Rattle.dex_script_types.proofs.FoundLaws.{wallets-same}
 use Rattle.dex_script.specs.Drafts.{PlainDraft}
 use Rattle.dex_script.specs.Names.{IsReading, market_among, wallet_among}
-use Rattle.dex_script.specs.Pieces.{AreAlike, HaveSamePlaces, IsUnderway, bare, bare_market, bare_wallet, beside, joined, number_after}
+use Rattle.dex_script.specs.Pieces.{AreAlike, HaveSamePlaces, IsReadyBehind, IsUnderway, bare, bare_market, bare_wallet, beside, joined, number_after}
 use Rattle.dex_script.specs.Rows.{exceeds_row, instruction_row, is_bad_swap, is_full, is_unknown, with_clock, with_instruction, with_item, with_known, with_legs, with_row, with_statement, with_swap, with_two}
 use Rattle.dex_script.specs.Scripts.{Refusal, draft_after, fault_in}
 use Rattle.dex_script.proofs.FaultLaws.{bind-ok, differ, ok-same, or-none}
@@ -174,7 +174,7 @@ rows-joined draft number piece last (fields ∷ rows) alike is room =
     (ap (λ (r : Result PlainDraft FaultKind). fault_in number r >>= λ d. draft_after d (next_number number) rows) step.is ∙ others.0, others.1)
 
 -- markets and wallets stand at the same places without their accounts
-pub bare-same : (start : PlainAccounts) → HaveSamePlaces (bare start) start
+bare-same : (start : PlainAccounts) → HaveSamePlaces (bare start) start
 bare-same start = record {
   markets = λ address.
       let test : PlainMarketAccounts → Bool = λ market. is_same address market.address in
@@ -184,33 +184,31 @@ bare-same start = record {
       position_from-zero test (map bare_wallet start.wallets) ∙ position-map test bare_wallet 0 start.wallets ∙ sym (position_from-zero test start.wallets);
 }
 
-pub alike-self : (draft : PlainDraft) → IsUnderway draft → AreAlike draft draft
-alike-self draft under = record {
-  draft_underway = under;
-  piece_underway = under;
-  batch = refl;
-  limits = refl;
-  places = record { markets = λ address. refl; wallets = λ address. refl };
+-- a reader beside a script is ready for its rows, where their clock is right
+pub beside-ready : (draft : PlainDraft) (clock : ℤ) → IsUnderway draft → clock ≡ draft.clock → IsReadyBehind draft (beside draft clock)
+beside-ready draft clock under same = record {
+  alike = record {
+    draft_underway = under;
+    piece_underway = record { late = refl; first = refl };
+    batch = refl;
+    limits = refl;
+    places = bare-same draft.script.start;
+  };
+  rows = refl;
+  lanes = refl;
+  items = refl;
+  clock = same;
+  program = refl;
 }
 
-alike-beside : (draft other : PlainDraft) (clock : ℤ) → AreAlike draft other → AreAlike draft (beside other clock)
-alike-beside draft other clock alike =
-    let bare = bare-same other.script.start in
-    alike-next draft other (beside other clock) alike (record { late = refl; first = refl }) refl refl
-    (record {
-      markets = λ address. bare.markets address ∙ alike.places.markets address;
-      wallets = λ address. bare.wallets address ∙ alike.places.wallets address;
-    })
-
--- rows that are read beside a script, or beside one like it, are read after it, where their clock is right and there is
--- room
-pub read-behind : (draft other : PlainDraft) (clock : ℤ) (number : ℕ) (rows : List Fields) (piece : PlainDraft) → AreAlike draft other → clock ≡ draft.clock
-    → draft_after (beside other clock) number rows ≡ Ok piece → draft.items + piece.items ≤ draft.script.limits.items
+-- rows that a ready reader reads are read after the script, where there is room
+pub read-behind : (draft none : PlainDraft) (number : ℕ) (rows : List Fields) (piece : PlainDraft) → IsReadyBehind draft none
+    → draft_after none number rows ≡ Ok piece → draft.items + piece.items ≤ draft.script.limits.items
     → (draft_after draft number rows ≡ Ok (joined draft piece)) × AreAlike draft piece
-read-behind draft other clock number rows piece alike same is room =
-    let none = beside other clock in
-    let read = rows-joined draft number none piece rows (alike-beside draft other clock alike) is room in
-    (ap (λ (d : PlainDraft). draft_after d number rows) (sym (joined-none draft alike.draft_underway none refl refl refl same)) ∙ read.0, read.1)
+read-behind draft none number rows piece ready is room =
+    let same = joined-none draft ready.alike.draft_underway none ready.rows ready.lanes ready.items ready.clock in
+    let read = rows-joined draft number none piece rows ready.alike is room in
+    (ap (λ (d : PlainDraft). draft_after d number rows) (sym same) ∙ read.0, read.1)
 
 -- ---- what stays behind an instruction row
 

@@ -72,6 +72,15 @@ pub record AreAlike (draft piece : PlainDraft) : Type 0 where
   pub limits : piece.script.limits ≡ draft.script.limits
   pub places : HaveSamePlaces piece.script.start draft.script.start
 
+-- no row of a piece was read yet: the rows behind the script may be
+pub record IsReadyBehind (draft piece : PlainDraft) : Type 0 where
+  pub alike : AreAlike draft piece
+  pub rows : piece.script.rows ≡ []
+  pub lanes : piece.script.lanes ≡ 0
+  pub items : piece.items ≡ 0
+  pub clock : piece.clock ≡ draft.clock
+  pub program : piece.script.program ≡ draft.script.program
+
 -- the script with the rows of a piece after its own
 abbrev pub joined : PlainDraft → PlainDraft → PlainDraft
 joined draft piece = record draft {
@@ -86,3 +95,7 @@ joined draft piece = record draft {
 -- the rows of a piece, as a script that starts with these accounts
 abbrev pub part_of : PlainDraft → PlainAccounts → PlainScript
 part_of piece start = record piece.script { start = start; lanes = max 1 piece.script.lanes }
+
+-- the piece, when its rows are taken out
+abbrev pub cleared : PlainDraft → PlainDraft
+cleared piece = record piece { script = record piece.script { rows = []; lanes = 0 }; items = 0 }

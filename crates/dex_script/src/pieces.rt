@@ -78,24 +78,35 @@ impl Reader {
         piece.draft.items <= most && self.draft.items <= most - piece.draft.items
     }
 
-    /// The rows that were read, as a script that starts with other accounts of the same markets and wallets. No row is
-    /// moved.
-    pub fn into_script_of(self, start: Accounts) -> Result<Script, NoMemory>
+    /// The rows that were read, as a script that starts with other accounts of the same markets and wallets; and this
+    /// reader without them, for the rows behind. No row is moved, and the names stay.
+    pub fn into_part(self, alloc: Global, start: Accounts) -> Result<(Script, Reader), NoMemory>
         requires script { IsScript (spec.part_of self (accounts_of start)) }
         requires places { spec.HaveSamePlaces self.script.start (accounts_of start) }
-        ensures { IfOk result (λ script. script ≡ spec.part_of self (accounts_of start)) }
+        ensures script { IfOk result (λ both. both.0 ≡ spec.part_of self (accounts_of start)) }
+        ensures reader { IfOk result (λ both. both.1 ≡ spec.cleared self) }
     {
-        let draft = self.draft;
+        let mut draft = self.draft;
         let mut rows = draft.before;
         rows.push_piece(draft.rows)?;
-        Ok(Script {
+        let script = Script {
             start,
             rows,
             places: self.places,
             lanes: draft.lanes.max(1),
             program: draft.program,
             limits: draft.limits,
-        })
+        };
+        draft.before = RowList::new(alloc);
+        draft.rows = Vec::new(alloc);
+        draft.lanes = 0;
+        draft.items = 0;
+        let reader = Reader {
+            draft,
+            places: Vec::new(alloc),
+            names: self.names,
+        };
+        Ok((script, reader))
     }
 
     /// What is read with the rows of a piece after, which name the same markets and wallets. No row is moved.

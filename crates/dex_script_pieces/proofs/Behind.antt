@@ -13,7 +13,7 @@ use Rattle.dex_script.specs.Drafts.{PlainDraft}
 use Rattle.dex_script.specs.Pieces.{AreAlike, IsUnderway, beside, joined, number_after}
 use Rattle.dex_script.specs.Scripts.{Refusal, draft_after}
 use Rattle.dex_script.specs.Telling.{TellsDraft, TellsRefusal}
-use Rattle.dex_script.proofs.PieceLaws.{Stays, after-both, alike-self, behind-both, number-both, read-behind, stays-behind}
+use Rattle.dex_script.proofs.PieceLaws.{Stays, after-both, behind-both, beside-ready, number-both, read-behind, stays-behind}
 use Rattle.dex_script_pieces.specs.Pieces.{HasRead, IsBeside, IsNext, ReadsPiece, rows_of}
 use Rattle.dex_script_pieces.specs.declared.piece.Piece.{Piece}
 
@@ -83,7 +83,7 @@ pub next-read : (draft : PlainDraft) (number : ℕ) (piece : Piece) (read : Plai
     → IsNext draft number piece → (draft_after draft number piece.rows ≡ Ok (joined draft read)) × AreAlike draft read
 next-read draft number piece read under has is (at, clock, room) =
     subst (λ (n : ℕ). (draft_after draft n piece.rows ≡ Ok (joined draft read)) × AreAlike draft read) at
-    (read-behind draft draft piece.clock piece.number piece.rows read (alike-self draft under) clock (read-of draft piece read has is).0
+    (read-behind draft (beside draft piece.clock) piece.number piece.rows read (beside-ready draft piece.clock under clock) (read-of draft piece read has is).0
     (subst (λ (r : Result PlainDraft ScriptError). IsOkAnd r (λ (x : PlainDraft). draft.items + x.items ≤ draft.script.limits.items)) is room))
 
 -- ---- one piece more

@@ -9,11 +9,11 @@ use Rattle.dex_script_types.specs.PlainScript.{PlainScript}
 use Rattle.dex_script_types.specs.Facts.{IsScript, IsStart}
 use Rattle.dex_script.specs.Begun.{IsBegun, left_in}
 use Rattle.dex_script.specs.Drafts.{PlainDraft}
-use Rattle.dex_script.specs.Pieces.{HaveSamePlaces, IsUnderway, beside, joined, number_after, part_of}
+use Rattle.dex_script.specs.Pieces.{HaveSamePlaces, IsReadyBehind, IsUnderway, cleared, joined, number_after, part_of}
 use Rattle.dex_script.specs.Scripts.{ReadsWithin, draft_after}
 use Rattle.dex_script.proofs.BegunLaws.{begun-on}
 use Rattle.dex_script.proofs.PartLaws.{IsPart, is-part}
-use Rattle.dex_script.proofs.PieceLaws.{alike-self, stays-behind}
+use Rattle.dex_script.proofs.PieceLaws.{beside-ready, stays-behind}
 use Rattle.dex_replay.specs.Replays.{IsReplayOf}
 use Rattle.dex_replay.specs.Runs.{IsRunOf}
 use Rattle.dex_parts.specs.Chains.{AreTwoParts, outcome_behind}
@@ -69,10 +69,11 @@ module _ (limits : Limits) (text : List ℕ) where
     part-read : IsPart before playing.number rows piece accounts
     part-read =
         let begun = between.begun in
-        is-part before between.other playing.number rows piece accounts begun.good between.alike between.program between.places
-        (ap (λ (d : PlainDraft). draft_after d playing.number rows) (sym between.reader)
-        ∙ ap (draft_after playing.reader playing.number) (sym same) ∙ read)
-        (omega (arith, begun.good.items, between.acted.counts, ap (λ (l : Limits). l.items) begun.within, few))
+        let acted = between.acted in
+        is-part before playing.reader playing.number rows piece accounts begun.good between.reader
+        (subst (HaveSamePlaces before.script.start) acted.leaves (places-kept before.script between.outcome acted.replay.start))
+        (ap (draft_after playing.reader playing.number) (sym same) ∙ read)
+        (omega (arith, begun.good.items, acted.counts, ap (λ (l : Limits). l.items) begun.within, few))
 
     pub part-script : IsScript (part_of piece accounts)
     part-script =
@@ -80,7 +81,7 @@ module _ (limits : Limits) (text : List ℕ) where
         let last : IsStart before.script.limits between.outcome.accounts =
         record { accepted = run.accepted; sound = run.sound; conserved = run.conserved } in
         record {
-          start = subst (λ (l : Limits). IsStart l accounts) (sym part-read.alike.limits) (subst (IsStart before.script.limits) between.acted.leaves last);
+          start = subst (λ (l : Limits). IsStart l accounts) (sym part-read.ready.alike.limits) (subst (IsStart before.script.limits) between.acted.leaves last);
           rows = part-read.order;
         }
 
@@ -97,24 +98,23 @@ module _ (limits : Limits) (text : List ℕ) where
       start = refl;
       goes_on = sym between.acted.leaves;
       program = refl;
-      same_program = part-read.program;
+      same_program = part-read.ready.program;
       limits = refl;
-      same_limits = part-read.alike.limits;
+      same_limits = part-read.ready.alike.limits;
     }
 
     begun-next : (number : ℕ) → number ≡ number_after playing.number all → IsBegun limits false text (joined before piece) number left
     begun-next number at =
-        begun-on limits false text before playing.number (rows ++ left) between.begun (joined before piece) number left between.alike.draft_underway.late
+        begun-on limits false text before playing.number (rows ++ left) between.begun (joined before piece) number left between.reader.alike.draft_underway.late
         (record { front = rows; parts = refl; read = part-read.read; next = at ∙ ap (number_after playing.number) same })
 
     -- its items have acted
     module _ (outcome : PlainOutcome) (replay : IsReplayOf (part_of piece accounts) outcome) where
       pub has-acted : RunsOfReplays → IsRunOf (part_of piece accounts) outcome → (acted : Acted) → acted.next.number ≡ number_after playing.number all
-          → acted.next.reader ≡ beside piece piece.clock → acted.next.items ≡ count → outcome.accounts ≡ accounts_of acted.next.accounts
+          → acted.next.reader ≡ cleared piece → acted.next.items ≡ count → outcome.accounts ≡ accounts_of acted.next.accounts
           → map row_of acted.rows.items ≡ piece.script.rows → map market_journal_of acted.markets.items ≡ outcome.markets
           → map wallet_journal_of acted.wallets.items ≡ outcome.wallets → HasActedNext limits text playing (rows ++ left) between acted left
       has-acted runs run acted at reader items leaves rows_are markets wallets =
-          let alike = part-read.alike in
           let begun = begun-next acted.next.number at in
           let is = so-far limits text (joined before piece) acted.next.number left begun in
           let last = outcome_behind between.outcome outcome in
@@ -132,22 +132,7 @@ module _ (limits : Limits) (text : List ℕ) where
                 leaves = leaves;
                 counts = items ∙ few.0 ∙ ap (λ (n : ℕ). n + piece.items) (between.acted.counts ∙ sym between.begun.good.items) ∙ begun.good.items;
               };
-              other = piece;
-              alike = record {
-                draft_underway = record { late = alike.draft_underway.late; first = alike.draft_underway.first };
-                piece_underway = alike.piece_underway;
-                batch = alike.batch;
-                limits = alike.limits;
-                places = alike.places;
-              };
-              program = part-read.program;
-              places =
-                  let kept = places-kept (part_of piece accounts) outcome replay.start in
-                  subst (HaveSamePlaces piece.script.start) leaves (record {
-                    markets = λ address. part-read.places.markets address ∙ kept.markets address;
-                    wallets = λ address. part-read.places.wallets address ∙ kept.wallets address;
-                  });
-              reader = reader;
+              reader = subst (IsReadyBehind (joined before piece)) (sym reader) part-read.ready;
             };
             is_next = next-is before.script (part_of piece accounts) whole between.outcome outcome parts part-script between.acted.replay replay run;
             together = refl;
@@ -171,11 +156,7 @@ module _ (limits : Limits) (text : List ℕ) where
             outcome = plays.outcome;
             begun = is.begun;
             acted = acted;
-            other = draft;
-            alike = alike-self draft is.underway;
-            program = refl;
-            places = subst (HaveSamePlaces draft.script.start) acted.leaves (places-kept draft.script plays.outcome acted.replay.start);
-            reader = is.reader;
+            reader = subst (IsReadyBehind draft) (sym is.reader) (beside-ready draft draft.clock is.underway refl);
           };
           hears = subst (λ (s : PlainScript). heard first.listener s plays.outcome) (sym is.is_script) plays.hears;
         }

@@ -8,7 +8,7 @@ use Rattle.dex_state.specs.Outcomes.{PlainOutcome, market_journal_of, wallet_jou
 use Rattle.dex_script_types.specs.PlainScript.{PlainScript}
 use Rattle.dex_script.specs.Begun.{IsBegun}
 use Rattle.dex_script.specs.Drafts.{PlainDraft}
-use Rattle.dex_script.specs.Pieces.{AreAlike, HaveSamePlaces, IsUnderway, beside}
+use Rattle.dex_script.specs.Pieces.{IsReadyBehind, IsUnderway, beside}
 use Rattle.dex_script.specs.Scripts.{ReadsWithin}
 use Rattle.dex_parts.specs.Chains.{outcome_behind}
 use Rattle.dex_stream.specs.declared.parts.Acted.{Acted}
@@ -30,18 +30,13 @@ pub record IsFirst (limits : Limits) (text : List ℕ) (first : First) : Type 0 
   pub whole : first.behind ≡ None → ReadsWithin limits false text first.script
   pub begins : IfSome first.behind (IsBehind limits text first.script)
 
--- the script so far has acted, and these rows of the text are left. The reader has read none of them, and is of the
--- same markets and wallets
+-- the script so far has acted, and these rows of the text are left, for which the reader is ready
 pub record IsBetween (limits : Limits) (text : List ℕ) (playing : Playing) (left : List Fields) : Type 0 where
   pub before : PlainDraft
   pub outcome : PlainOutcome
   pub begun : IsBegun limits false text before playing.number left
   pub acted : HasActed before.script outcome (accounts_of playing.accounts) playing.items
-  pub other : PlainDraft
-  pub alike : AreAlike before other
-  pub program : other.script.program ≡ before.script.program
-  pub places : HaveSamePlaces other.script.start (accounts_of playing.accounts)
-  pub reader : playing.reader ≡ beside other before.clock
+  pub reader : IsReadyBehind before playing.reader
 
 -- and the listener has heard of it
 pub record IsHeardSoFar {L : Type 0} (heard : L → PlainScript → PlainOutcome → Type 0) (limits : Limits)

@@ -32,8 +32,8 @@ pub(crate) struct Behind<'a> {
     pub rows: PlainRows<'a>,
 }
 
-/// A script so far, whose items have acted: the accounts, how many items there were, and a reader beside it, for the
-/// rows from this number on.
+/// A script so far, whose items have acted: the accounts, how many items there were, and a reader for the rows from this
+/// number on.
 #[derive(Drop)]
 pub(crate) struct Playing {
     pub accounts: Accounts,
@@ -135,8 +135,7 @@ pub(crate) fn act_part(
     let Some(items) = items_with(items, &read, limits) else {
         return Ok(None);
     };
-    let reader = reader_behind(alloc, &read)?;
-    let script = read.into_script_of(accounts)?;
+    let (script, reader) = read.into_part(alloc, accounts)?;
     let (outcome, rows) = replay_with_rows(alloc, script)?;
     Ok(Some(Acted {
         rows,

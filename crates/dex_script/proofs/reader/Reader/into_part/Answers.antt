@@ -5,10 +5,10 @@ use Rattle.dex_script.specs.Drafts.{PlainDraft}
 use Rattle.dex_script.specs.Pieces.{HaveSamePlaces, part_of}
 use Rattle.dex_script.specs.Telling.{draft_of}
 use Rattle.dex_script.proofs.PieceLaws.{placed-there}
-use Rattle.dex_script.proofs.reader.Reader.into_script_of.Goals as goal
+use Rattle.dex_script.proofs.reader.Reader.into_part.Goals as goal
 
-pub invariant_of-result : goal.invariant_of-result
-invariant_of-result c =
+pub invariant_of-script : goal.invariant_of-script
+invariant_of-script c =
     let draft = draft_of c.self.inside.draft in
     let start = accounts_of c.args.start in
     let places = c.self.inside.places.items in
