@@ -32,8 +32,8 @@ pub(crate) struct Behind<'a> {
     pub rows: PlainRows<'a>,
 }
 
-/// A script so far, whose items have acted: the accounts, how many items there were, and a reader for the rows from this
-/// number on.
+/// A script so far, whose items have acted: the accounts, how many items there were, and a reader for the rows from
+/// this number on.
 #[derive(Drop)]
 pub(crate) struct Playing {
     pub accounts: Accounts,
