@@ -190,6 +190,16 @@ pub fn take_row(number: u32, now: i64, words: &mut InstructionWords) -> Row
     }
 }
 
+/// Gives words without buffers those of a row that is over, if there is one. What the words say then does not matter.
+pub(crate) fn refill(words: &mut InstructionWords, spare: &mut Vec<Row>) {
+    if words.bytes.capacity() == 0 {
+        if let Some(row) = spare.pop() {
+            words.parties.named = row.named;
+            words.bytes = row.bytes;
+        }
+    }
+}
+
 /// Whether an instruction row passes a limit: 16 lanes, 16 named accounts, 256 bytes of data.
 pub fn exceeds_row(words: &InstructionWords) -> bool
     ensures { result ≡ spec.exceeds_row words.now }

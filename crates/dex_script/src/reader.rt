@@ -10,6 +10,7 @@ ghost use Rattle.dex_script.specs.Rows.{IsSetup};
 ghost use Rattle.dex_script.specs.Telling.{TellsAdded, draft_of};
 
 use crate::draft::Draft;
+use crate::instruction::make_room;
 use crate::making::MakeMarkets;
 use crate::names::{Names, Stand};
 use dex_rows::records::Fields;
@@ -23,14 +24,8 @@ use dex_world::RowPlaces;
 use std::alloc::Global;
 use std::marker::Model;
 
-/// Where so many bytes or more are still to be read, room is taken for rows before.
-const MANY: usize = 262_144;
-
-/// For so many rows: a little more than the 128 KB from which on the C library's lists are pages of their own.
-const ROWS: usize = 512;
-
-/// For the places of so many rows at once.
-const PLACES: usize = 5_500;
+/// Rows of scripts have some so many bytes, or more.
+const SHORT: usize = 40;
 
 /// A script as far as its rows are read, the places of each row, and, from its first instruction row on, the names of
 /// its markets and wallets. A contract sees it as what the rows say.
@@ -104,16 +99,13 @@ impl Reader {
         })
     }
 
-    /// This reader, with room for some rows more where so many bytes are still to be read. Lists that are shorter than
-    /// this are copied each time that they grow, and longer ones only get other pages.
+    /// This reader, with room for as many rows more as so many bytes may have, so that no list is copied as it grows.
     pub(crate) fn with_room(self, left: usize) -> Result<Reader, NoMemory>
         ensures { IfOk result (λ wide. wide ≡ self) }
     {
         let mut wide = self;
-        if MANY <= left {
-            wide.draft.rows.reserve(ROWS)?;
-            wide.places.reserve(PLACES)?;
-        }
+        let count = (left / SHORT).min(wide.draft.limits.items as usize);
+        make_room(&mut wide.draft.rows, &mut wide.places, count)?;
         Ok(wide)
     }
 

@@ -16,6 +16,7 @@ ghost use Rattle.dex_script.specs.Telling.{TellsDraft, TellsLeft, TellsRefusal, 
 
 use crate::draft::Draft;
 use crate::fault::ScriptError;
+use crate::instruction::refill;
 use crate::laws::{
     a_script_for_batches_has_no_swap, a_script_starts_sound, rows_of_a_script_are_in_order,
 };
@@ -30,7 +31,7 @@ use dex_dump::{DumpError, DumpRead, is_first_row};
 use dex_rows::records::{Fields, Rows};
 use dex_script_types::Script;
 use dex_statement::{InstructionWords, RowError};
-use dex_types::{Limits, NoMemory, STANDARD};
+use dex_types::{Limits, NoMemory, Row, STANDARD};
 use std::alloc::Global;
 
 /// How the rows of a script are read that stand after its first instruction row.
@@ -68,7 +69,7 @@ impl ReadRows for InTurn {
     ) -> Result<Reader, ScriptError> {
         let made = reader.with_markets_by(alloc, &mut InTurn)?;
         let mut number = number;
-        read_rows(alloc, made, &mut number, rows)
+        read_rows(alloc, made, &mut number, rows, &mut Vec::new(alloc))
     }
 }
 
@@ -153,11 +154,7 @@ fn read_text<H: ReadRows>(
         rows,
     } = begin_script(alloc, bytes, batch, limits)?;
     match rows {
-        Some(left) => {
-            let mut rows = left;
-            let reader = reader.with_room(bytes_left(&rows))?;
-            how.read_rows(alloc, reader, number, &mut rows)
-        }
+        Some(mut rows) => how.read_rows(alloc, reader, number, &mut rows),
         None => Ok(reader),
     }
 }
@@ -263,19 +260,22 @@ fn next_begins_dump(rows: &mut Rows<'_>) -> Result<bool, NoMemory>
 }
 
 /// What is read after the rows that are left, the first of which has this number, or the first faulty one. Raises the
-/// number to that of the row after them.
+/// number to that of the row after them. What is read takes its buffers from spare rows, as long as there are some.
 pub fn read_rows(
     alloc: Global,
-    mut reader: Reader,
+    reader: Reader,
     number: &mut u32,
     rows: &mut Rows<'_>,
+    spare: &mut Vec<Row>,
 ) -> Result<Reader, ScriptError>
     ensures told { TellsDraft result (draft_after reader number.old rows.old) }
     ensures number { OnOk result (number.new ≡ number_after number.old rows.old) }
 {
+    let mut reader = reader.with_room(bytes_left(rows))?;
     let mut row = Fields::new();
     let mut words = InstructionWords::none(alloc);
     'rows: while rows.next_row(&mut row)? {
+        refill(&mut words, spare);
         add_row(alloc, &mut reader, *number, &row, &mut words)?;
         *number = next_number(*number);
     }

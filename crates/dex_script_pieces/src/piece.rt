@@ -64,7 +64,8 @@ pub(crate) fn read_behind(
     ensures told { IfOk reader (λ before. TellsDraft result (draft_after before number.old rows.now)) }
     ensures number { OnOk result (number.new ≡ number_after number.old rows.now) }
 {
-    read_rows(alloc, reader?, number, &mut Rows::of_plain(rows))
+    let mut rows = Rows::of_plain(rows);
+    read_rows(alloc, reader?, number, &mut rows, &mut Vec::new(alloc))
 }
 
 /// Takes the room that the buffers of rows of this many bytes want, and gives it back. The heap of a thread grows by a

@@ -68,7 +68,7 @@ impl<'a, R: Threads + Sync> ReadRows for InPieces<'a, R> {
         let mut making = SideBySide { rt: self.rt };
         let reader = reader.with_markets_by(alloc, &mut making)?;
         let mut number = number;
-        read_rows(alloc, reader, &mut number, rows)
+        read_rows(alloc, reader, &mut number, rows, &mut Vec::new(alloc))
     }
 }
 

@@ -78,7 +78,13 @@ pub(crate) fn first_part<'a>(
         return Ok(None);
     };
     let left = part.cut(PART);
-    let Ok(read) = read_rows(alloc, reader, &mut number, &mut Rows::of_plain(&part)) else {
+    let Ok(read) = read_rows(
+        alloc,
+        reader,
+        &mut number,
+        &mut Rows::of_plain(&part),
+        &mut Vec::new(alloc),
+    ) else {
         return Ok(None);
     };
     let reader = reader_behind(alloc, &read)?;
@@ -109,12 +115,14 @@ pub(crate) fn is_over(rows: &PlainRows<'_>) -> Result<bool, NoMemory>
     Ok(!found)
 }
 
-/// Reads one more part, and lets its items act; or gives nothing, where a row is faulty, or rows are too many.
+/// Reads one more part, and lets its items act; or gives nothing, where a row is faulty, or rows are too many. Its rows
+/// take their buffers from spare ones.
 pub(crate) fn act_part(
     alloc: Global,
     before: Playing,
     rows: &PlainRows<'_>,
     limits: &Limits,
+    spare: &mut Vec<Row>,
 ) -> Result<Option<Acted>, NoMemory>
     requires { (text : List ℕ) × (left : List FieldsOf) × IsBetween limits.now text before (rows.now ++ left) }
     ensures { (text : List ℕ) (left : List FieldsOf)
@@ -129,7 +137,7 @@ pub(crate) fn act_part(
         reader,
         mut number,
     } = before;
-    let Ok(read) = read_rows(alloc, reader, &mut number, &mut Rows::of_plain(rows)) else {
+    let Ok(read) = read_rows(alloc, reader, &mut number, &mut Rows::of_plain(rows), spare) else {
         return Ok(None);
     };
     let Some(items) = items_with(items, &read, limits) else {

@@ -116,6 +116,7 @@ fn play_rest<L: Listener>(
         number: behind.number,
     };
     let mut left = behind.rows;
+    let mut spare = Vec::new(alloc);
     'parts: for _ in 0..u64::MAX {
         if is_over(&left)? {
             return Ok(Some(Played {
@@ -126,7 +127,7 @@ fn play_rest<L: Listener>(
         }
         let mut part = left;
         left = part.cut(size_of_part(&playing.accounts));
-        let Some(acted) = act_part(alloc, playing, &part, limits)? else {
+        let Some(acted) = act_part(alloc, playing, &part, limits, &mut spare)? else {
             return Ok(None);
         };
         let Acted {
@@ -137,6 +138,7 @@ fn play_rest<L: Listener>(
         } = acted;
         listener.hear(alloc, &rows, markets, wallets)?;
         playing = next;
+        spare = rows;
     }
     Ok(None)
 }
