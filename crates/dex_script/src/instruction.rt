@@ -193,9 +193,9 @@ pub fn take_row(number: u32, now: i64, words: &mut InstructionWords) -> Row
 /// Gives words without buffers those of a row that is over, if there is one. What the words say then does not matter.
 pub(crate) fn refill(words: &mut InstructionWords, spare: &mut Vec<Row>) {
     if words.bytes.capacity() == 0 {
-        if let Some(row) = spare.pop() {
-            words.parties.named = row.named;
-            words.bytes = row.bytes;
+        if let Some(Row { named, bytes, .. }) = spare.pop() {
+            words.parties.named = named;
+            words.bytes = bytes;
         }
     }
 }
