@@ -59,7 +59,7 @@ impl Names {
     pub fn places_of(&self, parties: &Parties) -> Option<Stand>
         ensures { spec.FindsIn self.now parties.now result }
     {
-        let market = place_among(&self.markets, parties.market)?;
+        let market = place_among(&self.markets, &parties.market)?;
         let wallets = wallets_at(
             self,
             parties.coin,
@@ -78,15 +78,15 @@ impl FindsWallets for Names {
     ghost place = { λ names. hash.get is_same names.wallets };
 
     fn find(&self, address: Address) -> Option<u16> {
-        place_among(&self.wallets, address)
+        place_among(&self.wallets, &address)
     }
 }
 
 /// Where an address stands, if it is here.
-fn place_among(places: &HashMap<Address, u16>, address: Address) -> Option<u16>
-    ensures { result ≡ hash.get is_same places.now address }
+fn place_among(places: &HashMap<Address, u16>, address: &Address) -> Option<u16>
+    ensures { result ≡ hash.get is_same places.now address.now }
 {
-    places.get(&address).copied()
+    places.get(address).copied()
 }
 
 /// Puts an address at a place.

@@ -1,13 +1,14 @@
 //! Where the wallets of a row stand, as whoever finds a wallet by its address tells.
 
-ghost use Rattle.std.specs.Prelude.{◌≡◌, ℕ, IfSome, None, Option, false};
+ghost use Rattle.std.specs.Prelude.{◌≡◌, ℕ, IfSome, None, Option, Some, false};
 ghost use Rattle.std.specs.List.{position};
 ghost use Rattle.dex_types.specs.declared.addresses.Address.{Address as AddressOf};
+ghost use Rattle.dex_types.specs.Addresses as addresses;
 ghost use Rattle.dex_world.specs.Fold as fold;
 ghost use Rattle.dex_world.specs.Places.{AreWalletsAt};
 ghost use Rattle.dex_script_types.specs.Found as spec;
 
-use dex_locks::plan_wallets;
+use dex_locks::{is_lower, plan_wallets};
 use dex_types::{Address, is_same};
 use dex_world::RowWallets;
 
@@ -32,6 +33,11 @@ pub fn wallets_at<F: FindsWallets>(
     ensures found { IfSome result (AreWalletsAt (F.place finder.now) coin pc discount referrer) }
     ensures none { result ≡ None → spec.are_found (F.place finder.now) coin pc discount referrer ≡ false }
 {
+    if let (Some(one), Some(other), None, None) = (&coin, &pc, &discount, &referrer) {
+        if !is_same(*one, *other) {
+            return two_at(finder, *one, *other);
+        }
+    }
     let wallets = plan_wallets(&coin, &pc, &discount, &referrer);
     let places = places_by(finder, &wallets)?;
     Some(RowWallets {
@@ -41,6 +47,33 @@ pub fn wallets_at<F: FindsWallets>(
         discount: index_of(&wallets, discount),
         referrer: index_of(&wallets, referrer),
     })
+}
+
+/// `wallets_at` of two wallets, as nearly all rows name: they are compared once.
+fn two_at<F: FindsWallets>(finder: &F, coin: Address, pc: Address) -> Option<RowWallets>
+    requires { addresses.is_same coin pc ≡ false }
+    ensures found { IfSome result (AreWalletsAt (F.place finder.now) (Some coin) (Some pc) None None) }
+    ensures none { result ≡ None → spec.are_found (F.place finder.now) (Some coin) (Some pc) None None ≡ false }
+{
+    let at_coin = finder.find(coin)?;
+    let at_pc = finder.find(pc)?;
+    if is_lower(coin, pc) {
+        Some(RowWallets {
+            places: [at_coin, at_pc, u16::MAX, u16::MAX],
+            coin: 0,
+            pc: 1,
+            discount: 4,
+            referrer: 4,
+        })
+    } else {
+        Some(RowWallets {
+            places: [at_pc, at_coin, u16::MAX, u16::MAX],
+            coin: 1,
+            pc: 0,
+            discount: 4,
+            referrer: 4,
+        })
+    }
 }
 
 /// Where these wallets stand, if all are found; `u16::MAX` for none.

@@ -1,24 +1,22 @@
--- The step that makes a struct without bytes. Assumes `Logic`.
-use Rattle.std.proofs.Common.{List, [], ◌∷◌, refl}
-use seplogic.Ra.Ura.{Ura}
-use mir.Val.{Val, vstruct, vnil}
-use types.Logic.{Logic}
-use types.Kit.{Goal, Step, step, Item, ‵, ◌$◌, fjoin, fpack, feq_i}
-use denote.RattleType.{RattleType, Valss}
-use denote.Steps.{nothing}
-use denote.Struct.Struct.{Struct, within}
-
--- a struct by its fields alone: what it owns does not read its name
-abbrev pub plainly : List RattleType → RattleType
-plainly Rs = Struct (record { name = []; args = []; types = []; fields = Rs })
-
--- the value of a struct without bytes
-abbrev pub none : Val
-none = vstruct vnil
-
-module _ {M : Type 1} {𝓤 : Ura M} {𝓛 : Logic 𝓤} {K : Type 0} {Γ : List (Item 𝓤)} {G : Goal 𝓤 𝓛.H} where
-  -- it is made of nothing
-  pub none_made : K → Step K 𝓛 (‵ ((plainly []).own_val tt (none ∷ [])) ∷ Γ) G Γ G
-  none_made t = step (λ s.
-      nothing t $ feq_i t (List Val) (none ∷ []) (none ∷ []) refl $ fjoin t $
-      fpack t (Valss []) (within (record { name = []; args = []; types = []; fields = [] }) tt (none ∷ [])) tt $ s)
+-- The names that walks by hand cite, passed on from one place. Declares nothing.
+pub use Rattle.std.proofs.Common.{[], ◌∷◌, refl}
+pub use Rattle.std.proofs.raw_atomic.Walks.{proved}
+pub use Rattle.bytes.proofs.Walks.{none, none_made, one, one_made}
+pub use mir.Syntax.{a_type, named}
+pub use mir.MapTy.{inst_fn}
+pub use types.Kit.{‵, raw, ◌⊛◌, ◌$◌, ◌∵◌, !, qed, move, keep, split, fjoin, suffices, done}
+pub use types.Part.{agg}
+pub use types.Run.{enter, returns, and_then, no_more}
+pub use types.ByLocal.{alloc_all, pass_all, free_all, look_at, get, sets}
+pub use denote.Exit.{yes}
+pub use denote.RattleType.{RattleType, owns}
+pub use denote.Builtin.{RefOf}
+pub use denote.Laws.{Is}
+pub use denote.Param.{param, layouts}
+pub use denote.Ref.{shr_vals, shr_Tells}
+pub use denote.Signature.{plain, types_at}
+pub use denote.Steps.{nothing, owned}
+pub use denote.Struct.Laws.{makes}
+pub use denote.Struct.Tuple.{Tuple}
+pub use denote.Triple.Entry.{alive}
+pub use denote.Triple.Walked.{says, Stays, stay_dropped, walk_of, ends_at, Goes-dropped}
