@@ -17,24 +17,18 @@ use Rattle.dex_eager_market.proofs.Trades.{book-posted, order-left, rested-is, r
 use Rattle.dex_eager_market.proofs.trading.settle_order.Goals as goal
 use Rattle.dex_eager_market.proofs.trading.settle_order.Goals.{After-resting_order-order, After-want_of-want}
 
-pub meet_book-requires-clause-modest : goal.meet_book-requires-clause-modest
-meet_book-requires-clause-modest c = rw c.terms_of-terms.ensures.sizes rw c.want_of-want.ensures c.requires.trade.modest
-
-pub meet_book-requires-clause-book : goal.meet_book-requires-clause-book
-meet_book-requires-clause-book c = rw c.terms_of-terms.ensures.sizes c.requires.opposing
-
-pub meet_book-requires-clause-accounts : goal.meet_book-requires-clause-accounts
-meet_book-requires-clause-accounts c = all-more (2 ^ 124) (2 ^ 125) c.args.till.now.accounts.items (omega arith) c.requires.till.accounts
-
 -- what the code's terms meet is what the order meets
 met-is : (c : After-want_of-want) → meet c.args.taker.id_side (taking c.terms_of-terms.result) (demand c.want_of-want.result) c.args.opposing.now.orders.items
     ≡ meeting_with c.args.sizes c.args.taker c.args.opposing.now.orders.items
 met-is c = same-met c.args.taker.id_side c.terms_of-terms.ensures.keeps c.want_of-want.ensures refl
 
-pub meet_book-requires-clause-foreseen : goal.meet_book-requires-clause-foreseen
-meet_book-requires-clause-foreseen c =
-    same-foreseen (sym c.terms_of-terms.ensures.sizes) (sym c.terms_of-terms.ensures.limit) refl (sym (met-is (goal.at.meet_book-requires-clause-foreseen c).After-want_of-want))
-    c.requires.trade.reached
+pub meet_book-requires : goal.meet_book-requires
+meet_book-requires c = record {
+  modest = rw c.terms_of-terms.ensures.sizes rw c.want_of-want.ensures c.requires.trade.modest;
+  book = rw c.terms_of-terms.ensures.sizes c.requires.opposing;
+  accounts = all-more (2 ^ 124) (2 ^ 125) c.args.till.now.accounts.items (omega arith) c.requires.till.accounts;
+  foreseen = same-foreseen (sym c.terms_of-terms.ensures.sizes) (sym c.terms_of-terms.ensures.limit) refl (sym (met-is (goal.at.meet_book-requires c).After-want_of-want)) c.requires.trade.reached;
+}
 
 pub add-requires-clause-accounts : goal.add-requires-clause-accounts
 add-requires-clause-accounts c = all-more (2 ^ 124 + 2 ^ 81) (2 ^ 126) _ (omega arith) (c.meet_book.ensures.within (2 ^ 124) c.requires.till.accounts)

@@ -12,25 +12,19 @@ use Rattle.dex_eager_market.proofs.Trades.{same-foreseen, same-met, take-demand,
 use Rattle.dex_eager_market.proofs.trading.settle_take.Goals as goal
 use Rattle.dex_eager_market.proofs.trading.settle_take.Goals.{After-want_of-want}
 
-pub meet_book-requires-clause-modest : goal.meet_book-requires-clause-modest
-meet_book-requires-clause-modest c = rw c.take_terms-terms.ensures.sizes rw c.want_of-want.ensures c.requires.trade.modest
-
-pub meet_book-requires-clause-book : goal.meet_book-requires-clause-book
-meet_book-requires-clause-book c = rw c.take_terms-terms.ensures.sizes c.requires.opposing
-
-pub meet_book-requires-clause-accounts : goal.meet_book-requires-clause-accounts
-meet_book-requires-clause-accounts c = all-more (2 ^ 124) (2 ^ 125) c.args.till.now.accounts.items (omega arith) c.requires.till.accounts
-
 -- what the code's terms meet is what the take meets
 met-is : (c : After-want_of-want) → meet c.args.taker.id_side (taking c.take_terms-terms.result) (demand c.want_of-want.result) c.args.opposing.now.orders.items
     ≡ meeting_with c.args.sizes c.args.taker c.args.opposing.now.orders.items
 met-is c =
     same-met c.args.taker.id_side c.take_terms-terms.ensures.keeps (c.want_of-want.ensures ∙ sym (take-demand c.args.taker.id_side c.args.sizes c.args.taker)) refl
 
-pub meet_book-requires-clause-foreseen : goal.meet_book-requires-clause-foreseen
-meet_book-requires-clause-foreseen c =
-    same-foreseen (sym c.take_terms-terms.ensures.sizes) (sym c.take_terms-terms.ensures.limit) refl (sym (met-is (goal.at.meet_book-requires-clause-foreseen c).After-want_of-want))
-    c.requires.trade.reached
+pub meet_book-requires : goal.meet_book-requires
+meet_book-requires c = record {
+  modest = rw c.take_terms-terms.ensures.sizes rw c.want_of-want.ensures c.requires.trade.modest;
+  book = rw c.take_terms-terms.ensures.sizes c.requires.opposing;
+  accounts = all-more (2 ^ 124) (2 ^ 125) c.args.till.now.accounts.items (omega arith) c.requires.till.accounts;
+  foreseen = same-foreseen (sym c.take_terms-terms.ensures.sizes) (sym c.take_terms-terms.ensures.limit) refl (sym (met-is (goal.at.meet_book-requires c).After-want_of-want)) c.requires.trade.reached;
+}
 
 pub returns-clause-market : goal.returns-clause-market
 returns-clause-market c = λ own.
