@@ -53,58 +53,48 @@ order-is c =
     ∙ rested-is c.args.taker.id_side c.args.sizes n (meeting_with c.args.sizes c.args.taker c.args.opposing.now.orders.items) c.args.foreseen.now.crosses c.args.foreseen.now.want.lots
     c.narrow-pc.result c.taker_fee-fee.result reached.crosses (ap (λ (d : Demand). d.lots) reached.demand_is) (c.narrow-pc.ensures ∙ reached.pc) (fee-is c))
 
-pub returns-clause-market : goal.returns-clause-market
-returns-clause-market c =
+pub returns : goal.returns
+returns c =
     let side = c.args.taker.id_side in
     let sizes = c.args.sizes in
     let n = order_of c.args.taker in
     let met : Meeting = meeting_with sizes c.args.taker c.args.opposing.now.orders.items in
     let reached = c.requires.trade.reached in
-    let met_is = met-is (goal.at.returns-clause-market c).After-want_of-want in
-    let fee_is = fee-is (goal.at.returns-clause-market c).After-resting_order-order in
+    let met_is = met-is (goal.at.returns c).After-want_of-want in
+    let fee_is = fee-is (goal.at.returns c).After-resting_order-order in
     let paid : Worths = with_fills (maker_fills met.events) (map entry_of c.args.till.now.accounts.items) in
-    order-left side sizes n met c.args.own.now c.args.opposing.now (record c.args.own.now { orders = c.post.new.orders }) c.meet_book.new.opposing c.args.till.now
-    (record { next_sequence = c.args.till.now.next_sequence + 1; accounts = c.add.new.accounts; takings = c.charge.new.takings })
-    (record {
-      own_room = refl;
-      opposing_room = c.meet_book.ensures.room;
-      own_is = c.post.ensures.orders ∙ ap (λ (o : Order). (post side c.args.own.now.room o c.args.own.now.orders.items).side)
-          (order-is (goal.at.returns-clause-market c).After-resting_order-order);
-      opposing_is = c.meet_book.ensures.left ∙ ap (λ (m : Meeting). m.left) met_is;
-      next = refl;
-      worths = c.add.ensures.worths
-          ∙ ap (with_change c.args.taker.account (worth_of c.taker_change-change.result))
-          (c.meet_book.ensures.worths ∙ ap (λ (m : Meeting). with_fills (maker_fills m.events) (map entry_of c.args.till.now.accounts.items)) met_is)
-          ∙ ap (λ (v : Worth). with_change c.args.taker.account v paid)
-          (ap worth_of c.taker_change-change.ensures.value
-          ∙ taker-worth side sizes met c.taker_fee-fee.result c.args.foreseen.now.sums.base c.narrow-pc.result reached.base (c.narrow-pc.ensures ∙ reached.pc)
-          ∙ ap (λ (f : ℕ). net (taker_gets side sizes met f) (taker_pays side sizes met f)) fee_is);
-      takings_are = c.charge.ensures
-          ∙ ap (λ (f : ℕ). c.args.till.now.takings + (f - c.args.foreseen.now.sums.rebates)) fee_is
-          ∙ ap (λ (r : ℕ). c.args.till.now.takings + (fee_of n met - r)) reached.rebates;
-    })
-
-pub returns-clause-own : goal.returns-clause-own
-returns-clause-own c =
-    let side = c.args.taker.id_side in
-    let sizes = c.args.sizes in
-    let n = order_of c.args.taker in
-    let met : Meeting = meeting_with sizes c.args.taker c.args.opposing.now.orders.items in (
-      book-posted side sizes c.args.own.now (record c.args.own.now { orders = c.post.new.orders }) (resting side c.args.till.now.next_sequence 0 n (rested side sizes n met)) c.requires.own
-          (resting-fills side sizes n c.args.till.now.next_sequence c.args.opposing.now.orders.items (omega (arith, c.requires.next)) c.requires.trade.lock (tier_number-lt n.tier)) refl
-          c.post.ensures.reserved c.post.ensures.within
-          (c.post.ensures.orders
-          ∙ ap (λ (o : Order). (post side c.args.own.now.room o c.args.own.now.orders.items).side) (order-is (goal.at.returns-clause-own c).After-resting_order-order)),
-      refl,
-    )
-
-pub returns-clause-opposing : goal.returns-clause-opposing
-returns-clause-opposing c = (rw c.terms_of-terms.ensures.sizes at c.meet_book.ensures.book, c.meet_book.ensures.room)
-
-pub returns-clause-till : goal.returns-clause-till
-returns-clause-till c = λ bound is.
+    let own_is = c.post.ensures.orders
+    ∙ ap (λ (o : Order). (post side c.args.own.now.room o c.args.own.now.orders.items).side) (order-is (goal.at.returns c).After-resting_order-order) in
     record {
-      accounts = all-more (bound + 2 ^ 81 + 2 ^ 81) (bound + 2 ^ 82) _ (omega arith)
-          (c.add.ensures.within (bound + 2 ^ 81) (2 ^ 81) (c.meet_book.ensures.within bound is.accounts) c.taker_change-change.ensures.small);
-      takings = omega (arith, is.takings, c.charge.ensures, c.taker_fee-fee.ensures.at_most_all, c.narrow-pc.ensures, c.requires.trade.pc);
+      market = order-left side sizes n met c.args.own.now c.args.opposing.now (record c.args.own.now { orders = c.post.new.orders }) c.meet_book.new.opposing c.args.till.now
+          (record { next_sequence = c.args.till.now.next_sequence + 1; accounts = c.add.new.accounts; takings = c.charge.new.takings })
+          (record {
+            own_room = refl;
+            opposing_room = c.meet_book.ensures.room;
+            own_is = own_is;
+            opposing_is = c.meet_book.ensures.left ∙ ap (λ (m : Meeting). m.left) met_is;
+            next = refl;
+            worths = c.add.ensures.worths
+                ∙ ap (with_change c.args.taker.account (worth_of c.taker_change-change.result))
+                (c.meet_book.ensures.worths ∙ ap (λ (m : Meeting). with_fills (maker_fills m.events) (map entry_of c.args.till.now.accounts.items)) met_is)
+                ∙ ap (λ (v : Worth). with_change c.args.taker.account v paid)
+                (ap worth_of c.taker_change-change.ensures.value
+                ∙ taker-worth side sizes met c.taker_fee-fee.result c.args.foreseen.now.sums.base c.narrow-pc.result reached.base (c.narrow-pc.ensures ∙ reached.pc)
+                ∙ ap (λ (f : ℕ). net (taker_gets side sizes met f) (taker_pays side sizes met f)) fee_is);
+            takings_are = c.charge.ensures
+                ∙ ap (λ (f : ℕ). c.args.till.now.takings + (f - c.args.foreseen.now.sums.rebates)) fee_is
+                ∙ ap (λ (r : ℕ). c.args.till.now.takings + (fee_of n met - r)) reached.rebates;
+          });
+      own = (
+        book-posted side sizes c.args.own.now (record c.args.own.now { orders = c.post.new.orders }) (resting side c.args.till.now.next_sequence 0 n (rested side sizes n met)) c.requires.own
+            (resting-fills side sizes n c.args.till.now.next_sequence c.args.opposing.now.orders.items (omega (arith, c.requires.next)) c.requires.trade.lock (tier_number-lt n.tier)) refl
+            c.post.ensures.reserved c.post.ensures.within own_is,
+        refl,
+      );
+      opposing = (rw c.terms_of-terms.ensures.sizes at c.meet_book.ensures.book, c.meet_book.ensures.room);
+      till = λ bound is. record {
+        accounts = all-more (bound + 2 ^ 81 + 2 ^ 81) (bound + 2 ^ 82) _ (omega arith)
+            (c.add.ensures.within (bound + 2 ^ 81) (2 ^ 81) (c.meet_book.ensures.within bound is.accounts) c.taker_change-change.ensures.small);
+        takings = omega (arith, is.takings, c.charge.ensures, c.taker_fee-fee.ensures.at_most_all, c.narrow-pc.ensures, c.requires.trade.pc);
+      };
     }
