@@ -18,7 +18,7 @@ use Rattle.dex_gate.specs.Rule.{same, within, has_ticket, has_that, IsOut, IsSer
 use Rattle.dex_gate.specs.Steps.{lone, handing, handed, new_card, joined, spent, after_turn, Draws, Shows, Looks, PassesOn}
 use Rattle.dex_gate.proofs.Sums.{sum_by-set_at, at-le-sum_by, two-le-sum_by, sum_by-le-at}
 use Rattle.dex_gate.proofs.Lists.{at_there, at_only, All-one}
-use Rattle.dex_gate.proofs.Numbers.{same_same, within_more, within_less, within_first, within_none, within-le-one, within_in, within_yes, same_not}
+use Rattle.dex_gate.proofs.Numbers.{same_same, within_more, within_less, within_yes}
 use Rattle.dex_gate.proofs.Histories.{extends_self, added-append, extends-append, of_lane-here, of_lane-else, one_entry}
 
 -- a view has no more cards than room
@@ -110,7 +110,7 @@ module _ {V E O : Type 0} (entries : V → List E) (lane : E → ℕ) (origin : 
   none_out s r id v at not mine j u is out = dite (ℕ_discrete j id)
       (λ e. not (subst (λ (z : View E O). IsOut z.stage) (some-injective u v (sym is ∙ (ap (get_elem? s.views) e ∙ at))) out))
       (λ ne. let S : ℕ = length r.history in let his = (out_served r.history u.ticket u.stage out (r.each_view j u is).served).1 in let both = two-le-sum_by (times S) s.views j id u v ne is at in
-      absurd (omega (arith, his, mine, both, r.each_ticket S, within-le-one S (S + sum_by tickets s.views) S)))
+      absurd (omega (arith, his, mine, both, r.each_ticket S)))
 
   pub looks : (slots id : ℕ) (c : Card E O) (t : ℕ)
       → Allows Rule slots id (lone c t Waiting, []) 1 (λ n. n) (Looks entries lane origin (step slots 1 0 0 mathlib.Core.Option.none) (lone c t Waiting, []))
@@ -169,7 +169,7 @@ module _ {V E O : Type 0} (entries : V → List E) (lane : E → ℕ) (origin : 
         same_origin = good.same_origin;
         same_opening = good.same_opening;
         seen = subst (Extends c.seen) (sym is) (extends-append c.seen history (e ∷ []) good.seen);
-        mine = stays c.number (λ same_n. absurd (omega (arith, same_not c.number n (omega arith)))) ∙ good.mine;
+        mine = stays c.number (λ same_n. absurd (omega (arith, none, same_n, lane_is))) ∙ good.mine;
         none_yet = λ k a b. stays k (λ same_n. absurd (omega (arith, within_yes c.next c.until k a b, ap (λ z. within c.next c.until z) (sym lane_is ∙ same_n)))) ∙ good.none_yet k a b;
       }
 
@@ -208,9 +208,9 @@ module _ {V E O : Type 0} (entries : V → List E) (lane : E → ℕ) (origin : 
       let found : get_or s.words 1 0 ≡ S = ap (λ ws. get_or ws 1 0) r.words in
       let fits : (S + 1) % 18446744073709551616 ≡ S + 1 = mod-eq_of_lt (omega arith) in
       let mine : 1 ≤ claims c.number v = omega (arith, same_same c.number, sum_by-cons (claim c.number) c []) in
-      let at_most : sum_by (claims c.number) s.views ≤ 1 = omega (arith, r.each_number c.number, within-le-one 0 passes c.number) in
+      let at_most : sum_by (claims c.number) s.views ≤ 1 = omega (arith, r.each_number c.number) in
       let own_one : claim c.number c ≤ 1 = omega (arith, sum_by-cons (claim c.number) c [], at-le-sum_by (claims c.number) s.views id v at) in
-      let below : c.number < passes = (within_in 0 passes c.number (omega (arith, at-le-sum_by (claims c.number) s.views id v at, r.each_number c.number))).1 in
+      let below : c.number < passes = omega (arith, mine, at-le-sum_by (claims c.number) s.views id v at, r.each_number c.number) in
       let here : IsTrue after w = record {
         cards = All-one (IsGood after) (after_turn c held after)
             (subst (λ (l : List E). IsGood after (after_turn c l after)) (sym held_is) (own_card H after c.number e c r.begins one.after_is one.added_is one.lane_is_n own_one good));
@@ -224,7 +224,7 @@ module _ {V E O : Type 0} (entries : V → List E) (lane : E → ℕ) (origin : 
             other_card H after c.number e card r.begins one.after_is one.lane_is_n (omega (arith, Rattle.std.proofs.lemmas.List.Sums.get_or-le-sum_by (claim c.number) u.cards k d l)) (its.cards k d l);
         served = not_out H after u.ticket u.stage
             (λ out. let his = (out_served H u.ticket u.stage out its.served).1 in let both = two-le-sum_by (times S) s.views j id u v ne here_u at in
-            absurd (omega (arith, his, both, ap (λ k. same k S) is ∙ same_same S, r.each_ticket S, within-le-one S (S + sum_by tickets s.views) S)));
+            absurd (omega (arith, his, both, ap (λ k. same k S) is ∙ same_same S, r.each_ticket S)));
         carded = its.carded;
       } in (
         w,
@@ -277,7 +277,7 @@ module _ {V E O : Type 0} (entries : V → List E) (lane : E → ℕ) (origin : 
         lanes = r.lanes;
         words = r.words ∙ ap (λ (k : ℕ). (length r.history + k) ∷ length r.history ∷ []) (sym as_many);
         each_ticket = λ t. sums (times t) (omega arith) ∙ (r.each_ticket t ∙ ap (λ (z : ℕ). within (length r.history) (length r.history + z) t) (sym as_many));
-        each_number = λ k. sums (claims k) (omega (arith, within_first c.next c.until k more, within_none c.until k)) ∙ r.each_number k;
+        each_number = λ k. sums (claims k) (omega (arith, more)) ∙ r.each_number k;
         all_room = sums room (omega arith) ∙ r.all_room;
         each_view = λ j z is. ⊎_elim
             (λ (e : get_elem? (set s.views id w) j ≡ some z). ⊎_elim (λ (p : (j ≡ id) × (w ≡ z)). subst (IsTrue r.history) p.1 record {
@@ -367,8 +367,8 @@ module _ {V E O : Type 0} (entries : V → List E) (lane : E → ℕ) (origin : 
       let k = some_claim u.cards some_card in
       let theirs : 1 ≤ claims k.0 u = k.1 in
       let whole = r.each_number k.0 in
-      let below : k.0 < passes = (within_in 0 passes k.0 (omega (arith, theirs, whole, at-le-sum_by (claims k.0) s.views j u is))).1 in
-      absurd (omega (arith, theirs, all k.0 below, two-le-sum_by (claims k.0) s.views j id u v ne is at, whole, within-le-one 0 passes k.0)))
+      let below : k.0 < passes = omega (arith, theirs, whole, at-le-sum_by (claims k.0) s.views j u is) in
+      absurd (omega (arith, theirs, all k.0 below, two-le-sum_by (claims k.0) s.views j id u v ne is at, whole)))
 
   -- the value at home, once all passes are back
   pub ends : (s : St) (r : Rule s) (id : ℕ) (v : View E O) → get_elem? s.views id ≡ some v → v.stage ≡ Idle → ((k : ℕ) → k < passes → 0 < claims k v)
