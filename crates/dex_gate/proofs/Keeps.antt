@@ -18,7 +18,6 @@ use Rattle.dex_gate.specs.Rule.{same, within, has_ticket, has_that, IsOut, IsSer
 use Rattle.dex_gate.specs.Steps.{lone, handing, handed, new_card, joined, spent, after_turn, Draws, Shows, Looks, PassesOn}
 use Rattle.dex_gate.proofs.Sums.{sum_by-set_at, at-le-sum_by, two-le-sum_by, sum_by-le-at}
 use Rattle.dex_gate.proofs.Lists.{at_there, at_only, All-one}
-use Rattle.dex_gate.proofs.Numbers.{same_same, within_more, within_less, within_yes}
 use Rattle.dex_gate.proofs.Histories.{extends_self, added-append, extends-append, of_lane-here, of_lane-else, one_entry}
 
 -- a view has no more cards than room
@@ -93,7 +92,7 @@ module _ {V E O : Type 0} (entries : V → List E) (lane : E → ℕ) (origin : 
             let mine : times t w ≡ same (S + n) t = ap (λ k. same k t) T_is in
             let all = r.each_ticket t in
             let change = sum_by-set_at (times t) s.views id v w at in
-            ap (λ (z : ℕ). z) (omega (arith, within_more S n t, all, change, none_that, mine, ap (λ k. within S (S + k) t) more)))
+            ap (λ (z : ℕ). z) (omega (arith, all, change, none_that, mine, more)))
             refl
             (let true = r.each_view id v at in record { cards = true.cards; served = tt; carded = omega arith })
             (λ none. r.home (none_before s.views id v w at (λ out. subst IsOut idle out) none)),
@@ -102,7 +101,7 @@ module _ {V E O : Type 0} (entries : V → List E) (lane : E → ℕ) (origin : 
 
   -- a turn that is out is the one that is served
   out_served : (history : List E) (ticket : ℕ) (st : Stage E) → IsOut st → IsServed history ticket st → (ticket ≡ length history) × (has_that st ticket (length history) ≡ 1)
-  out_served history ticket (Out held) out ok = (ok.0, ap (λ k. same k (length history)) ok.0 ∙ same_same (length history))
+  out_served history ticket (Out held) out ok = (ok.0, omega (arith, ok.0))
   out_served history ticket _ out ok = absurd out
 
   -- whose ticket is served, and has no turn out, is the only one
@@ -121,7 +120,7 @@ module _ {V E O : Type 0} (entries : V → List E) (lane : E → ℕ) (origin : 
       let same_words : set s.words 1 (get_or s.words 1 0) ≡ s.words = set-get_or s.words 1 0 in
       dite (ℕ_discrete (get_or s.words 1 0) t)
       (λ hit. let is : t ≡ S = sym hit ∙ found in
-      let none = none_out s r id v at (λ out. out) (ap (λ k. same k S) is ∙ same_same S) in
+      let none = none_out s r id v at (λ out. out) (omega (arith, is)) in
       let h = r.home none in
       let x : V = h.0 in
       let w : View E O = lone c t (Out (entries x)) in
@@ -170,7 +169,7 @@ module _ {V E O : Type 0} (entries : V → List E) (lane : E → ℕ) (origin : 
         same_opening = good.same_opening;
         seen = subst (Extends c.seen) (sym is) (extends-append c.seen history (e ∷ []) good.seen);
         mine = stays c.number (λ same_n. absurd (omega (arith, none, same_n, lane_is))) ∙ good.mine;
-        none_yet = λ k a b. stays k (λ same_n. absurd (omega (arith, within_yes c.next c.until k a b, ap (λ z. within c.next c.until z) (sym lane_is ∙ same_n)))) ∙ good.none_yet k a b;
+        none_yet = λ k a b. stays k (λ same_n. absurd (omega (arith, none, a, b, lane_is, same_n))) ∙ good.none_yet k a b;
       }
 
   -- the card that adds the entry
@@ -184,7 +183,7 @@ module _ {V E O : Type 0} (entries : V → List E) (lane : E → ℕ) (origin : 
         same_opening = good.same_opening;
         seen = extends_self after;
         mine = grows c.number ∙ (λ i. good.mine i ++ (of_lane-here lane c.number e lane_is ∙ sym added_is) i);
-        none_yet = λ k a b. grows k ∙ ((λ i. good.none_yet k a b i ++ of_lane-else lane k e (λ same_n. absurd (omega (arith, same_same c.number, within_yes c.next c.until k a b, ap (λ z. within c.next c.until z) (sym lane_is ∙ same_n)))) i));
+        none_yet = λ k a b. grows k ∙ ((λ i. good.none_yet k a b i ++ of_lane-else lane k e (λ same_n. absurd (omega (arith, one, a, b, lane_is, same_n))) i));
       }
 
   pub passes_on : (slots id : ℕ) (c : Card E O) (t : ℕ) (held : List E) (x : V) → slots ≡ 1 → AddsOne lane c.number held (entries x) → origin x ≡ c.origin → length (entries x) < 9223372036854775808
@@ -207,7 +206,7 @@ module _ {V E O : Type 0} (entries : V → List E) (lane : E → ℕ) (origin : 
       let fewer : sum_by tickets s.views ≡ n + 1 = omega (arith, sum_by-set_at tickets s.views id v w at) in
       let found : get_or s.words 1 0 ≡ S = ap (λ ws. get_or ws 1 0) r.words in
       let fits : (S + 1) % 18446744073709551616 ≡ S + 1 = mod-eq_of_lt (omega arith) in
-      let mine : 1 ≤ claims c.number v = omega (arith, same_same c.number, sum_by-cons (claim c.number) c []) in
+      let mine : 1 ≤ claims c.number v = omega (arith, sum_by-cons (claim c.number) c []) in
       let at_most : sum_by (claims c.number) s.views ≤ 1 = omega (arith, r.each_number c.number) in
       let own_one : claim c.number c ≤ 1 = omega (arith, sum_by-cons (claim c.number) c [], at-le-sum_by (claims c.number) s.views id v at) in
       let below : c.number < passes = omega (arith, mine, at-le-sum_by (claims c.number) s.views id v at, r.each_number c.number) in
@@ -224,7 +223,7 @@ module _ {V E O : Type 0} (entries : V → List E) (lane : E → ℕ) (origin : 
             other_card H after c.number e card r.begins one.after_is one.lane_is_n (omega (arith, Rattle.std.proofs.lemmas.List.Sums.get_or-le-sum_by (claim c.number) u.cards k d l)) (its.cards k d l);
         served = not_out H after u.ticket u.stage
             (λ out. let his = (out_served H u.ticket u.stage out its.served).1 in let both = two-le-sum_by (times S) s.views j id u v ne here_u at in
-            absurd (omega (arith, his, both, ap (λ k. same k S) is ∙ same_same S, r.each_ticket S)));
+            absurd (omega (arith, his, both, is, r.each_ticket S)));
         carded = its.carded;
       } in (
         w,
@@ -238,7 +237,7 @@ module _ {V E O : Type 0} (entries : V → List E) (lane : E → ℕ) (origin : 
           lanes = subst (All (λ y. lane y < passes)) (sym (ap (added (entries opened)) one.after_is ∙ added-append (entries opened) H (e ∷ []) r.begins))
               (All-append (λ y. lane y < passes) (added (entries opened) H) (e ∷ []) r.lanes (All-one (λ y. lane y < passes) e (subst (λ (k : ℕ). k < passes) (sym one.lane_is_n) below)));
           words = (λ i. set (r.words i) 1 ((found i + 1) % 18446744073709551616)) ∙ (λ i. (S + fewer i) ∷ fits i ∷ []) ∙ (let first : S + (n + 1) ≡ length after + n = omega (arith, longer) in λ i. first i ∷ sym longer i ∷ []);
-          each_ticket = λ k. omega (arith, sum_by-set_at (times k) s.views id v w at, r.each_ticket k, within_less S n k, ap (λ z. within S (S + z) k) fewer, ap (λ z. same z k) is, ap (λ z. within z (z + n) k) longer);
+          each_ticket = λ k. omega (arith, sum_by-set_at (times k) s.views id v w at, r.each_ticket k, fewer, is, longer);
           each_number = λ k. omega (arith, sum_by-set_at (claims k) s.views id v w at, r.each_number k);
           all_room = omega (arith, sum_by-set_at room s.views id v w at, r.all_room);
           each_view = λ j u is_u. ⊎_elim (λ (p : (j ≡ id) × (w ≡ u)). subst (IsTrue after) p.1 here) (λ (p : (j ≢ id) × (get_elem? s.views j ≡ some u)). there j u p.0 p.1) (at_set s.views id j w u is_u);
@@ -352,7 +351,7 @@ module _ {V E O : Type 0} (entries : V → List E) (lane : E → ℕ) (origin : 
   -- a view with a card claims some number
   some_claim : (cs : List (Card E O)) → 0 < length cs → (k : ℕ) × (1 ≤ sum_by (claim k) cs)
   some_claim [] h = absurd (omega arith)
-  some_claim (c ∷ cs) h = (c.number, omega (arith, same_same c.number, sum_by-cons (claim c.number) c cs))
+  some_claim (c ∷ cs) h = (c.number, omega (arith, sum_by-cons (claim c.number) c cs))
 
   out_ticket : (st : Stage E) → IsOut st → has_ticket st ≡ 1
   out_ticket (Out held) out = refl
