@@ -18,10 +18,7 @@ use Rattle.dex_world.proofs.MappedLists.{zip-at}
 use Rattle.dex_batch.proofs.PartLaws.{part-append, zip-drop, zip-take}
 use Rattle.dex_batch.proofs.RoomLaws.{can-act, here-still, room-behind, room-front, room-skip}
 
--- ---- none, one, and more
-
-pub at-first : (cells : CellsState) → HaveTheirAddress cells → HaveActed [] [] cells cells
-at-first cells are = record { acted = refl; kept = refl; their = are; room = λ later has. has }
+-- ---- one, and more
 
 pub passed-over : (row : PlainRow) (cells : CellsState) → HaveTheirAddress cells → HaveActed [] (row ∷ []) cells cells
 passed-over row cells are = record { acted = refl; kept = refl; their = are; room = λ later has. room-skip row later cells has }
@@ -131,9 +128,6 @@ places-long rows places cells can = AllZip-long (ArePlacesIn cells) (map row_of 
 
 pub numbers-long : (rows : List PlainRow) (numbers : List ℕ) (number : ℕ) (cells : CellsState) → IsReady (share rows numbers number cells) → length rows ≡ length numbers
 numbers-long rows numbers number cells ready = AllZip-long (λ (n : ℕ) (row : PlainRow). n ≡ number → IsHere cells row) numbers rows ready.here
-
-pub all-acted : (rows : List PlainRow) (place : ℕ) (before after : CellsState) → length rows ≤ place → HaveActed (take place rows) (take place rows) before after → HaveActed rows rows before after
-all-acted rows place before after end so = subst (λ (list : List PlainRow). HaveActed list list before after) (take_all place rows end) so
 
 pub all-own : (rows : List PlainRow) (numbers : List ℕ) (number place : ℕ) (before after : CellsState) → length rows ≤ place → length numbers ≤ place
     → HaveActed (part (take place numbers) number (take place rows)) (take place rows) before after → HaveActed (part numbers number rows) rows before after

@@ -93,8 +93,13 @@ numbers-there addresses numbers distinct long =
 
 -- ---- a bank in groups
 
-module _ (bank : CellsState) (apart : AreDistinctCells bank) (of_markets of_wallets : List ℕ) (markets_long : length of_markets ≡ length bank.markets)
-    (wallets_long : length of_wallets ≡ length bank.wallets) where
+-- numbers stand beside its markets and its wallets, of which no two have one address
+pub record InGroups (bank : CellsState) (of_markets of_wallets : List ℕ) : Type 0 where
+  pub apart : AreDistinctCells bank
+  pub markets_long : length of_markets ≡ length bank.markets
+  pub wallets_long : length of_wallets ≡ length bank.wallets
+
+module _ {bank : CellsState} {of_markets of_wallets : List ℕ} (ins : InGroups bank of_markets of_wallets) where
   abbrev world : World
   world = world_of bank
 
@@ -123,9 +128,9 @@ module _ (bank : CellsState) (apart : AreDistinctCells bank) (of_markets of_wall
   wallet-number number wallet place is of =
       let at : IsAt wallet bank.wallets place = stands-at wallet bank.wallets place is in
       let d : CellState = item_at bank.wallets place at.within in
-      number-there (wallet_addresses world.wallets) of_wallets wallet place 0 wallet apart.wallets (omega (arith, at.within, many-wallets)) (wallets_long ∙ sym many-wallets)
+      number-there (wallet_addresses world.wallets) of_wallets wallet place 0 wallet ins.apart.wallets (omega (arith, at.within, many-wallets)) (ins.wallets_long ∙ sym many-wallets)
       (ap (is_same wallet) (at-wallet place d wallet at.within) ∙ at.here d)
-      ∙ of 0 (omega (arith, at.within, wallets_long))
+      ∙ of 0 (omega (arith, at.within, ins.wallets_long))
 
   wallets-number : (number : ℕ) (addresses : List Address) (places : List ℕ) → ArePlacesOf (λ (a : Address). cell_place a bank.wallets) addresses places
       → All (IsWalletOf of_wallets number) places → (wallet : Address) → list_any (is_same wallet) addresses ≡ true → groups.wallet wallet ≡ number
@@ -152,8 +157,8 @@ module _ (bank : CellsState) (apart : AreDistinctCells bank) (of_markets of_wall
       market : groups.market row.market ≡ number
       market =
           let d : MarketCellState = item_at bank.markets places.market at.market.within in
-          number-there (market_addresses world.markets) of_markets row.market places.market 0 row.market apart.markets (omega (arith, at.market.within, many-markets))
-          (markets_long ∙ sym many-markets) (ap (is_same row.market) (at-market places.market d row.market at.market.within) ∙ at.market.here d)
+          number-there (market_addresses world.markets) of_markets row.market places.market 0 row.market ins.apart.markets (omega (arith, at.market.within, many-markets))
+          (ins.markets_long ∙ sym many-markets) (ap (is_same row.market) (at-market places.market d row.market at.market.within) ∙ at.market.here d)
           ∙ of.market 0
 
   pub rows-of : (rows : List PlainRow) (places : List RowPlaces) (numbers : List ℕ) → AllZip (ArePlacesIn bank) rows places
@@ -178,13 +183,13 @@ module _ (bank : CellsState) (apart : AreDistinctCells bank) (of_markets of_wall
     market-keys =
         sym (map-map (λ (state : MarketState). state.market.listing.address) groups.market later.markets)
         ∙ ap (map groups.market) same_markets
-        ∙ numbers-there (market_addresses world.markets) of_markets apart.markets (markets_long ∙ sym many-markets)
+        ∙ numbers-there (market_addresses world.markets) of_markets ins.apart.markets (ins.markets_long ∙ sym many-markets)
 
     pub wallet-keys : map wallet_key later.wallets ≡ of_wallets
     wallet-keys =
         sym (map-map (λ (state : WalletState). state.seen.address) groups.wallet later.wallets)
         ∙ ap (map groups.wallet) same_wallets
-        ∙ numbers-there (wallet_addresses world.wallets) of_wallets apart.wallets (wallets_long ∙ sym many-wallets)
+        ∙ numbers-there (wallet_addresses world.wallets) of_wallets ins.apart.wallets (ins.wallets_long ∙ sym many-wallets)
 
     pub markets-part : (number : ℕ) → part of_markets number later.markets ≡ (world_in groups number later).markets
     markets-part number = ap (λ (ns : List ℕ). part ns number later.markets) (sym market-keys) ∙ part-filter market_key number later.markets

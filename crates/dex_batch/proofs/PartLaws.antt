@@ -1,19 +1,16 @@
 -- Lists in parts.
-use Rattle.std.proofs.Common.{◌≡◌, ℕ, zero, suc, ◌+◌, ◌<◌, Bool, true, false, cond, eqb, List, [], ◌∷◌, ◌++◌, drop, get_or, length, map, take, refl, sym, ap, subst, arith, All, eq-eqb, filter}
+use Rattle.std.proofs.Common.{◌≡◌, ℕ, zero, suc, ◌+◌, ◌<◌, Bool, true, false, cond, eqb, List, [], ◌∷◌, ◌++◌, drop, get_or, length, map, take, refl, sym, ap, ◌∙◌, subst, arith, All, eq-eqb, filter}
 use Rattle.dex_world.proofs.Common.{AllZip, AllZip-long, cond_both, false≢true}
 use Rattle.std.proofs.lemmas.List.Elements.{All-cons, All-head, All-tail, same_from_all_zip}
+use Rattle.dex_parts.proofs.AlikeWorlds.{cond-of}
 use Rattle.dex_batch.specs.Parts.{part}
 
 -- a part of what is made of a list is made of its part
 pub part-map : {A B : Type 0} (f : A → B) (numbers : List ℕ) (number : ℕ) (xs : List A) → part numbers number (map f xs) ≡ map f (part numbers number xs)
 part-map f [] number xs = refl
 part-map f (n ∷ numbers) number [] = refl
-part-map f (n ∷ numbers) number (x ∷ xs) = either (eqb n number) (part-map f numbers number xs)
-  where
-    either : (b : Bool) → part numbers number (map f xs) ≡ map f (part numbers number xs)
-        → cond b (f x ∷ part numbers number (map f xs)) (part numbers number (map f xs)) ≡ map f (cond b (x ∷ part numbers number xs) (part numbers number xs))
-    either true rest = ap (λ ys. f x ∷ ys) rest
-    either false rest = rest
+part-map f (n ∷ numbers) number (x ∷ xs) =
+    ap (λ ys. cond (eqb n number) (f x ∷ ys) ys) (part-map f numbers number xs) ∙ cond-of (map f) (eqb n number) (x ∷ part numbers number xs) (part numbers number xs)
 
 -- by numbers that a function gives it is what passes its test
 pub part-filter : {A : Type 0} (f : A → ℕ) (number : ℕ) (xs : List A) → part (map f xs) number xs ≡ filter (λ x. eqb (f x) number) xs
@@ -23,13 +20,9 @@ part-filter f number (x ∷ xs) = ap (λ ys. cond (eqb (f x) number) (x ∷ ys) 
 pub part-append : {A : Type 0} (numbers more : List ℕ) (number : ℕ) (xs ys : List A) → length numbers ≡ length xs
     → part (numbers ++ more) number (xs ++ ys) ≡ part numbers number xs ++ part more number ys
 part-append [] more number [] ys long = refl
-part-append (n ∷ numbers) more number (x ∷ xs) ys long = either (eqb n number) (part-append numbers more number xs ys (omega (arith, long)))
-  where
-    either : (b : Bool) → part (numbers ++ more) number (xs ++ ys) ≡ part numbers number xs ++ part more number ys
-        → cond b (x ∷ part (numbers ++ more) number (xs ++ ys)) (part (numbers ++ more) number (xs ++ ys))
-        ≡ cond b (x ∷ part numbers number xs) (part numbers number xs) ++ part more number ys
-    either true rest = ap (λ zs. x ∷ zs) rest
-    either false rest = rest
+part-append (n ∷ numbers) more number (x ∷ xs) ys long =
+    ap (λ zs. cond (eqb n number) (x ∷ zs) zs) (part-append numbers more number xs ys (omega (arith, long)))
+    ∙ cond-of (λ zs. zs ++ part more number ys) (eqb n number) (x ∷ part numbers number xs) (part numbers number xs)
 part-append _ more number _ ys long = absurd (omega (arith, long))
 
 -- what holds of all holds of a part

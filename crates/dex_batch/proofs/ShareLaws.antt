@@ -91,19 +91,19 @@ module _ {bank : CellsState} {terms : Terms} {rows : List PlainRow} {numbers : L
   abbrev last : World
   last = fold rows world
 
+  abbrev in_groups : group.InGroups bank gm gw
+  in_groups = record { apart = dealt.can.1.apart; markets_long = dealt.groups.markets_long; wallets_long = dealt.groups.wallets_long }
+
   abbrev groups : Sharding
-  groups = group.groups bank dealt.can.1.apart gm gw dealt.groups.markets_long dealt.groups.wallets_long
+  groups = group.groups in_groups
 
   abbrev own : ℕ → CellsState
   own number = own_cells terms (part gm number bank.markets) (part gw number bank.wallets)
 
-  abbrev IsRowOf : ℕ → PlainRow → Type 0
-  IsRowOf number row = (groups.market row.market ≡ number) × IsOfOneShard groups row
+  rows-of : AllZip (group.IsRowOf in_groups) numbers rows
+  rows-of = group.rows-of in_groups rows dealt.can.0 numbers dealt.can.1.placed dealt.can.2
 
-  rows-of : AllZip IsRowOf numbers rows
-  rows-of = group.rows-of bank dealt.can.1.apart gm gw dealt.groups.markets_long dealt.groups.wallets_long rows dealt.can.0 numbers dealt.can.1.placed dealt.can.2
-
-  each-one : (ns : List ℕ) (rs : List PlainRow) → AllZip IsRowOf ns rs → All (IsOfOneShard groups) rs × (ns ≡ map (λ (row : PlainRow). groups.market row.market) rs)
+  each-one : (ns : List ℕ) (rs : List PlainRow) → AllZip (group.IsRowOf in_groups) ns rs → All (IsOfOneShard groups) rs × (ns ≡ map (λ (row : PlainRow). groups.market row.market) rs)
   each-one [] [] all = (All-nil _, refl)
   each-one (n ∷ ns) (r ∷ rs) all = let rest = each-one ns rs all.1 in (All-cons (IsOfOneShard groups) r rs all.0.1 rest.0, (λ i. sym all.0.0 i ∷ rest.1 i))
   each-one _ _ all = absurd all
@@ -114,16 +114,10 @@ module _ {bank : CellsState} {terms : Terms} {rows : List PlainRow} {numbers : L
 
   -- ---- the world of a share
 
-  markets-part : (number : ℕ) → part gm number world.markets ≡ (world_in groups number world).markets
-  markets-part number = group.markets-part bank dealt.can.1.apart gm gw dealt.groups.markets_long dealt.groups.wallets_long world refl refl number
-
-  wallets-part : (number : ℕ) → part gw number world.wallets ≡ (world_in groups number world).wallets
-  wallets-part number = group.wallets-part bank dealt.can.1.apart gm gw dealt.groups.markets_long dealt.groups.wallets_long world refl refl number
-
   own-world : (number : ℕ) → world_of (own number) ≡ world_in groups number world
   own-world number = λ i. record {
-    markets = (sym (part-map market_state_of gm number bank.markets) ∙ markets-part number) i;
-    wallets = (sym (part-map wallet_state_of gw number bank.wallets) ∙ wallets-part number) i;
+    markets = (sym (part-map market_state_of gm number bank.markets) ∙ group.markets-part in_groups world refl refl number) i;
+    wallets = (sym (part-map wallet_state_of gw number bank.wallets) ∙ group.wallets-part in_groups world refl refl number) i;
     srm = (dealt.terms_in i).srm;
     msrm = (dealt.terms_in i).msrm;
     program = (dealt.terms_in i).program;
@@ -148,17 +142,17 @@ module _ {bank : CellsState} {terms : Terms} {rows : List PlainRow} {numbers : L
   own-markets number =
       ap (λ ns. part ns number bank.markets)
       (sym (sym (map-map market_state_of (λ (state : MarketState). groups.market state.market.listing.address) bank.markets)
-      ∙ group.market-keys bank dealt.can.1.apart gm gw dealt.groups.markets_long dealt.groups.wallets_long world refl refl))
+      ∙ group.market-keys in_groups world refl refl))
       ∙ part-filter cell_key number bank.markets
 
   own-wallets : (number : ℕ) → part gw number bank.wallets ≡ filter (λ (cell : CellState). eqb (wallet_cell_key cell) number) bank.wallets
   own-wallets number =
       ap (λ ns. part ns number bank.wallets)
       (sym (sym (map-map wallet_state_of (λ (state : WalletState). groups.wallet state.seen.address) bank.wallets)
-      ∙ group.wallet-keys bank dealt.can.1.apart gm gw dealt.groups.markets_long dealt.groups.wallets_long world refl refl))
+      ∙ group.wallet-keys in_groups world refl refl))
       ∙ part-filter wallet_cell_key number bank.wallets
 
-  here-own : (number : ℕ) (row : PlainRow) → IsRowOf number row → IsHere bank row → IsHere (own number) row
+  here-own : (number : ℕ) (row : PlainRow) → group.IsRowOf in_groups number row → IsHere bank row → IsHere (own number) row
   here-own number row is here = record {
     market = subst (λ (cells : List MarketCellState). is_market row.market cells ≡ true) (sym (own-markets number))
         (any-filter_same (λ (cell : MarketCellState). is_same row.market cell.accounts.address) (λ (cell : MarketCellState). eqb (cell_key cell) number) true
@@ -180,7 +174,7 @@ module _ {bank : CellsState} {terms : Terms} {rows : List PlainRow} {numbers : L
           (λ cell same. eq-eqb (wallet_cell_key cell) number (ap groups.wallet (sym (is_same-true address cell.address same)) ∙ is.1 address named ∙ is.0)) bank.wallets
           ∙ sym (any bank.wallets) ∙ among
 
-  here-all : (number : ℕ) (ns : List ℕ) (rs : List PlainRow) → AllZip IsRowOf ns rs → All (IsHere bank) rs → AllZip (λ (n : ℕ) (row : PlainRow). n ≡ number → IsHere (own number) row) ns rs
+  here-all : (number : ℕ) (ns : List ℕ) (rs : List PlainRow) → AllZip (group.IsRowOf in_groups) ns rs → All (IsHere bank) rs → AllZip (λ (n : ℕ) (row : PlainRow). n ≡ number → IsHere (own number) row) ns rs
   here-all number [] [] all here = tt
   here-all number (n ∷ ns) (r ∷ rs) all here = (
     (λ same. here-own number r (all.0.0 ∙ same, all.0.1) (All-head (IsHere bank) r rs here)),
@@ -249,12 +243,6 @@ module _ {bank : CellsState} {terms : Terms} {rows : List PlainRow} {numbers : L
           ∙ (λ i. fold (own-rows number i) (own-world number i))
           ∙ group-acts groups number rows world (each-one numbers rows rows-of).0
 
-      last-markets : (number : ℕ) → part gm number last.markets ≡ (world_in groups number last).markets
-      last-markets number = group.markets-part bank dealt.can.1.apart gm gw dealt.groups.markets_long dealt.groups.wallets_long last (fold-markets rows world) (fold-wallets rows world) number
-
-      last-wallets : (number : ℕ) → part gw number last.wallets ≡ (world_in groups number last).wallets
-      last-wallets number = group.wallets-part bank dealt.can.1.apart gm gw dealt.groups.markets_long dealt.groups.wallets_long last (fold-markets rows world) (fold-wallets rows world) number
-
       -- each part of the cells is as long as before
       pub as-long : AreAsLong gm (map own_markets after) × AreAsLong gw (map own_wallets_of after)
       as-long = (
@@ -321,8 +309,8 @@ module _ {bank : CellsState} {terms : Terms} {rows : List PlainRow} {numbers : L
 
         ended : world_of left ≡ last
         ended =
-            let states = whole-markets market_state_of last.markets last-long.0 (λ number within. ap (λ (w : World). w.markets) (end-world number within) ∙ sym (last-markets number)) in
-            let seen = whole-wallets wallet_state_of last.wallets last-long.1 (λ number within. ap (λ (w : World). w.wallets) (end-world number within) ∙ sym (last-wallets number)) in
+            let states = whole-markets market_state_of last.markets last-long.0 (λ number within. ap (λ (w : World). w.markets) (end-world number within) ∙ sym (group.markets-part in_groups last (fold-markets rows world) (fold-wallets rows world) number)) in
+            let seen = whole-wallets wallet_state_of last.wallets last-long.1 (λ number within. ap (λ (w : World). w.wallets) (end-world number within) ∙ sym (group.wallets-part in_groups last (fold-markets rows world) (fold-wallets rows world) number)) in
             let rest = group.fold-rest rows world in
             λ i. record {
               markets = states i;

@@ -17,6 +17,7 @@ use Rattle.dex_types.specs.Trader.{Trader, Traders}
 use Rattle.dex_eager.specs.Histories.{eager_start}
 use Rattle.dex_eager.specs.Slots.{without_slot, without_slots}
 use Rattle.dex_eager.specs.Worth.{held_for, no_moves, worth_of}
+use Rattle.dex_eager.proofs.StepMoves.{eager-same}
 use Rattle.dex_totals.specs.Sums.{capped}
 use Rattle.dex_worth.specs.Holdings.{held_amounts}
 use Rattle.dex_worth.proofs.Holding.{held-small}
@@ -26,7 +27,6 @@ use Rattle.dex_eager_market.specs.Accounts.{IsWithin, entry_of}
 use Rattle.dex_eager_market.specs.Foreseen.{CanFill}
 use Rattle.dex_eager_market.specs.Making.{account_of, held_accounts}
 use Rattle.dex_eager_market.specs.States.{IsBook, IsKept, eager_of}
-use Rattle.dex_eager_market.proofs.Trades.{same-market}
 
 -- proper orders can fill, in whatever slot
 can-fill-proper : (side : Side) (sizes : Lots) (order : Order) → IsProper side sizes order → CanFill side sizes (without_slot order)
@@ -86,7 +86,7 @@ pub record IsStart (m : Market) (s : State) : Type 0 where
 pub start-is : (m : Market) (s : State) → IsSound m → IsStart m s → eager_of s ≡ eager_start m
 start-is m s sound is =
     let all : m.pc_fees + m.referrer_rebates ≡ m.pc_fees + m.referrer_rebates + 0 + 0 = omega arith in
-    same-market is.sizes is.bid_room is.ask_room is.bids is.asks is.next (ap (map entry_of) is.accounts ∙ start-worths m sound m.traders) (is.takings ∙ all)
+    eager-same _ _ is.sizes is.bid_room is.ask_room is.bids is.asks is.next (ap (map entry_of) is.accounts ∙ start-worths m sound m.traders) (is.takings ∙ all)
 
 -- and all that is kept holds
 pub start-kept : (m : Market) (s : State) → IsSound m → IsStart m s → s.bids.room ≤ vec_capacity s.bids.orders → s.asks.room ≤ vec_capacity s.asks.orders

@@ -29,6 +29,7 @@ use Rattle.dex_take.specs.TakeTerms.{meeting_with as take_meets, take_of}
 use Rattle.dex_eager.specs.Eager.{Eager, EagerStep, after_meeting, after_new_order, is_too_large, order_by, take_by, with_change, with_fills}
 use Rattle.dex_eager.specs.Slots.{maker_fills}
 use Rattle.dex_eager.specs.Worth.{net}
+use Rattle.dex_eager.proofs.StepMoves.{eager-same}
 use Rattle.dex_eager_market.specs.declared.states.Book.{Book}
 use Rattle.dex_eager_market.specs.declared.states.State.{State}
 use Rattle.dex_eager_market.specs.declared.states.Till.{Till}
@@ -113,27 +114,13 @@ pub record HasTraded (side : Side) (sizes : Lots) (n : NewOrder) (met : Meeting)
       (with_fills (maker_fills met.events) (map entry_of till.accounts.items))
   pub takings_are : till'.takings ≡ till.takings + (fee_of n met - met.rebates)
 
--- markets whose parts are the same
-pub same-market : {one other : Eager} → one.sizes ≡ other.sizes → one.bid_capacity ≡ other.bid_capacity → one.ask_capacity ≡ other.ask_capacity → one.bids ≡ other.bids
-    → one.asks ≡ other.asks → one.next_sequence ≡ other.next_sequence → one.worths ≡ other.worths → one.takings ≡ other.takings → one ≡ other
-same-market sizes bid_room ask_room bids asks next worths takings = λ i. record {
-  sizes = sizes i;
-  bid_capacity = bid_room i;
-  ask_capacity = ask_room i;
-  bids = bids i;
-  asks = asks i;
-  next_sequence = next i;
-  worths = worths i;
-  takings = takings i;
-}
-
 pub order-left : (side : Side) (sizes : Lots) (n : NewOrder) (met : Meeting) (own opposing own' opposing' : Book) (till till' : Till)
     → HasTraded side sizes n met own opposing own' opposing' till till'
     → market_by side sizes own' opposing' till' ≡ after_new_order side n met (market_by side sizes own opposing till)
 order-left Bid sizes n met own opposing own' opposing' till till' has =
-    same-market refl has.own_room has.opposing_room has.own_is has.opposing_is has.next has.worths has.takings_are
+    eager-same _ _ refl has.own_room has.opposing_room has.own_is has.opposing_is has.next has.worths has.takings_are
 order-left Ask sizes n met own opposing own' opposing' till till' has =
-    same-market refl has.opposing_room has.own_room has.opposing_is has.own_is has.next has.worths has.takings_are
+    eager-same _ _ refl has.opposing_room has.own_room has.opposing_is has.own_is has.next has.worths has.takings_are
 
 -- the market after a take, part by part
 pub record HasMet (met : Meeting) (fee : ℕ) (opposing opposing' : Book) (till till' : Till) : Type 0 where
@@ -145,8 +132,8 @@ pub record HasMet (met : Meeting) (fee : ℕ) (opposing opposing' : Book) (till 
 
 pub take-left : (side : Side) (sizes : Lots) (fee : ℕ) (met : Meeting) (own opposing opposing' : Book) (till till' : Till) → HasMet met fee opposing opposing' till till'
     → market_by side sizes own opposing' till' ≡ after_meeting side met fee (market_by side sizes own opposing till)
-take-left Bid sizes fee met own opposing opposing' till till' has = same-market refl refl has.room refl has.left has.next has.worths has.takings_are
-take-left Ask sizes fee met own opposing opposing' till till' has = same-market refl has.room refl has.left refl has.next has.worths has.takings_are
+take-left Bid sizes fee met own opposing opposing' till till' has = eager-same _ _ refl refl has.room refl has.left has.next has.worths has.takings_are
+take-left Ask sizes fee met own opposing opposing' till till' has = eager-same _ _ refl has.room refl has.left refl has.next has.worths has.takings_are
 
 -- ---- whether it changes anything
 

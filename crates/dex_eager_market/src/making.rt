@@ -9,7 +9,7 @@ ghost use Rattle.dex_accounts.specs.Accepted.{IsAccepted};
 ghost use Rattle.dex_accounts.specs.Decoded.{market_in};
 ghost use Rattle.dex_eager.specs.Histories.{eager_start};
 ghost use Rattle.dex_eager.specs.Slots.{without_slots};
-ghost use Rattle.dex_market.specs.MarketAccount.{market_words, sizes_of};
+ghost use Rattle.dex_market.specs.MarketAccount.{market_words};
 ghost use Rattle.dex_market.specs.RequestQueue.{next_sequence};
 ghost use Rattle.dex_slab.specs.Slab.{IsSlab, room_in};
 ghost use Rattle.dex_types.specs.Soundness.{IsSound};
@@ -24,9 +24,9 @@ use crate::states::{Book, State, Till};
 use dex_audit_rules::gather;
 use dex_market::{MarketRef, RequestRef};
 use dex_slab::SlabRef;
-use dex_types::{Address, Lots, MarketAccounts, NoMemory, Order, OrdersAccount, Side, SideRead};
+use dex_types::{Address, MarketAccounts, NoMemory, Order, OrdersAccount, Side, SideRead};
 use dex_worth::amounts::{NONE, TokenAmounts};
-use dex_worth::holdings::held_of;
+use dex_worth::holdings::{held_of, sizes_of};
 use std::alloc::Global;
 
 /// A side with these orders, all in slot 0, and room for this many, all reserved here.
@@ -89,17 +89,6 @@ fn sequence_of(market: &MarketAccounts) -> u64
         bytes: &market.requests,
     };
     requests.next_seq().unwrap_or(u64::MAX)
-}
-
-/// The lot sizes of a market.
-fn sizes_of(market: &MarketAccounts) -> Lots
-    requires { IsAccepted (market_accounts_of market.now) }
-    ensures { result ≡ sizes_of (market_words (market_accounts_of market.now).market) }
-{
-    let words = MarketRef {
-        bytes: &market.market,
-    };
-    words.sizes()
 }
 
 /// What a market holds of quote for itself and for referrers.

@@ -18,7 +18,7 @@ ghost use Rattle.dex_eager_market.specs.declared.states.Book.{Book as BookOf};
 
 use crate::accounts::{Account, Change, add, traded};
 use crate::book_list::{post, take_front};
-use crate::foreseeing::{ListProspect, Sums, foresee};
+use crate::foreseeing::{ListProspect, foresee};
 use crate::paying::pay_makers;
 use crate::states::{Book, Till};
 use dex_fees::{taker_fee, tier_number};

@@ -6,11 +6,10 @@ use Rattle.dex_gate.specs.GateView.{GateView}
 use Rattle.dex_gate.specs.PassView.{PassView, Accounts, AreAll}
 use Rattle.dex_gate.specs.Rule.{claim}
 use Rattle.dex_gate.specs.Seats.{shown_card}
-use Rattle.dex_gate.proofs.Numbers.{same_same, within_yes}
 
 module _ {E O : Type 0} (g : GateView E O) where
   accounted : (k : ℕ) (p : PassView E O) → Accounts k p → 1 ≤ claim k (shown_card g p)
-  accounted k p h = ⊎_elim (λ (e : p.number ≡ k). let same_k = same_same p.number in subst (λ (z : ℕ). 1 ≤ claim z (shown_card g p)) e (omega arith)) (λ (l : (p.next ≤ k) × (k < p.until)). omega (arith, within_yes p.next p.until k l.0 l.1)) h
+  accounted k p h = ⊎_elim (λ (e : p.number ≡ k). omega (arith, e)) (λ (l : (p.next ≤ k) × (k < p.until)). omega (arith, l.0, l.1)) h
 
   -- where all numbers are accounted for, the cards claim them all
   pub all_claimed : (count : ℕ) (passes : List (PassView E O)) → AreAll count passes → (k : ℕ) → k < count → 0 < sum_by (claim k) (map (shown_card g) passes)

@@ -1,7 +1,6 @@
 -- Histories that grow.
 use Rattle.std.proofs.Common.{◌≡◌, ◌≢◌, ℕ, Bool, true, false, cond, eqb, List, [], ◌∷◌, ◌++◌, length, sym, refl, ap, ◌∙◌, subst, arith, append_assoc, append-nil, length-append, eq-eqb, ne_eqb, eqb-true}
 use Rattle.std.proofs.lemmas.List.Prefix.{front_rest}
-use Rattle.std.proofs.lemmas.List.Elements.{filter-append}
 use Rattle.dex_gate.specs.History.{added, Extends, of_lane, AddsOne}
 
 module _ {E : Type 0} where
@@ -36,9 +35,6 @@ module _ {E : Type 0} where
 
     pub of_lane-else : (k : ℕ) (e : E) → lane e ≢ k → of_lane lane k (e ∷ []) ≡ []
     of_lane-else k e is = ap (λ b. cond b (e ∷ []) []) (ne_eqb (lane e) k is)
-
-    pub of_lane-append : (k : ℕ) (a b : List E) → of_lane lane k (a ++ b) ≡ of_lane lane k a ++ of_lane lane k b
-    of_lane-append k a b = filter-append (λ e. eqb (lane e) k) a b
 
     -- the entry that a turn added
     pub record OneEntry (n : ℕ) (before after : List E) : Type 0 where

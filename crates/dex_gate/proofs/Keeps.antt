@@ -1,12 +1,12 @@
 -- Each step keeps the gate's rule.
-use Rattle.std.proofs.Common.{◌≡◌, ◌≢◌, ℕ, ◌+◌, ◌-◌, ◌%◌, ◌<◌, ◌≤◌, List, [], ◌∷◌, ◌++◌, length, get_or, set, All, sum_by, sym, refl, ap, ◌∙◌, subst, ⊎_elim, arith, le_refl, mod-eq_of_lt, length-append, append-nil, drop_of_length-le, Option, Some}
+use Rattle.std.proofs.Common.{◌≡◌, ◌≢◌, ℕ, eqb, ◌+◌, ◌-◌, ◌%◌, ◌<◌, ◌≤◌, List, [], ◌∷◌, ◌++◌, length, get_or, set, All, sum_by, sym, refl, ap, ◌∙◌, subst, ⊎_elim, arith, le_refl, mod-eq_of_lt, length-append, append-nil, drop_of_length-le, Option, Some, None}
 use mathlib.Core.Logic.{dite}
 use mathlib.Core.Option.{some, some-injective}
 use native.Mathlib.Decide.{ℕ_discrete}
 use lib.ListN.{get_elem?}
 use lib.Seq.{set-get_or}
 use Rattle.std.proofs.lemmas.List.Sums.{sum_by-cons, sum_by-append}
-use Rattle.std.proofs.lemmas.List.Elements.{All-append, All-head, All-nil}
+use Rattle.std.proofs.lemmas.List.Elements.{All-append, All-head, All-nil, filter-append}
 use Rattle.atomic_table.specs.Table.{State, Me, step, keeps, takes, gives, Allows, Splits, Joins, opening}
 use Rattle.atomic_table.proofs.Lists.{at_set, set_here, set_else, set_again, at_snoc, at_longer}
 use Rattle.dex_gate.specs.declared.board.Card.{Card}
@@ -16,30 +16,14 @@ use Rattle.dex_gate.specs.declared.stage.Stage.TheVariants.{Idle, Waiting, Out}
 use Rattle.dex_gate.specs.History.{added, Extends, of_lane, AddsOne}
 use Rattle.dex_gate.specs.Rule.{same, within, has_ticket, has_that, IsOut, IsServed, claim, claims, room, tickets, times, NoneOut, IsTrueCard, IsTrueView, IsTrueValue, Kept, IsEnd, first_view}
 use Rattle.dex_gate.specs.Steps.{lone, handing, handed, new_card, joined, spent, after_turn, Draws, Shows, Looks, PassesOn}
-use Rattle.dex_gate.proofs.Seating.{value_or}
 use Rattle.dex_gate.proofs.Sums.{sum_by-set_at, at-le-sum_by, two-le-sum_by, sum_by-le-at}
 use Rattle.dex_gate.proofs.Lists.{at_there, at_only, All-one}
-use Rattle.dex_gate.proofs.Numbers.{same_same, within_more, within_less, within_first, within_none, within-le-one, within_in, within_yes, same_not}
-use Rattle.dex_gate.proofs.Histories.{extends_self, added-append, extends-append, of_lane-here, of_lane-else, of_lane-append, one_entry}
+use Rattle.dex_gate.proofs.Histories.{extends_self, added-append, extends-append, of_lane-here, of_lane-else, one_entry}
 
-module _ {E O : Type 0} where
-  -- a view has no more tickets than cards, and no more cards than room
-  tickets-le-room : (v : View E O) → tickets v ≤ length v.cards → tickets v ≤ room v
-  tickets-le-room v h = omega (arith, length-le-room v.cards)
-    where
-      length-le-room : (cs : List (Card E O)) → length cs ≤ sum_by (λ c. 1 + (c.until - c.next)) cs
-      length-le-room [] = omega arith
-      length-le-room (c ∷ cs) = omega (arith, sum_by-cons (λ c. 1 + (c.until - c.next)) c cs, length-le-room cs)
-
--- the first card
-abbrev card_or : {E O : Type 0} → Card E O → List (Card E O) → Card E O
-card_or d [] = d
-card_or d (c ∷ cs) = c
-
--- the list that the mark keeps
-abbrev held_or : {E : Type 0} → List E → Stage E → List E
-held_or d (Out held) = held
-held_or d _ = d
+-- a view has no more cards than room
+cards-le-room : {E O : Type 0} (cs : List (Card E O)) → length cs ≤ sum_by (λ c. 1 + (c.until - c.next)) cs
+cards-le-room [] = omega arith
+cards-le-room (c ∷ cs) = omega (arith, sum_by-cons (λ c. 1 + (c.until - c.next)) c cs, cards-le-room cs)
 
 module _ {V E O : Type 0} (entries : V → List E) (lane : E → ℕ) (origin : V → O) (opened : V) (passes : ℕ) where
   abbrev St : Type 0
@@ -56,15 +40,6 @@ module _ {V E O : Type 0} (entries : V → List E) (lane : E → ℕ) (origin : 
 
   abbrev IsGood : List E → Card E O → Type 0
   IsGood = IsTrueCard lane (origin opened) (entries opened)
-
-  drawn_is : (s : St) (r : Rule s) → get_or s.words 0 0 ≡ length r.history + sum_by tickets s.views
-  drawn_is s r = ap (λ ws. get_or ws 0 0) r.words
-
-  served_is : (s : St) (r : Rule s) → get_or s.words 1 0 ≡ length r.history
-  served_is s r = ap (λ ws. get_or ws 1 0) r.words
-
-  few_tickets : (s : St) (r : Rule s) → sum_by tickets s.views ≤ 16
-  few_tickets s r = let below = sum_by-le-at tickets room s.views (λ j v at. tickets-le-room v (r.each_view j v at).carded) in omega (arith, below, r.all_room, r.few)
 
   -- a step by which one view changes, with its cards' numbers as before, and no entry is added
   moves : (s : St) (r : Rule s) (words' : List ℕ) (homes' : List (mathlib.Core.Option.Option (Option V))) (id : ℕ) (v w : View E O) → get_elem? s.views id ≡ some v
@@ -102,8 +77,9 @@ module _ {V E O : Type 0} (entries : V → List E) (lane : E → ℕ) (origin : 
       let none_held : tickets v ≡ 0 = ap has_ticket idle in
       let S : ℕ = length r.history in
       let n : ℕ = sum_by tickets s.views in
-      let T_is : T ≡ S + n = drawn_is s r in
-      let few : n ≤ 16 = few_tickets s r in
+      let T_is : T ≡ S + n = ap (λ ws. get_or ws 0 0) r.words in
+      let roomy = sum_by-le-at tickets room s.views (λ j u here. omega (arith, cards-le-room u.cards, (r.each_view j u here).carded)) in
+      let few : n ≤ 16 = omega (arith, roomy, r.all_room, r.few) in
       let small : S < 9223372036854775808 = r.bounded in
       let more : sum_by tickets (set s.views id w) ≡ n + 1 = omega (arith, sum_by-set_at tickets s.views id v w at) in
       let fits : (T + 1) % 18446744073709551616 ≡ T + 1 = mod-eq_of_lt (omega arith) in (
@@ -116,7 +92,7 @@ module _ {V E O : Type 0} (entries : V → List E) (lane : E → ℕ) (origin : 
             let mine : times t w ≡ same (S + n) t = ap (λ k. same k t) T_is in
             let all = r.each_ticket t in
             let change = sum_by-set_at (times t) s.views id v w at in
-            ap (λ (z : ℕ). z) (omega (arith, within_more S n t, all, change, none_that, mine, ap (λ k. within S (S + k) t) more)))
+            ap (λ (z : ℕ). z) (omega (arith, all, change, none_that, mine, more)))
             refl
             (let true = r.each_view id v at in record { cards = true.cards; served = tt; carded = omega arith })
             (λ none. r.home (none_before s.views id v w at (λ out. subst IsOut idle out) none)),
@@ -125,7 +101,7 @@ module _ {V E O : Type 0} (entries : V → List E) (lane : E → ℕ) (origin : 
 
   -- a turn that is out is the one that is served
   out_served : (history : List E) (ticket : ℕ) (st : Stage E) → IsOut st → IsServed history ticket st → (ticket ≡ length history) × (has_that st ticket (length history) ≡ 1)
-  out_served history ticket (Out held) out ok = (ok.0, ap (λ k. same k (length history)) ok.0 ∙ same_same (length history))
+  out_served history ticket (Out held) out ok = (ok.0, omega (arith, ok.0))
   out_served history ticket _ out ok = absurd out
 
   -- whose ticket is served, and has no turn out, is the only one
@@ -133,18 +109,18 @@ module _ {V E O : Type 0} (entries : V → List E) (lane : E → ℕ) (origin : 
   none_out s r id v at not mine j u is out = dite (ℕ_discrete j id)
       (λ e. not (subst (λ (z : View E O). IsOut z.stage) (some-injective u v (sym is ∙ (ap (get_elem? s.views) e ∙ at))) out))
       (λ ne. let S : ℕ = length r.history in let his = (out_served r.history u.ticket u.stage out (r.each_view j u is).served).1 in let both = two-le-sum_by (times S) s.views j id u v ne is at in
-      absurd (omega (arith, his, mine, both, r.each_ticket S, within-le-one S (S + sum_by tickets s.views) S)))
+      absurd (omega (arith, his, mine, both, r.each_ticket S)))
 
   pub looks : (slots id : ℕ) (c : Card E O) (t : ℕ)
       → Allows Rule slots id (lone c t Waiting, []) 1 (λ n. n) (Looks entries lane origin (step slots 1 0 0 mathlib.Core.Option.none) (lone c t Waiting, []))
   looks slots id c t s r _ at _ =
       let S : ℕ = length r.history in
-      let found : get_or s.words 1 0 ≡ S = served_is s r in
+      let found : get_or s.words 1 0 ≡ S = ap (λ ws. get_or ws 1 0) r.words in
       let v : View E O = lone c t Waiting in
       let same_words : set s.words 1 (get_or s.words 1 0) ≡ s.words = set-get_or s.words 1 0 in
       dite (ℕ_discrete (get_or s.words 1 0) t)
       (λ hit. let is : t ≡ S = sym hit ∙ found in
-      let none = none_out s r id v at (λ out. out) (ap (λ k. same k S) is ∙ same_same S) in
+      let none = none_out s r id v at (λ out. out) (omega (arith, is)) in
       let h = r.home none in
       let x : V = h.0 in
       let w : View E O = lone c t (Out (entries x)) in
@@ -161,7 +137,7 @@ module _ {V E O : Type 0} (entries : V → List E) (lane : E → ℕ) (origin : 
             refl
             (record { cards = true.cards; served = (is, h.2.0); carded = true.carded })
             (λ still. absurd (still id w (at_there s.views id v w at) tt)),
-        λ c' t' same. let card : c ≡ c' = ap (λ (m : M). card_or c m.0.cards) same in let ticket : t ≡ t' = ap (λ (m : M). m.0.ticket) same in (
+        λ c' t' same. let card : c ≡ c' = ap (λ (m : M). get_or m.0.cards 0 c) same in let ticket : t ≡ t' = ap (λ (m : M). m.0.ticket) same in (
           (λ _. (
             x,
             (λ i. (lone (card i) (ticket i) (Out (entries x)), (0, Some x) ∷ [])),
@@ -188,12 +164,12 @@ module _ {V E O : Type 0} (entries : V → List E) (lane : E → ℕ) (origin : 
   other_card history after n e c begins is lane_is none good =
       let goes : added (entries opened) after ≡ added (entries opened) history ++ e ∷ [] = ap (added (entries opened)) is ∙ added-append (entries opened) history (e ∷ []) begins in
       let stays : (k : ℕ) → lane e ≢ k → of_lane lane k (added (entries opened) after) ≡ of_lane lane k (added (entries opened) history) = λ k ne.
-      ap (of_lane lane k) goes ∙ (of_lane-append lane k (added (entries opened) history) (e ∷ []) ∙ (ap (λ l. of_lane lane k (added (entries opened) history) ++ l) (of_lane-else lane k e ne) ∙ append-nil _)) in record {
+      ap (of_lane lane k) goes ∙ (filter-append (λ y. eqb (lane y) k) (added (entries opened) history) (e ∷ []) ∙ (ap (λ l. of_lane lane k (added (entries opened) history) ++ l) (of_lane-else lane k e ne) ∙ append-nil _)) in record {
         same_origin = good.same_origin;
         same_opening = good.same_opening;
         seen = subst (Extends c.seen) (sym is) (extends-append c.seen history (e ∷ []) good.seen);
-        mine = stays c.number (λ same_n. absurd (omega (arith, same_not c.number n (omega arith)))) ∙ good.mine;
-        none_yet = λ k a b. stays k (λ same_n. absurd (omega (arith, within_yes c.next c.until k a b, ap (λ z. within c.next c.until z) (sym lane_is ∙ same_n)))) ∙ good.none_yet k a b;
+        mine = stays c.number (λ same_n. absurd (omega (arith, none, same_n, lane_is))) ∙ good.mine;
+        none_yet = λ k a b. stays k (λ same_n. absurd (omega (arith, none, a, b, lane_is, same_n))) ∙ good.none_yet k a b;
       }
 
   -- the card that adds the entry
@@ -202,12 +178,12 @@ module _ {V E O : Type 0} (entries : V → List E) (lane : E → ℕ) (origin : 
   own_card history after n e c begins is added_is lane_is one good =
       let goes : added (entries opened) after ≡ added (entries opened) history ++ e ∷ [] = ap (added (entries opened)) is ∙ added-append (entries opened) history (e ∷ []) begins in
       let grows : (k : ℕ) → of_lane lane k (added (entries opened) after) ≡ of_lane lane k (added (entries opened) history) ++ of_lane lane k (e ∷ []) = λ k.
-      ap (of_lane lane k) goes ∙ of_lane-append lane k (added (entries opened) history) (e ∷ []) in record {
+      ap (of_lane lane k) goes ∙ filter-append (λ y. eqb (lane y) k) (added (entries opened) history) (e ∷ []) in record {
         same_origin = good.same_origin;
         same_opening = good.same_opening;
         seen = extends_self after;
         mine = grows c.number ∙ (λ i. good.mine i ++ (of_lane-here lane c.number e lane_is ∙ sym added_is) i);
-        none_yet = λ k a b. grows k ∙ ((λ i. good.none_yet k a b i ++ of_lane-else lane k e (λ same_n. absurd (omega (arith, same_same c.number, within_yes c.next c.until k a b, ap (λ z. within c.next c.until z) (sym lane_is ∙ same_n)))) i));
+        none_yet = λ k a b. grows k ∙ ((λ i. good.none_yet k a b i ++ of_lane-else lane k e (λ same_n. absurd (omega (arith, one, a, b, lane_is, same_n))) i));
       }
 
   pub passes_on : (slots id : ℕ) (c : Card E O) (t : ℕ) (held : List E) (x : V) → slots ≡ 1 → AddsOne lane c.number held (entries x) → origin x ≡ c.origin → length (entries x) < 9223372036854775808
@@ -228,12 +204,12 @@ module _ {V E O : Type 0} (entries : V → List E) (lane : E → ℕ) (origin : 
       let longer : length after ≡ S + 1 = omega (arith, ap length one.after_is, length-append H (e ∷ [])) in
       let n : ℕ = sum_by tickets (set s.views id w) in
       let fewer : sum_by tickets s.views ≡ n + 1 = omega (arith, sum_by-set_at tickets s.views id v w at) in
-      let found : get_or s.words 1 0 ≡ S = served_is s r in
+      let found : get_or s.words 1 0 ≡ S = ap (λ ws. get_or ws 1 0) r.words in
       let fits : (S + 1) % 18446744073709551616 ≡ S + 1 = mod-eq_of_lt (omega arith) in
-      let mine : 1 ≤ claims c.number v = omega (arith, same_same c.number, sum_by-cons (claim c.number) c []) in
-      let at_most : sum_by (claims c.number) s.views ≤ 1 = omega (arith, r.each_number c.number, within-le-one 0 passes c.number) in
+      let mine : 1 ≤ claims c.number v = omega (arith, sum_by-cons (claim c.number) c []) in
+      let at_most : sum_by (claims c.number) s.views ≤ 1 = omega (arith, r.each_number c.number) in
       let own_one : claim c.number c ≤ 1 = omega (arith, sum_by-cons (claim c.number) c [], at-le-sum_by (claims c.number) s.views id v at) in
-      let below : c.number < passes = (within_in 0 passes c.number (omega (arith, at-le-sum_by (claims c.number) s.views id v at, r.each_number c.number))).1 in
+      let below : c.number < passes = omega (arith, mine, at-le-sum_by (claims c.number) s.views id v at, r.each_number c.number) in
       let here : IsTrue after w = record {
         cards = All-one (IsGood after) (after_turn c held after)
             (subst (λ (l : List E). IsGood after (after_turn c l after)) (sym held_is) (own_card H after c.number e c r.begins one.after_is one.added_is one.lane_is_n own_one good));
@@ -247,7 +223,7 @@ module _ {V E O : Type 0} (entries : V → List E) (lane : E → ℕ) (origin : 
             other_card H after c.number e card r.begins one.after_is one.lane_is_n (omega (arith, Rattle.std.proofs.lemmas.List.Sums.get_or-le-sum_by (claim c.number) u.cards k d l)) (its.cards k d l);
         served = not_out H after u.ticket u.stage
             (λ out. let his = (out_served H u.ticket u.stage out its.served).1 in let both = two-le-sum_by (times S) s.views j id u v ne here_u at in
-            absurd (omega (arith, his, both, ap (λ k. same k S) is ∙ same_same S, r.each_ticket S, within-le-one S (S + sum_by tickets s.views) S)));
+            absurd (omega (arith, his, both, is, r.each_ticket S)));
         carded = its.carded;
       } in (
         w,
@@ -261,17 +237,17 @@ module _ {V E O : Type 0} (entries : V → List E) (lane : E → ℕ) (origin : 
           lanes = subst (All (λ y. lane y < passes)) (sym (ap (added (entries opened)) one.after_is ∙ added-append (entries opened) H (e ∷ []) r.begins))
               (All-append (λ y. lane y < passes) (added (entries opened) H) (e ∷ []) r.lanes (All-one (λ y. lane y < passes) e (subst (λ (k : ℕ). k < passes) (sym one.lane_is_n) below)));
           words = (λ i. set (r.words i) 1 ((found i + 1) % 18446744073709551616)) ∙ (λ i. (S + fewer i) ∷ fits i ∷ []) ∙ (let first : S + (n + 1) ≡ length after + n = omega (arith, longer) in λ i. first i ∷ sym longer i ∷ []);
-          each_ticket = λ k. omega (arith, sum_by-set_at (times k) s.views id v w at, r.each_ticket k, within_less S n k, ap (λ z. within S (S + z) k) fewer, ap (λ z. same z k) is, ap (λ z. within z (z + n) k) longer);
+          each_ticket = λ k. omega (arith, sum_by-set_at (times k) s.views id v w at, r.each_ticket k, fewer, is, longer);
           each_number = λ k. omega (arith, sum_by-set_at (claims k) s.views id v w at, r.each_number k);
           all_room = omega (arith, sum_by-set_at room s.views id v w at, r.all_room);
           each_view = λ j u is_u. ⊎_elim (λ (p : (j ≡ id) × (w ≡ u)). subst (IsTrue after) p.1 here) (λ (p : (j ≢ id) × (get_elem? s.views j ≡ some u)). there j u p.0 p.1) (at_set s.views id j w u is_u);
           home = λ _. (x, set_here s.homes 0 (some (Some x)) (omega arith), (refl, kept ∙ good.same_origin));
         },
         λ c' t' held' x' same.
-            let card : c ≡ c' = ap (λ (m : M). card_or c m.0.cards) same in
+            let card : c ≡ c' = ap (λ (m : M). get_or m.0.cards 0 c) same in
             let ticket : t ≡ t' = ap (λ (m : M). m.0.ticket) same in
-            let mark : held ≡ held' = ap (λ (m : M). held_or held m.0.stage) same in
-            let value : x ≡ x' = ap (λ (m : M). value_or x m.1) same in (
+            let mark : held ≡ held' = cc (ap (λ (m : M). m.0.stage) same) in
+            let value : x ≡ x' = cc (ap (λ (m : M). (get_or m.1 0 (0, None)).1) same) in (
               (λ i. (lone (after_turn (card i) (mark i) (entries (value i))) (ticket i) Idle, [])),
               subst (λ (z : Card E O × V). Extends z.0.seen (entries z.1)) (λ i. (card i, value i)) (subst (Extends c.seen) (sym one.after_is) (extends-append c.seen H (e ∷ []) good.seen)),
             ),
@@ -300,7 +276,7 @@ module _ {V E O : Type 0} (entries : V → List E) (lane : E → ℕ) (origin : 
         lanes = r.lanes;
         words = r.words ∙ ap (λ (k : ℕ). (length r.history + k) ∷ length r.history ∷ []) (sym as_many);
         each_ticket = λ t. sums (times t) (omega arith) ∙ (r.each_ticket t ∙ ap (λ (z : ℕ). within (length r.history) (length r.history + z) t) (sym as_many));
-        each_number = λ k. sums (claims k) (omega (arith, within_first c.next c.until k more, within_none c.until k)) ∙ r.each_number k;
+        each_number = λ k. sums (claims k) (omega (arith, more)) ∙ r.each_number k;
         all_room = sums room (omega arith) ∙ r.all_room;
         each_view = λ j z is. ⊎_elim
             (λ (e : get_elem? (set s.views id w) j ≡ some z). ⊎_elim (λ (p : (j ≡ id) × (w ≡ z)). subst (IsTrue r.history) p.1 record {
@@ -375,7 +351,7 @@ module _ {V E O : Type 0} (entries : V → List E) (lane : E → ℕ) (origin : 
   -- a view with a card claims some number
   some_claim : (cs : List (Card E O)) → 0 < length cs → (k : ℕ) × (1 ≤ sum_by (claim k) cs)
   some_claim [] h = absurd (omega arith)
-  some_claim (c ∷ cs) h = (c.number, omega (arith, same_same c.number, sum_by-cons (claim c.number) c cs))
+  some_claim (c ∷ cs) h = (c.number, omega (arith, sum_by-cons (claim c.number) c cs))
 
   out_ticket : (st : Stage E) → IsOut st → has_ticket st ≡ 1
   out_ticket (Out held) out = refl
@@ -390,8 +366,8 @@ module _ {V E O : Type 0} (entries : V → List E) (lane : E → ℕ) (origin : 
       let k = some_claim u.cards some_card in
       let theirs : 1 ≤ claims k.0 u = k.1 in
       let whole = r.each_number k.0 in
-      let below : k.0 < passes = (within_in 0 passes k.0 (omega (arith, theirs, whole, at-le-sum_by (claims k.0) s.views j u is))).1 in
-      absurd (omega (arith, theirs, all k.0 below, two-le-sum_by (claims k.0) s.views j id u v ne is at, whole, within-le-one 0 passes k.0)))
+      let below : k.0 < passes = omega (arith, theirs, whole, at-le-sum_by (claims k.0) s.views j u is) in
+      absurd (omega (arith, theirs, all k.0 below, two-le-sum_by (claims k.0) s.views j id u v ne is at, whole)))
 
   -- the value at home, once all passes are back
   pub ends : (s : St) (r : Rule s) (id : ℕ) (v : View E O) → get_elem? s.views id ≡ some v → v.stage ≡ Idle → ((k : ℕ) → k < passes → 0 < claims k v)
@@ -429,8 +405,7 @@ module _ {V E O : Type 0} (entries : V → List E) (lane : E → ℕ) (origin : 
   opens x n same_x same_n some_pass few bounded =
       let l : List E = entries opened in
       let none_added : added l l ≡ [] = drop_of_length-le l (le_refl (length l)) in
-      let first : View E O = first_view entries origin opened passes in
-      let first_card : Card E O = record { number = 0; next = 1; until = passes; origin = origin opened; opening = entries opened; seen = entries opened; mine = [] } in record {
+      let first : View E O = first_view entries origin opened passes in record {
         history = l;
         few = few;
         bounded = omega arith;
@@ -441,7 +416,7 @@ module _ {V E O : Type 0} (entries : V → List E) (lane : E → ℕ) (origin : 
         each_number = λ k. omega arith;
         all_room = omega arith;
         each_view = λ j v at. subst (IsTrue l) (at_only first j v at) record {
-          cards = All-one (IsGood l) first_card record {
+          cards = All-one (IsGood l) _ record {
             same_origin = refl;
             same_opening = refl;
             seen = extends_self l;

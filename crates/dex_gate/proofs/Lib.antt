@@ -1,7 +1,6 @@
 pub mod Sums
 pub mod Lists
 pub mod Histories
-pub mod Numbers
 pub mod Keeps
 pub mod Seating
 pub mod Closing

@@ -1,5 +1,6 @@
 -- What a step at its seat does to a pass.
-use Rattle.std.proofs.Common.{◌≡◌, ℕ, ◌+◌, List, [], ◌∷◌, Option, Some, None, unwrap_or, sym, refl, ap, ◌∙◌, subst}
+use Rattle.std.proofs.Common.{◌≡◌, ℕ, ◌+◌, List, [], ◌∷◌, get_or, Option, Some, None, sym, refl, ap, ◌∙◌, subst}
+use Rattle.std.proofs.lemmas.Option.{same_Some}
 use Rattle.atomic_table.specs.Table.{Me, rest}
 use Rattle.atomic_table.specs.Seated.{TableId}
 use Rattle.dex_gate.specs.declared.board.Card.{Card}
@@ -7,12 +8,9 @@ use Rattle.dex_gate.specs.declared.board.View.{View}
 use Rattle.dex_gate.specs.declared.stage.Stage.{Stage}
 use Rattle.dex_gate.specs.declared.stage.Stage.TheVariants.{Idle, Waiting, Out}
 use Rattle.dex_gate.specs.GateView.{GateView}
-use Rattle.dex_gate.specs.PassView.{PassView, next_pass}
+use Rattle.dex_gate.specs.PassView.{PassView}
 use Rattle.dex_gate.specs.Steps.{lone, handing, handed, new_card, Shows}
 use Rattle.dex_gate.specs.Seats.{gate_view, shown, pass_view, posed, IsPass, Takes}
-
-same_some : {A : Type 0} (x y : A) → Some x ≡ Some y → x ≡ y
-same_some x y e = ap (λ o. unwrap_or o x) e
 
 module _ {V E O : Type 0} where
   -- what the seat of a pass knows, beside what contracts see of the pass and of its gate
@@ -27,7 +25,7 @@ module _ {V E O : Type 0} where
   sits z m ticket stage p g ok is gate at =
       let whole : shown z ok.0 m.0.stage ≡ p = sym (ap (λ (y : Me (Option V) (View E O)). pass_view z y.0) ok.1) ∙ is in
       let staged : m.0.stage ≡ stage = ap (λ (q : PassView E O). q.stage) whole ∙ at in
-      let gated : gate_view z ok.0 ≡ g = same_some (gate_view z ok.0) g (ap (λ (q : PassView E O). q.gate) whole ∙ gate) in record {
+      let gated : gate_view z ok.0 ≡ g = same_Some (gate_view z ok.0) g (ap (λ (q : PassView E O). q.gate) whole ∙ gate) in record {
         card = ok.0;
         posed_so = ok.1 ∙ ap (posed ok.0 ticket) staged;
         shown_so = ap (shown z ok.0) (sym staged) ∙ whole;
@@ -43,43 +41,17 @@ module _ {V E O : Type 0} where
   pub view_of_posed : (z z' : TableId) (m : Me (Option V) (View E O)) (c : Card E O) (ticket : ℕ) (stage : Stage E) → z' ≡ z → m ≡ posed c ticket stage → pass_view z' m.0 ≡ shown z c stage
   view_of_posed z z' m c ticket stage table e = (λ i. pass_view (table i) (e i).0)
 
-  -- what contracts see of it where the stage alone changes
-  pub view_of_stage : (z z' : TableId) (m : Me (Option V) (View E O)) (c : Card E O) (ticket : ℕ) (old stage : Stage E) (p : PassView E O) → z' ≡ z → m ≡ posed c ticket stage → shown z c old ≡ p → pass_view z' m.0 ≡ record p { stage = stage }
-  view_of_stage z z' m c ticket old stage p table e is =
-      let at : PassView E O → PassView E O = λ q. record q { stage = stage } in
-      view_of_posed z z' m c ticket stage table e ∙ ap at is
-
   -- the seat after a ticket was drawn
   pub drawn : (m m' : Me (Option V) (View E O)) (c : Card E O) (ticket n : ℕ) → m ≡ posed c ticket Idle → m' ≡ (record m.0 { ticket = n; stage = Waiting }, m.1) → m' ≡ posed c n Waiting
-  drawn m m' c ticket n e is =
-      let at : Me (Option V) (View E O) → Me (Option V) (View E O) = λ y. (record y.0 { ticket = n; stage = Waiting }, y.1) in
-      is ∙ ap at e
+  drawn m m' c ticket n e is = is ∙ (λ i. (record (e i).0 { ticket = n; stage = Waiting }, (e i).1))
 
   -- the seat that has handed out a number
   pub handed_out : (m m' : Me (Option V) (View E O)) (c : Card E O) (ticket : ℕ) (stage : Stage E) → m ≡ posed c ticket stage → m' ≡ (handing m.0, m.1) → m' ≡ posed (record c { next = c.next + 1 }) ticket stage
   handed_out m m' c ticket stage e is = is ∙ ap (λ (y : Me (Option V) (View E O)). (handing y.0, y.1)) e
 
-  pub view_of_handing : (z z' : TableId) (m : Me (Option V) (View E O)) (c : Card E O) (ticket : ℕ) (stage : Stage E) (p : PassView E O) → z' ≡ z → m ≡ posed (record c { next = c.next + 1 }) ticket stage → shown z c stage ≡ p
-      → pass_view z' m.0 ≡ record p { next = p.next + 1 }
-  view_of_handing z z' m c ticket stage p table e is =
-      let at : PassView E O → PassView E O = λ q. record q { next = q.next + 1 } in
-      view_of_posed z z' m (record c { next = c.next + 1 }) ticket stage table e ∙ ap at is
-
   -- the seat that has it
   pub given_to : (m m' : Me (Option V) (View E O)) (c : Card E O) (ticket : ℕ) (stage : Stage E) → m ≡ posed c ticket stage → m' ≡ (handed m.0, []) → m' ≡ posed (new_card c) 0 Idle
   given_to m m' c ticket stage e is = is ∙ ap (λ (y : Me (Option V) (View E O)). (handed y.0, [])) e
-
-  pub view_of_given : (z z' : TableId) (m : Me (Option V) (View E O)) (c : Card E O) (stage : Stage E) (p : PassView E O) → z' ≡ z → m ≡ posed (new_card c) 0 Idle → shown z c stage ≡ p → pass_view z' m.0 ≡ next_pass p
-  view_of_given z z' m c stage p table e is = view_of_posed z z' m (new_card c) 0 Idle table e ∙ ap next_pass is
-
--- the value in hand
-abbrev pub value_or : {V : Type 0} → V → List (ℕ × Option V) → V
-value_or d ((k, Some x) ∷ more) = x
-value_or d _ = d
-
-abbrev first_or : {V : Type 0} → Option V → List (ℕ × Option V) → Option V
-first_or d [] = d
-first_or d (x ∷ xs) = x.1
 
 module _ {V E O : Type 0} where
   -- a slot with a value may be exchanged
@@ -88,7 +60,8 @@ module _ {V E O : Type 0} where
 
   -- what an exchange finds
   pub found_in_hand : (m : Me (Option V) (View E O)) (v : View E O) (y result : Option V) → m ≡ (v, (0, y) ∷ []) → m.1 ≡ (0, result) ∷ rest m.1 → result ≡ y
-  found_in_hand m v y result e got = sym (ap (first_or y) (sym (ap (λ (z : Me (Option V) (View E O)). z.1) e) ∙ got))
+  found_in_hand m v y result e got =
+      ap (λ (hand : List (ℕ × Option V)). (get_or hand 0 (0, y)).1) (sym got ∙ ap (λ (z : Me (Option V) (View E O)). z.1) e)
 
   -- what an exchange leaves
   pub left_in_hand : (m m' : Me (Option V) (View E O)) (v : View E O) (y new : Option V) → m ≡ (v, (0, y) ∷ []) → m' ≡ (m.0, (0, new) ∷ rest m.1) → m' ≡ (v, (0, new) ∷ [])
@@ -99,7 +72,7 @@ module _ {V E O : Type 0} (entries : V → List E) (lane : E → ℕ) (origin : 
       → (x : V) × (m ≡ (lone c ticket (Out (entries x)), (0, Some x) ∷ [])) × Shows entries lane origin c x
       → m.1 ≡ (0, result) ∷ rest m.1 → m' ≡ (m.0, (0, None) ∷ rest m.1) → result ≡ Some value → Takes entries lane origin c ticket m' value
   takes_turn m m' c ticket result value took got left is =
-      let same : took.0 ≡ value = ap (λ (o : Option V). unwrap_or o took.0) (sym (found_in_hand m _ _ result took.1 got) ∙ is) in record {
+      let same : took.0 ≡ value = same_Some took.0 value (sym (found_in_hand m _ _ result took.1 got) ∙ is) in record {
         posed_so = left_in_hand m m' _ _ None took.1 left ∙ ap (λ (x : V). posed c ticket (Out (entries x))) same;
         shows = subst (Shows entries lane origin c) same took.2;
       }

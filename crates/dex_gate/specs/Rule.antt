@@ -97,9 +97,9 @@ module _ {V E O : Type 0} (entries : V → List E) (origin : V → O) (opened : 
   IsTrueValue history x = (entries x ≡ history) × (origin x ≡ origin opened)
 
 module _ {V E O : Type 0} (entries : V → List E) (lane : E → ℕ) (origin : V → O) (opened : V) (passes : ℕ) where
-  -- There is one history, which the opening list begins. As many turns were passed on as it has entries, and the
-  -- tickets that are out are the numbers from there to the next ticket, each once. The numbers of passes are those below
-  -- the count, each once. The value is at home, with the whole history, unless a turn is out
+  -- there is one history, which the opening list begins. As many turns were passed on as it has entries, and the
+  -- tickets that are out are the numbers from there to the next ticket, each once. The numbers of passes are those
+  -- below the count, each once. The value is at home, with the whole history, unless a turn is out
   pub record Kept (s : State (Option V) (View E O)) : Type 0 where
     pub history : List E
     pub few : passes ≤ PASSES

@@ -60,8 +60,8 @@ amounts-more : (told : Token → Address → Call → ℕ) (calls : List Call) (
     ≡ capped_amounts (pair (total (told Coin of) (calls ++ call ∷ [])) (total (told Pc of) (calls ++ call ∷ [])))
 amounts-more told calls call of amounts is =
     ap (λ (more : TokenAmounts). capped_amounts (both (pair (total (told Coin of) calls) (total (told Pc of) calls)) more)) is
-    ∙ ap capped_amounts (same-pair (total (told Coin of) calls + told Coin of call) (total (told Pc of) calls + told Pc of call)
-    (total (told Coin of) (calls ++ call ∷ [])) (total (told Pc of) (calls ++ call ∷ []))
+    ∙ ap capped_amounts (same-pair {coin = total (told Coin of) calls + told Coin of call} {pc = total (told Pc of) calls + told Pc of call}
+    {more = total (told Coin of) (calls ++ call ∷ [])} {most = total (told Pc of) (calls ++ call ∷ [])}
     (omega (arith, total-append (told Coin of) calls (call ∷ []))) (omega (arith, total-append (told Pc of) calls (call ∷ []))))
 
 pub moved-none : (calls : List Call) (call : Call) (owners : List Address) → AreMoved call None → map (moved_told calls) owners ≡ map (moved_told (calls ++ call ∷ [])) owners

@@ -11,13 +11,13 @@ use Rattle.dex_types.specs.Market.{Market, orders}
 use Rattle.dex_types.specs.Owed.{is_event_of, is_order_of, order_lock, owed}
 use Rattle.dex_types.specs.QueuedEvent.{QueuedEvent}
 use Rattle.dex_types.specs.Side.{Token, Coin, Pc}
-use Rattle.dex_types.specs.Solvency.{all_free, free_of, own_locked}
+use Rattle.dex_types.specs.Solvency.{all_free, free_of}
 use Rattle.dex_types.specs.Soundness.{IsSound}
 use Rattle.dex_types.specs.Tokens.{locking_side}
 use Rattle.dex_types.specs.Totals.{total, weighed_where}
 use Rattle.dex_types.specs.Trader.{Trader, Traders, trader_at}
 use Rattle.dex_audit_rules.specs.Books.{PlainGathered}
-use Rattle.dex_eager.specs.Worth.{free_in, held_for, own_owed}
+use Rattle.dex_eager.specs.Worth.{free_in, held_for}
 use Rattle.dex_eager.proofs.FundSteps.{found-part}
 use Rattle.dex_totals.specs.Sums.{capped}
 use Rattle.dex_totals.proofs.SumLaws.{total-more}
@@ -27,23 +27,21 @@ use Rattle.dex_worth.specs.Holdings.{free_at, held_amounts, locks_of, owed_amoun
 use Rattle.dex_worth.proofs.Sums.{pair, same-pair, sums-added, sums-agree}
 
 capped-side : (side : Side) (amount : ℕ) → capped_amounts (on_side side (capped amount)) ≡ capped_amounts (on_side side amount)
-capped-side Bid amount = same-pair (capped 0) (capped (capped amount)) (capped 0) (capped amount) refl (omega arith)
-capped-side Ask amount = same-pair (capped (capped amount)) (capped 0) (capped amount) (capped 0) (omega arith) refl
+capped-side Bid amount = same-pair refl (omega arith)
+capped-side Ask amount = same-pair (omega arith) refl
 
 -- an amount more of each token, where the test holds
 both-more : (before : TokenAmounts) (coin pc more most : ℕ) (b : Bool) → both (both before (pair coin pc)) (if b then pair more most else none)
     ≡ both before (pair (coin + (if b then more else 0)) (pc + (if b then most else 0)))
-both-more before coin pc more most true =
-    same-pair (before.coin + coin + more) (before.pc + pc + most) (before.coin + (coin + more)) (before.pc + (pc + most)) (omega arith) (omega arith)
-both-more before coin pc more most false =
-    same-pair (before.coin + coin + 0) (before.pc + pc + 0) (before.coin + (coin + 0)) (before.pc + (pc + 0)) (omega arith) (omega arith)
+both-more before coin pc more most true = same-pair (omega arith) (omega arith)
+both-more before coin pc more most false = same-pair (omega arith) (omega arith)
 
 side-more : (side : Side) (before : TokenAmounts) (amount more : ℕ) (b : Bool) → both (both before (on_side side amount)) (if b then on_side side more else none)
     ≡ both before (on_side side (amount + (if b then more else 0)))
-side-more Bid before amount more true = same-pair (before.coin + 0 + 0) (before.pc + amount + more) (before.coin + 0) (before.pc + (amount + more)) (omega arith) (omega arith)
-side-more Bid before amount more false = same-pair (before.coin + 0 + 0) (before.pc + amount + 0) (before.coin + 0) (before.pc + (amount + 0)) (omega arith) (omega arith)
-side-more Ask before amount more true = same-pair (before.coin + amount + more) (before.pc + 0 + 0) (before.coin + (amount + more)) (before.pc + 0) (omega arith) (omega arith)
-side-more Ask before amount more false = same-pair (before.coin + amount + 0) (before.pc + 0 + 0) (before.coin + (amount + 0)) (before.pc + 0) (omega arith) (omega arith)
+side-more Bid before amount more true = same-pair (omega arith) (omega arith)
+side-more Bid before amount more false = same-pair (omega arith) (omega arith)
+side-more Ask before amount more true = same-pair (omega arith) (omega arith)
+side-more Ask before amount more false = same-pair (omega arith) (omega arith)
 
 -- an order more
 pub locks-more : (side : Side) (sizes : Lots) (orders : List Order) (place : ℕ) (order : Order) (before : Address → TokenAmounts) (owners : List Address) (more : TokenAmounts) (sums after : List TokenAmounts)
@@ -84,10 +82,7 @@ owed-more events place event before owners more sums after lt here told are is =
 pub held-are : (m : Market) (traders : Traders) (sizes : Lots) (g : PlainGathered) → traders ≡ m.traders → sizes ≡ m.listing.sizes → g.bids ≡ m.bids → g.asks ≡ m.asks → g.events ≡ m.events
     → (owner : Address) → with_gathered (free_at traders) sizes g owner ≡ held_amounts m owner
 held-are m traders sizes g t s b a e owner =
-    rw t rw s rw b rw a rw e
-    (same-pair (((free_in Coin (trader_at owner m.traders)) + 0) + own_locked Coin owner m + own_owed Coin owner m.events)
-    (((free_in Pc (trader_at owner m.traders)) + own_locked Pc owner m) + 0 + own_owed Pc owner m.events)
-    (held_for Coin owner m) (held_for Pc owner m) (omega arith) (omega arith))
+    rw t rw s rw b rw a rw e (same-pair (omega arith) (omega arith))
 
 -- in a sound market it is less than 2^64
 own-le : {X : Type 0} (test : X → Bool) (weight : X → ℕ) (xs : List X) → total (weighed_where test weight) xs ≤ total weight xs

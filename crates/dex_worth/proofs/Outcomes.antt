@@ -20,7 +20,7 @@ use Rattle.dex_replay.specs.Lawful.{AllThree, IsLawful}
 use Rattle.dex_state.specs.Outcomes.{PlainMarketJournal, PlainOutcome}
 use Rattle.dex_script_types.specs.PlainScript.{PlainScript}
 use Rattle.dex_script_types.specs.Facts.{IsScript}
-use Rattle.dex_replay.proofs.MappedLists.{zip-map}
+use Rattle.dex_replay.proofs.MappedLists.{three-weaker, zip-map}
 use Rattle.dex_replay.specs.EntryCalls.{TellsHistory, calls_told}
 use Rattle.dex_replay.specs.Replays.{IsOfStart}
 use Rattle.dex_replay.specs.WorthTold.{PlainWorthRow, calls_of, row_told, rows_told, table_told, tables_told, worths_told}
@@ -101,9 +101,7 @@ pub all-pay : (script : PlainScript) → IsScript script → (outcome : PlainOut
     → AllThree (TellsHistory script) script.start.markets outcome.accounts.markets outcome.markets
     → AllThree (PaysAtOnce script) script.start.markets outcome.accounts.markets outcome.markets
 all-pay script is outcome lawful tells =
-    three-both (TellsHistory script) (PaysAtOnce script) AreSound (λ (accounts : PlainMarketAccounts). accounts.address) (λ (journal : PlainMarketJournal). journal.address)
-    (λ first last journal tell sound same. pays script first last journal (record { tells = tell; sound = sound.sound; address = same }))
-    script.start.markets outcome.accounts.markets outcome.markets tells is.start.sound lawful.start.market_journals
+    three-weaker (IsTold script) (PaysAtOnce script) (pays script) script.start.markets outcome.accounts.markets outcome.markets (all-told-here script is outcome lawful tells)
 
 -- each journal is that of a market
 pub same-markets : (script : PlainScript) (outcome : PlainOutcome) → IsOfStart script outcome

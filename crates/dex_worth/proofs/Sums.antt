@@ -1,8 +1,7 @@
 -- Sums of owners: what more of one does.
-use Rattle.std.proofs.Common.{ℕ, ◌+◌, ◌≡◌, Bool, true, false, if◌then◌else◌, List, [], ◌∷◌, map, refl, sym, ap, ◌∙◌, arith}
+use Rattle.std.proofs.Common.{ℕ, ◌≡◌, Bool, true, false, if◌then◌else◌, List, [], ◌∷◌, map, refl, sym, ap, ◌∙◌, arith}
 use Rattle.dex_types.specs.declared.addresses.Address.{Address}
 use Rattle.dex_types.specs.Addresses.{is_same}
-use Rattle.dex_totals.specs.Sums.{capped}
 use Rattle.dex_worth.specs.declared.amounts.TokenAmounts.{TokenAmounts}
 use Rattle.dex_worth.specs.Amounts.{AreSums, added, both, capped_amounts, none, own, with_own}
 
@@ -10,17 +9,16 @@ use Rattle.dex_worth.specs.Amounts.{AreSums, added, both, capped_amounts, none, 
 abbrev pub pair : ℕ → ℕ → TokenAmounts
 pair coin pc = record { coin = coin; pc = pc }
 
-pub same-pair : (coin pc more most : ℕ) → coin ≡ more → pc ≡ most → pair coin pc ≡ pair more most
-same-pair coin pc more most c p = rw c rw p refl
+pub same-pair : {coin pc more most : ℕ} → coin ≡ more → pc ≡ most → pair coin pc ≡ pair more most
+same-pair c p = λ i. pair (c i) (p i)
 
 pub both-none : (amounts : TokenAmounts) → capped_amounts (both amounts none) ≡ capped_amounts amounts
-both-none amounts = same-pair (capped (amounts.coin + 0)) (capped (amounts.pc + 0)) (capped amounts.coin) (capped amounts.pc) (omega arith) (omega arith)
+both-none amounts = same-pair (omega arith) (omega arith)
 
 -- more, added to a sum that is told, is told again
 capped-sum : (one amounts more : TokenAmounts) → capped_amounts more ≡ capped_amounts amounts → capped_amounts (both (capped_amounts one) more) ≡ capped_amounts (both one amounts)
 capped-sum one amounts more told =
-    same-pair (capped (capped one.coin + more.coin)) (capped (capped one.pc + more.pc)) (capped (one.coin + amounts.coin)) (capped (one.pc + amounts.pc))
-    (omega (arith, ap (λ (a : TokenAmounts). a.coin) told)) (omega (arith, ap (λ (a : TokenAmounts). a.pc) told))
+    same-pair (omega (arith, ap (λ (a : TokenAmounts). a.coin) told)) (omega (arith, ap (λ (a : TokenAmounts). a.pc) told))
 
 -- one sum
 pub with-own : (owner of : Address) (exact amounts more : TokenAmounts) → capped_amounts more ≡ capped_amounts amounts

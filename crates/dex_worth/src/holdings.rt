@@ -138,7 +138,7 @@ fn add_gathered(held: &mut [TokenAmounts], owners: &[Address], gathered: &Gather
 }
 
 /// The lot sizes of a market.
-fn sizes_of(market: &MarketAccounts) -> Lots
+pub fn sizes_of(market: &MarketAccounts) -> Lots
     requires { IsAccepted (market_accounts_of market.now) }
     ensures { result ≡ sizes_of (market_words (market_accounts_of market.now).market) }
 {

@@ -1,4 +1,4 @@
-use Rattle.std.proofs.Common.{◌≡◌, ◌<◌, ℕ, List, length, map, sym, subst, ap, ◌∙◌, All}
+use Rattle.std.proofs.Common.{◌≡◌, ◌<◌, ℕ, List, length, map, refl, sym, subst, ap, ◌∙◌, All}
 use Rattle.dex_replay.proofs.Common.{CellState, MarketCellState}
 use Rattle.dex_types.specs.Rows.{row_of}
 use Rattle.dex_batch.specs.Acting.{HaveActed}
@@ -8,13 +8,10 @@ use Rattle.dex_batch.proofs.shares.act_apart.Given.{Over}
 use Rattle.dex_batch.proofs.shares.act_apart.Goals as goal
 use Rattle.dex_batch.proofs.shares.act_apart.Goals.{In_ok-of_wallets}
 
-are-parts : {A : Type 0} (told numbers : List ℕ) (items whole : List A) (parts : List (List A)) → told ≡ numbers → items ≡ whole → AreParts A told items parts → AreParts A numbers whole parts
-are-parts {A} told numbers items whole parts same also are = subst (λ (ns : List ℕ). AreParts A ns whole parts) same (subst (λ (xs : List A). AreParts A told xs parts) also are)
-
--- items are parts of what is gathered
-are-home : {A : Type 0} (told numbers : List ℕ) (whole : List A) (piles parts : List (List A)) → told ≡ numbers → piles ≡ parts → AreParts A told whole piles → AreParts A numbers whole parts
-are-home {A} told numbers whole piles parts same also are =
-    subst (λ (ns : List ℕ). AreParts A ns whole parts) same (subst (AreParts A told whole) also are)
+-- the parts are those of a list, whatever each is called
+are-parts : {A : Type 0} {told numbers : List ℕ} {items whole : List A} {piles parts : List (List A)} → told ≡ numbers → items ≡ whole → piles ≡ parts
+    → AreParts A told items piles → AreParts A numbers whole parts
+are-parts {A} numbers items piles are = subst (λ (all : List ℕ × List A × List (List A)). AreParts A all.0 all.1 all.2) (λ i. (numbers i, items i, piles i)) are
 
 -- the cells are dealt
 dealt : (g : Over) (c : In_ok-of_wallets g)
@@ -27,8 +24,8 @@ dealt g c = record {
   can = c.requires.can;
   many_markets = c.in_ok-of_markets.ensures.count;
   many_wallets = c.in_ok-of_wallets.ensures.count;
-  in_markets = are-parts _ _ _ _ _ c.deref.ensures.value c.into_parts-mints.ensures.markets c.in_ok-of_markets.ensures.parts;
-  in_wallets = are-parts _ _ _ _ _ c.deref-2.ensures.value c.into_parts-mints.ensures.wallets c.in_ok-of_wallets.ensures.parts;
+  in_markets = are-parts c.deref.ensures.value c.into_parts-mints.ensures.markets refl c.in_ok-of_markets.ensures.parts;
+  in_wallets = are-parts c.deref-2.ensures.value c.into_parts-mints.ensures.wallets refl c.in_ok-of_wallets.ensures.parts;
 }
 
 pub shares-requires-clause-cells : goal.shares-requires-clause-cells
@@ -38,41 +35,35 @@ pub all_run-requires-clause-ready : goal.all_run-requires-clause-ready
 all_run-requires-clause-ready g c κs within =
     all-ready (dealt g (goal.at.all_run-requires-clause-ready g c).In_ok-of_wallets) c.in_ok-shares.shares.items c.in_ok-shares.ensures
 
-pub gather-requires-clause-within : goal.gather-requires-clause-within
-gather-requires-clause-within g c =
-    let so = dealt g (goal.at.gather-requires-clause-within g c).In_ok-of_wallets in
-    subst (λ (ns : List ℕ). All (λ (n : ℕ). n < length c.in_ok-of_markets-2.of_markets.items) ns) (sym c.deref-3.ensures.value)
-    (subst (λ (ps : List (List MarketCellState)). All (λ (n : ℕ). n < length ps) c.args.groups.now.markets.items) (sym c.in_ok-of_markets-2.ensures.markets)
-    (below so c.in_ok-shares.shares.items c.in_ok-shares.ensures c.all_run.result.items c.all_run.ensures).0)
+pub gather-requires : goal.gather-requires
+gather-requires g c =
+    let so = dealt g (goal.at.gather-requires g c).In_ok-of_wallets in
+    let shares = c.in_ok-shares.shares.items in
+    record {
+      within = subst (λ (all : List ℕ × List (List MarketCellState)). All (λ (n : ℕ). n < length all.1) all.0) (λ i. (sym c.deref-3.ensures.value i, sym c.in_ok-of_markets-2.ensures.markets i))
+          (below so shares c.in_ok-shares.ensures c.all_run.result.items c.all_run.ensures).0;
+      long = subst (λ (all : List ℕ × List (List MarketCellState)). AreAsLong all.0 all.1) (λ i. (sym c.deref-3.ensures.value i, sym c.in_ok-of_markets-2.ensures.markets i))
+          (as-long so shares c.in_ok-shares.ensures c.all_run.result.items c.all_run.ensures).0;
+    }
 
-pub gather-requires-clause-long : goal.gather-requires-clause-long
-gather-requires-clause-long g c =
-    let so = dealt g (goal.at.gather-requires-clause-long g c).In_ok-of_wallets in
-    subst (λ (ns : List ℕ). AreAsLong ns c.in_ok-of_markets-2.of_markets.items) (sym c.deref-3.ensures.value)
-    (subst (AreAsLong c.args.groups.now.markets.items) (sym c.in_ok-of_markets-2.ensures.markets)
-    (as-long so c.in_ok-shares.shares.items c.in_ok-shares.ensures c.all_run.result.items c.all_run.ensures).0)
-
-pub gather-requires-2-clause-within : goal.gather-requires-2-clause-within
-gather-requires-2-clause-within g c =
-    let so = dealt g (goal.at.gather-requires-2-clause-within g c).In_ok-of_wallets in
-    subst (λ (ns : List ℕ). All (λ (n : ℕ). n < length c.in_ok-of_markets-2.of_wallets.items) ns) (sym c.deref-4.ensures.value)
-    (subst (λ (ps : List (List CellState)). All (λ (n : ℕ). n < length ps) c.args.groups.now.wallets.items) (sym c.in_ok-of_markets-2.ensures.wallets)
-    (below so c.in_ok-shares.shares.items c.in_ok-shares.ensures c.all_run.result.items c.all_run.ensures).1)
-
-pub gather-requires-2-clause-long : goal.gather-requires-2-clause-long
-gather-requires-2-clause-long g c =
-    let so = dealt g (goal.at.gather-requires-2-clause-long g c).In_ok-of_wallets in
-    subst (λ (ns : List ℕ). AreAsLong ns c.in_ok-of_markets-2.of_wallets.items) (sym c.deref-4.ensures.value)
-    (subst (AreAsLong c.args.groups.now.wallets.items) (sym c.in_ok-of_markets-2.ensures.wallets)
-    (as-long so c.in_ok-shares.shares.items c.in_ok-shares.ensures c.all_run.result.items c.all_run.ensures).1)
+pub gather-requires-2 : goal.gather-requires-2
+gather-requires-2 g c =
+    let so = dealt g (goal.at.gather-requires-2 g c).In_ok-of_wallets in
+    let shares = c.in_ok-shares.shares.items in
+    record {
+      within = subst (λ (all : List ℕ × List (List CellState)). All (λ (n : ℕ). n < length all.1) all.0) (λ i. (sym c.deref-4.ensures.value i, sym c.in_ok-of_markets-2.ensures.wallets i))
+          (below so shares c.in_ok-shares.ensures c.all_run.result.items c.all_run.ensures).1;
+      long = subst (λ (all : List ℕ × List (List CellState)). AreAsLong all.0 all.1) (λ i. (sym c.deref-4.ensures.value i, sym c.in_ok-of_markets-2.ensures.wallets i))
+          (as-long so shares c.in_ok-shares.ensures c.all_run.result.items c.all_run.ensures).1;
+    }
 
 pub of-requires : goal.of-requires
 of-requires g c =
     let are =
     left-kept (dealt g (goal.at.of-requires g c).In_ok-of_wallets) c.in_ok-shares.shares.items c.in_ok-shares.ensures c.all_run.result.items c.all_run.ensures
     c.in_ok-of_markets-2.ensures.cells c.in_ok-markets.markets.items c.in_ok-wallets.wallets.items
-    (are-home _ _ _ _ _ c.deref-3.ensures.value c.in_ok-of_markets-2.ensures.markets c.in_ok-markets.ensures)
-    (are-home _ _ _ _ _ c.deref-4.ensures.value c.in_ok-of_markets-2.ensures.wallets c.in_ok-wallets.ensures) in
+    (are-parts c.deref-3.ensures.value refl c.in_ok-of_markets-2.ensures.markets c.in_ok-markets.ensures)
+    (are-parts c.deref-4.ensures.value refl c.in_ok-of_markets-2.ensures.wallets c.in_ok-wallets.ensures) in
     record { cells = record { markets = are.markets; wallets = are.wallets; apart = are.apart } }
 
 pub returns : goal.returns
@@ -80,7 +71,7 @@ returns g c =
     let acted =
     left-acted (dealt g (goal.at.returns g c).In_ok-of_wallets) c.in_ok-shares.shares.items c.in_ok-shares.ensures c.all_run.result.items c.all_run.ensures
     c.in_ok-of_markets-2.ensures.cells c.in_ok-markets.markets.items c.in_ok-wallets.wallets.items
-    (are-home _ _ _ _ _ c.deref-3.ensures.value c.in_ok-of_markets-2.ensures.markets c.in_ok-markets.ensures)
-    (are-home _ _ _ _ _ c.deref-4.ensures.value c.in_ok-of_markets-2.ensures.wallets c.in_ok-wallets.ensures) in
+    (are-parts c.deref-3.ensures.value refl c.in_ok-of_markets-2.ensures.markets c.in_ok-markets.ensures)
+    (are-parts c.deref-4.ensures.value refl c.in_ok-of_markets-2.ensures.wallets c.in_ok-wallets.ensures) in
     let rows = map row_of c.args.window.now.rows.now in
     subst (HaveActed rows rows c.args.cells) (sym (c.of.ensures ∙ ap (λ mints. record { mints = mints; srm = c.terms-terms.result.srm; msrm = c.terms-terms.result.msrm; markets = c.in_ok-markets.markets.items; wallets = c.in_ok-wallets.wallets.items; program = c.terms-terms.result.program }) c.into_parts-mints.ensures.mints)) acted

@@ -1,4 +1,5 @@
-use Rattle.std.proofs.Common.{◌≡◌, Some, ◌∙◌, ap, sym}
+use Rattle.std.proofs.Common.{◌∙◌, ap, sym}
+use Rattle.std.proofs.lemmas.Option.{same_Some}
 use Rattle.dex_types.specs.declared.addresses.Address.{Address}
 use Rattle.dex_types.specs.declared.instructions.Ix.{Ix}
 use Rattle.dex_types.specs.NewOrder.{NewOrder}
@@ -13,9 +14,6 @@ use Rattle.dex_eager_market.specs.Acting.{order_for}
 use Rattle.dex_eager_market.specs.States.{eager_of}
 use Rattle.dex_eager_market.proofs.acting.act.Goals as goal
 
-under-some : {A : Type 0} (x y : A) → Some x ≡ Some y → y ≡ x
-under-some x y same = cc
-
 pub returns-in-NewOrderV3-clause-does : goal.returns-in-NewOrderV3-clause-does
 returns-in-NewOrderV3-clause-does c =
     let e : Eager = eager_of c.args.state.now in
@@ -23,7 +21,7 @@ returns-in-NewOrderV3-clause-does c =
     let request = request_of (row_of c.args.row.now) in
     let seen = c.args.seen.now in
     let order : Address → NewOrder = terms_order request seen n.limit_price n.max_coin_qty n.max_native_pc_qty_including_fees n.self_trade_behavior n.order_type n.client_order_id n.limit n.max_ts in
-    let stated = under-some _ _ (sym (ap (λ (i : Ix). taker_in i request seen) n.is) ∙ c.taker_of.ensures) in
+    let stated = sym (same_Some _ _ (sym (ap (λ (i : Ix). taker_in i request seen) n.is) ∙ c.taker_of.ensures)) in
     c.order_row.ensures.does order (λ owner. ap (order_for owner) stated)
     ∙ ap (λ (t : Taker). (by_account (eager_order t.id_side order e) e request.named).market) stated
     ∙ sym (ap (λ (i : Ix). (eager_act i request seen e).market) n.is)
@@ -35,5 +33,5 @@ returns-in-SendTake-clause-does c =
     let least_pc = c.in-SendTake.min_native_pc_qty in
     let request = request_of (row_of c.args.row.now) in
     c.take.ensures.does least least_pc
-    ∙ ap (λ (t : Taker). (eager_take t.id_side (take_of t least least_pc) e).market) (under-some _ _ (sym (ap (λ (i : Ix). taker_in i request c.args.seen.now) c.in-SendTake.is) ∙ c.taker_of-in-SendTake.ensures))
+    ∙ ap (λ (t : Taker). (eager_take t.id_side (take_of t least least_pc) e).market) (sym (same_Some _ _ (sym (ap (λ (i : Ix). taker_in i request c.args.seen.now) c.in-SendTake.is) ∙ c.taker_of-in-SendTake.ensures)))
     ∙ sym (ap (λ (i : Ix). (eager_act i request c.args.seen.now e).market) c.in-SendTake.is)

@@ -4,14 +4,12 @@ use Rattle.dex_eager_market.proofs.Lists.{find-here, find-more, find-none, witho
 use Rattle.dex_eager_market.proofs.Meetings.{no_order}
 use Rattle.dex_eager_market.proofs.book_list.place_with.Goals as goal
 
-pub returns-then-orders-place-clause-found : goal.returns-then-orders-place-clause-found
-returns-then-orders-place-clause-found c =
-    c.loop-place.invariant.found ∙ find-here c.args.id c.args.orders.now c.loop-place.place no_order (omega arith) (eq-eqb _ _ c.if-orders-place.true)
-
-pub returns-then-orders-place-clause-without : goal.returns-then-orders-place-clause-without
-returns-then-orders-place-clause-without c =
-    c.loop-place.invariant.without
-    ∙ ap (λ l. take c.loop-place.place c.args.orders.now ++ l) (without-here c.args.id c.args.orders.now c.loop-place.place no_order (omega arith) (eq-eqb _ _ c.if-orders-place.true))
+pub returns-then-orders-place : goal.returns-then-orders-place
+returns-then-orders-place c = record {
+  found = c.loop-place.invariant.found ∙ find-here c.args.id c.args.orders.now c.loop-place.place no_order (omega arith) (eq-eqb _ _ c.if-orders-place.true);
+  without = c.loop-place.invariant.without
+      ∙ ap (λ l. take c.loop-place.place c.args.orders.now ++ l) (without-here c.args.id c.args.orders.now c.loop-place.place no_order (omega arith) (eq-eqb _ _ c.if-orders-place.true));
+}
 
 pub loop-place-preserved : goal.loop-place-preserved
 loop-place-preserved c = record {

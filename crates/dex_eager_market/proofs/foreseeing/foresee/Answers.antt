@@ -33,30 +33,37 @@ fits c some =
     fits-order c.args.side (taking c.args.taker) (demand c.orders.met.want) (get_or c.args.orders.now c.orders.met.gone no_order) c.taken-lots.result c.orders.invariant.modest
     (All-get_or (CanFill (opposite c.args.side) c.args.taker.sizes) c.args.orders.now c.orders.met.gone no_order (omega arith) c.requires.orders) c.taken-lots.ensures some
 
-pub foreseen_with-met-requires-clause-tier : goal.foreseen_with-met-requires-clause-tier
-foreseen_with-met-requires-clause-tier c =
-    (All-get_or (CanFill (opposite c.args.side) c.args.taker.sizes) c.args.orders.now c.orders.met.gone no_order (omega arith) c.requires.orders).tier
+pub foreseen_with-met-requires : goal.foreseen_with-met-requires
+foreseen_with-met-requires c =
+    let here = fits (goal.at.foreseen_with-met-requires c).After-taken-lots (omega arith) in
+    record {
+      tier = (All-get_or (CanFill (opposite c.args.side) c.args.taker.sizes) c.args.orders.now c.orders.met.gone no_order (omega arith) c.requires.orders).tier;
+      base = here.base;
+      pc = here.pc;
+      base_sum = omega (arith, c.orders.invariant.base, c.requires.modest.matches);
+      pc_sum = omega (arith, c.orders.invariant.pc, c.requires.modest.matches);
+      rebates_sum = omega (arith, c.orders.invariant.rebates, c.requires.modest.matches);
+    }
 
-pub foreseen_with-met-requires-clause-base : goal.foreseen_with-met-requires-clause-base
-foreseen_with-met-requires-clause-base c = (fits (goal.at.foreseen_with-met-requires-clause-base c).After-taken-lots (omega arith)).base
-
-pub foreseen_with-met-requires-clause-pc : goal.foreseen_with-met-requires-clause-pc
-foreseen_with-met-requires-clause-pc c = (fits (goal.at.foreseen_with-met-requires-clause-pc c).After-taken-lots (omega arith)).pc
-
-pub returns-then-lots-eq0-clause-foreseen : goal.returns-then-lots-eq0-clause-foreseen
-returns-then-lots-eq0-clause-foreseen c =
+pub returns-then-lots-eq0 : goal.returns-then-lots-eq0
+returns-then-lots-eq0 c =
     let t = taking c.args.taker in
     let orders = c.args.orders.now in
     let gone = c.orders.met.gone in
     let on = drop_more orders gone no_order (omega arith) in
     let ended = meets-none c.args.side t (demand c.orders.met.want) orders gone (get_or c.args.orders.now c.orders.met.gone no_order) c.taken-lots.result on c.taken-lots.ensures c.if-lots-eq0.true in
-    foreseen-ended c.args.side t c.args.taker.limit_price orders _ _ c.orders.met (get_or c.args.orders.now c.orders.met.gone no_order ∷ drop (gone + 1) orders) c.ended.result c.orders.invariant.carried ended
-    (left-same orders gone (get_or c.args.orders.now c.orders.met.gone no_order) (drop (gone + 1) orders) c.ended.result.gone c.ended.result.part c.ended.ensures.gone c.ended.ensures.part on)
-    (omega (arith, c.ended.ensures.gone, c.orders.invariant.within))
-    c.ended.ensures.want c.ended.ensures.sums c.ended.ensures.crosses (c.ended.ensures.aborts (drop (gone + 1) orders))
+    record {
+      foreseen = foreseen-ended c.args.side t c.args.taker.limit_price orders _ _ c.orders.met (get_or c.args.orders.now c.orders.met.gone no_order ∷ drop (gone + 1) orders) c.ended.result c.orders.invariant.carried ended
+          (left-same orders gone (get_or c.args.orders.now c.orders.met.gone no_order) (drop (gone + 1) orders) c.ended.result.gone c.ended.result.part c.ended.ensures.gone c.ended.ensures.part on)
+          (omega (arith, c.ended.ensures.gone, c.orders.invariant.within))
+          c.ended.ensures.want c.ended.ensures.sums c.ended.ensures.crosses (c.ended.ensures.aborts (drop (gone + 1) orders));
+      base = omega (arith, ap (λ (s : Sums). s.base) c.ended.ensures.sums, c.orders.invariant.base, c.requires.modest.matches);
+      pc = omega (arith, ap (λ (s : Sums). s.pc) c.ended.ensures.sums, c.orders.invariant.pc, c.requires.modest.matches);
+    }
 
-pub returns-then-lots-order-clause-foreseen : goal.returns-then-lots-order-clause-foreseen
-returns-then-lots-order-clause-foreseen c =
+pub returns-then-lots-order : goal.returns-then-lots-order
+returns-then-lots-order c =
+    let here = fits (goal.at.returns-then-lots-order c).After-taken-lots (omega arith) in
     let t = taking c.args.taker in
     let orders = c.args.orders.now in
     let gone = c.orders.met.gone in
@@ -68,11 +75,15 @@ returns-then-lots-order-clause-foreseen c =
     c.foreseen_with-met.ensures.want in
     let carried = carried-more c.args.side t order lots _ _ _ c.orders.met.sums c.foreseen_with-met.result.sums c.orders.invariant.carried first
     c.foreseen_with-met.ensures.adds in
-    foreseen-ended c.args.side t c.args.taker.limit_price orders _ _ c.foreseen_with-met.result (less order lots ∷ others) c.ended-then-lots-order.result carried refl
-    (left-less orders gone order others lots c.ended-then-lots-order.result.gone c.ended-then-lots-order.result.part
-    (c.ended-then-lots-order.ensures.gone ∙ c.foreseen_with-met.ensures.gone) c.ended-then-lots-order.ensures.part on)
-    (omega (arith, c.ended-then-lots-order.ensures.gone, c.foreseen_with-met.ensures.gone, c.orders.invariant.within))
-    c.ended-then-lots-order.ensures.want c.ended-then-lots-order.ensures.sums c.ended-then-lots-order.ensures.crosses (c.ended-then-lots-order.ensures.aborts others)
+    let end = c.ended-then-lots-order in
+    record {
+      foreseen = foreseen-ended c.args.side t c.args.taker.limit_price orders _ _ c.foreseen_with-met.result (less order lots ∷ others) end.result carried refl
+          (left-less orders gone order others lots end.result.gone end.result.part (end.ensures.gone ∙ c.foreseen_with-met.ensures.gone) end.ensures.part on)
+          (omega (arith, end.ensures.gone, c.foreseen_with-met.ensures.gone, c.orders.invariant.within))
+          end.ensures.want end.ensures.sums end.ensures.crosses (end.ensures.aborts others);
+      base = omega (arith, ap (λ (s : Sums). s.base) end.ensures.sums, c.foreseen_with-met.ensures.adds.base, here.base, c.orders.invariant.base, c.requires.modest.matches);
+      pc = omega (arith, ap (λ (s : Sums). s.pc) end.ensures.sums, c.foreseen_with-met.ensures.adds.pc, here.pc, c.orders.invariant.pc, c.requires.modest.matches);
+    }
 
 pub orders-preserved : goal.orders-preserved
 orders-preserved c =
@@ -103,42 +114,14 @@ orders-preserved c =
       aborts = c.foreseen_with-met.ensures.aborts ∙ c.orders.invariant.aborts;
     }
 
-pub returns-clause-foreseen : goal.returns-clause-foreseen
-returns-clause-foreseen c =
+pub returns : goal.returns
+returns c =
     let t = taking c.args.taker in
     let orders = c.args.orders.now in
-    let gone = c.orders.met.gone in
-    let none = drop_all gone orders (omega arith) in
-    foreseen-ended c.args.side t c.args.taker.limit_price orders _ _ c.orders.met [] c.orders.met c.orders.invariant.carried (ap (meet c.args.side t (demand c.orders.met.want)) none)
-    (ap (less_first c.orders.met.part) none) c.orders.invariant.within refl refl c.orders.invariant.crosses c.orders.invariant.aborts
-
-pub foreseen_with-met-requires-clause-base_sum : goal.foreseen_with-met-requires-clause-base_sum
-foreseen_with-met-requires-clause-base_sum c = omega (arith, c.orders.invariant.base, c.requires.modest.matches)
-
-pub foreseen_with-met-requires-clause-pc_sum : goal.foreseen_with-met-requires-clause-pc_sum
-foreseen_with-met-requires-clause-pc_sum c = omega (arith, c.orders.invariant.pc, c.requires.modest.matches)
-
-pub foreseen_with-met-requires-clause-rebates_sum : goal.foreseen_with-met-requires-clause-rebates_sum
-foreseen_with-met-requires-clause-rebates_sum c = omega (arith, c.orders.invariant.rebates, c.requires.modest.matches)
-
-pub returns-then-lots-eq0-clause-base : goal.returns-then-lots-eq0-clause-base
-returns-then-lots-eq0-clause-base c = omega (arith, ap (λ (s : Sums). s.base) c.ended.ensures.sums, c.orders.invariant.base, c.requires.modest.matches)
-
-pub returns-then-lots-eq0-clause-pc : goal.returns-then-lots-eq0-clause-pc
-returns-then-lots-eq0-clause-pc c = omega (arith, ap (λ (s : Sums). s.pc) c.ended.ensures.sums, c.orders.invariant.pc, c.requires.modest.matches)
-
-pub returns-then-lots-order-clause-base : goal.returns-then-lots-order-clause-base
-returns-then-lots-order-clause-base c =
-    let here = fits (goal.at.returns-then-lots-order-clause-base c).After-taken-lots (omega arith) in
-    omega (arith, ap (λ (s : Sums). s.base) c.ended-then-lots-order.ensures.sums, c.foreseen_with-met.ensures.adds.base, here.base, c.orders.invariant.base, c.requires.modest.matches)
-
-pub returns-then-lots-order-clause-pc : goal.returns-then-lots-order-clause-pc
-returns-then-lots-order-clause-pc c =
-    let here = fits (goal.at.returns-then-lots-order-clause-pc c).After-taken-lots (omega arith) in
-    omega (arith, ap (λ (s : Sums). s.pc) c.ended-then-lots-order.ensures.sums, c.foreseen_with-met.ensures.adds.pc, here.pc, c.orders.invariant.pc, c.requires.modest.matches)
-
-pub returns-clause-base : goal.returns-clause-base
-returns-clause-base c = omega (arith, c.orders.invariant.base, c.requires.modest.matches)
-
-pub returns-clause-pc : goal.returns-clause-pc
-returns-clause-pc c = omega (arith, c.orders.invariant.pc, c.requires.modest.matches)
+    let none = drop_all c.orders.met.gone orders (omega arith) in
+    record {
+      foreseen = foreseen-ended c.args.side t c.args.taker.limit_price orders _ _ c.orders.met [] c.orders.met c.orders.invariant.carried (ap (meet c.args.side t (demand c.orders.met.want)) none)
+          (ap (less_first c.orders.met.part) none) c.orders.invariant.within refl refl c.orders.invariant.crosses c.orders.invariant.aborts;
+      base = omega (arith, c.orders.invariant.base, c.requires.modest.matches);
+      pc = omega (arith, c.orders.invariant.pc, c.requires.modest.matches);
+    }

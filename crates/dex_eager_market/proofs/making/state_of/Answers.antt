@@ -39,16 +39,15 @@ starts c = record {
   takings = c.takings_of.ensures.value;
 }
 
-pub returns-clause-is : goal.returns-clause-is
-returns-clause-is c =
-    let here = (goal.at.returns-clause-is c).After-sizes_of in
-    start-is (market_in (market_accounts_of c.args.market.now)) (state here) c.requires.sound (starts here)
-
-pub returns-clause-kept : goal.returns-clause-kept
-returns-clause-kept c =
-    let here = (goal.at.returns-clause-kept c).After-sizes_of in
+pub returns : goal.returns
+returns c =
+    let m = market_in (market_accounts_of c.args.market.now) in
+    let here = (goal.at.returns c).After-sizes_of in
     let bids : c.in_ok-bids.bids.room ≤ vec_capacity c.in_ok-bids.bids.orders = omega (arith, c.in_ok-bids.ensures.room, c.in_ok-bids.ensures.reserved) in
     let asks : c.in_ok-asks.asks.room ≤ vec_capacity c.in_ok-asks.asks.orders = omega (arith, c.in_ok-asks.ensures.room, c.in_ok-asks.ensures.reserved) in
     let listed : c.in_ok-bids.bids.room + c.in_ok-asks.asks.room ≤ vec_capacity c.in_ok-listed.listed =
     omega (arith, c.in_ok-bids.ensures.room, c.in_ok-asks.ensures.room, c.in_ok-listed.ensures) in
-    start-kept (market_in (market_accounts_of c.args.market.now)) (state here) c.requires.sound (starts here) bids asks listed c.takings_of.ensures.small
+    record {
+      is = start-is m (state here) c.requires.sound (starts here);
+      kept = start-kept m (state here) c.requires.sound (starts here) bids asks listed c.takings_of.ensures.small;
+    }

@@ -22,20 +22,16 @@ fits c some =
     fits-order c.args.side (taking c.args.taker) (demand c.orders.left) (get_or c.args.orders.now c.orders.place no_order) c.taken-lots.result c.orders.invariant.modest
     (All-get_or (CanFill (opposite c.args.side) c.args.taker.sizes) c.args.orders.now c.orders.place no_order (omega arith) c.requires.orders) c.taken-lots.ensures some
 
-pub pay-requires-clause-tier : goal.pay-requires-clause-tier
-pay-requires-clause-tier c =
-    (All-get_or (CanFill (opposite c.args.side) c.args.taker.sizes) c.args.orders.now c.orders.place no_order (omega arith) c.requires.orders).tier
-
-pub pay-requires-clause-base : goal.pay-requires-clause-base
-pay-requires-clause-base c = (fits (goal.at.pay-requires-clause-base c).After-taken-lots (omega arith)).base
-
-pub pay-requires-clause-pc : goal.pay-requires-clause-pc
-pay-requires-clause-pc c = (fits (goal.at.pay-requires-clause-pc c).After-taken-lots (omega arith)).pc
-
-pub pay-requires-clause-accounts : goal.pay-requires-clause-accounts
-pay-requires-clause-accounts c =
-    all-more (2 ^ 125 + (c.args.want.matches - c.orders.left.matches) * 2 ^ 65) (2 ^ 126) c.orders.accounts.items (omega (arith, c.requires.modest.matches))
-    (c.orders.invariant.small (2 ^ 125) c.requires.accounts)
+pub pay-requires : goal.pay-requires
+pay-requires c =
+    let here = fits (goal.at.pay-requires c).After-taken-lots (omega arith) in
+    record {
+      tier = (All-get_or (CanFill (opposite c.args.side) c.args.taker.sizes) c.args.orders.now c.orders.place no_order (omega arith) c.requires.orders).tier;
+      base = here.base;
+      pc = here.pc;
+      accounts = all-more (2 ^ 125 + (c.args.want.matches - c.orders.left.matches) * 2 ^ 65) (2 ^ 126) c.orders.accounts.items (omega (arith, c.requires.modest.matches))
+          (c.orders.invariant.small (2 ^ 125) c.requires.accounts);
+    }
 
 pub returns-then-lots-eq0-clause-worths : goal.returns-then-lots-eq0-clause-worths
 returns-then-lots-eq0-clause-worths c =

@@ -15,14 +15,12 @@ returns-then-base_too_large c =
     order-too-large c.args.taker.id_side c.args.sizes c.args.taker.lots c.args.next (meeting_with c.args.sizes c.args.taker c.args.opposing.now.orders.items)
     (sym c.base_too_large.ensures ∙ c.if-base_too_large.true)
 
-pub foresee-foreseen-requires-clause-modest : goal.foresee-foreseen-requires-clause-modest
-foresee-foreseen-requires-clause-modest c =
-    rw c.terms_of-terms.ensures.sizes rw c.want_of.ensures
-    (modest-order c.args.taker.id_side c.args.sizes (order_of c.args.taker) (omega arith) (omega arith) (sym c.base_too_large.ensures ∙ c.if-base_too_large.false))
-
-pub foresee-foreseen-requires-clause-orders : goal.foresee-foreseen-requires-clause-orders
-foresee-foreseen-requires-clause-orders c =
-    rw c.terms_of-terms.ensures.sizes (subst (All (CanFill (opposite c.args.taker.id_side) c.args.sizes)) (sym c.deref.ensures.value) c.requires.can_fill)
+pub foresee-foreseen-requires : goal.foresee-foreseen-requires
+foresee-foreseen-requires c = record {
+  modest = rw c.terms_of-terms.ensures.sizes rw c.want_of.ensures
+      (modest-order c.args.taker.id_side c.args.sizes (order_of c.args.taker) (omega arith) (omega arith) (sym c.base_too_large.ensures ∙ c.if-base_too_large.false));
+  orders = rw c.terms_of-terms.ensures.sizes (subst (All (CanFill (opposite c.args.taker.id_side) c.args.sizes)) (sym c.deref.ensures.value) c.requires.can_fill);
+}
 
 -- what was foreseen is what the order meets
 reached : (c : After-foresee-foreseen)

@@ -17,24 +17,18 @@ use Rattle.dex_eager_market.proofs.Trades.{book-posted, order-left, rested-is, r
 use Rattle.dex_eager_market.proofs.trading.settle_order.Goals as goal
 use Rattle.dex_eager_market.proofs.trading.settle_order.Goals.{After-resting_order-order, After-want_of-want}
 
-pub meet_book-requires-clause-modest : goal.meet_book-requires-clause-modest
-meet_book-requires-clause-modest c = rw c.terms_of-terms.ensures.sizes rw c.want_of-want.ensures c.requires.trade.modest
-
-pub meet_book-requires-clause-book : goal.meet_book-requires-clause-book
-meet_book-requires-clause-book c = rw c.terms_of-terms.ensures.sizes c.requires.opposing
-
-pub meet_book-requires-clause-accounts : goal.meet_book-requires-clause-accounts
-meet_book-requires-clause-accounts c = all-more (2 ^ 124) (2 ^ 125) c.args.till.now.accounts.items (omega arith) c.requires.till.accounts
-
 -- what the code's terms meet is what the order meets
 met-is : (c : After-want_of-want) → meet c.args.taker.id_side (taking c.terms_of-terms.result) (demand c.want_of-want.result) c.args.opposing.now.orders.items
     ≡ meeting_with c.args.sizes c.args.taker c.args.opposing.now.orders.items
 met-is c = same-met c.args.taker.id_side c.terms_of-terms.ensures.keeps c.want_of-want.ensures refl
 
-pub meet_book-requires-clause-foreseen : goal.meet_book-requires-clause-foreseen
-meet_book-requires-clause-foreseen c =
-    same-foreseen (sym c.terms_of-terms.ensures.sizes) (sym c.terms_of-terms.ensures.limit) refl (sym (met-is (goal.at.meet_book-requires-clause-foreseen c).After-want_of-want))
-    c.requires.trade.reached
+pub meet_book-requires : goal.meet_book-requires
+meet_book-requires c = record {
+  modest = rw c.terms_of-terms.ensures.sizes rw c.want_of-want.ensures c.requires.trade.modest;
+  book = rw c.terms_of-terms.ensures.sizes c.requires.opposing;
+  accounts = all-more (2 ^ 124) (2 ^ 125) c.args.till.now.accounts.items (omega arith) c.requires.till.accounts;
+  foreseen = same-foreseen (sym c.terms_of-terms.ensures.sizes) (sym c.terms_of-terms.ensures.limit) refl (sym (met-is (goal.at.meet_book-requires c).After-want_of-want)) c.requires.trade.reached;
+}
 
 pub add-requires-clause-accounts : goal.add-requires-clause-accounts
 add-requires-clause-accounts c = all-more (2 ^ 124 + 2 ^ 81) (2 ^ 126) _ (omega arith) (c.meet_book.ensures.within (2 ^ 124) c.requires.till.accounts)
@@ -59,58 +53,48 @@ order-is c =
     ∙ rested-is c.args.taker.id_side c.args.sizes n (meeting_with c.args.sizes c.args.taker c.args.opposing.now.orders.items) c.args.foreseen.now.crosses c.args.foreseen.now.want.lots
     c.narrow-pc.result c.taker_fee-fee.result reached.crosses (ap (λ (d : Demand). d.lots) reached.demand_is) (c.narrow-pc.ensures ∙ reached.pc) (fee-is c))
 
-pub returns-clause-market : goal.returns-clause-market
-returns-clause-market c =
+pub returns : goal.returns
+returns c =
     let side = c.args.taker.id_side in
     let sizes = c.args.sizes in
     let n = order_of c.args.taker in
     let met : Meeting = meeting_with sizes c.args.taker c.args.opposing.now.orders.items in
     let reached = c.requires.trade.reached in
-    let met_is = met-is (goal.at.returns-clause-market c).After-want_of-want in
-    let fee_is = fee-is (goal.at.returns-clause-market c).After-resting_order-order in
+    let met_is = met-is (goal.at.returns c).After-want_of-want in
+    let fee_is = fee-is (goal.at.returns c).After-resting_order-order in
     let paid : Worths = with_fills (maker_fills met.events) (map entry_of c.args.till.now.accounts.items) in
-    order-left side sizes n met c.args.own.now c.args.opposing.now (record c.args.own.now { orders = c.post.new.orders }) c.meet_book.new.opposing c.args.till.now
-    (record { next_sequence = c.args.till.now.next_sequence + 1; accounts = c.add.new.accounts; takings = c.charge.new.takings })
-    (record {
-      own_room = refl;
-      opposing_room = c.meet_book.ensures.room;
-      own_is = c.post.ensures.orders ∙ ap (λ (o : Order). (post side c.args.own.now.room o c.args.own.now.orders.items).side)
-          (order-is (goal.at.returns-clause-market c).After-resting_order-order);
-      opposing_is = c.meet_book.ensures.left ∙ ap (λ (m : Meeting). m.left) met_is;
-      next = refl;
-      worths = c.add.ensures.worths
-          ∙ ap (with_change c.args.taker.account (worth_of c.taker_change-change.result))
-          (c.meet_book.ensures.worths ∙ ap (λ (m : Meeting). with_fills (maker_fills m.events) (map entry_of c.args.till.now.accounts.items)) met_is)
-          ∙ ap (λ (v : Worth). with_change c.args.taker.account v paid)
-          (ap worth_of c.taker_change-change.ensures.value
-          ∙ taker-worth side sizes met c.taker_fee-fee.result c.args.foreseen.now.sums.base c.narrow-pc.result reached.base (c.narrow-pc.ensures ∙ reached.pc)
-          ∙ ap (λ (f : ℕ). net (taker_gets side sizes met f) (taker_pays side sizes met f)) fee_is);
-      takings_are = c.charge.ensures
-          ∙ ap (λ (f : ℕ). c.args.till.now.takings + (f - c.args.foreseen.now.sums.rebates)) fee_is
-          ∙ ap (λ (r : ℕ). c.args.till.now.takings + (fee_of n met - r)) reached.rebates;
-    })
-
-pub returns-clause-own : goal.returns-clause-own
-returns-clause-own c =
-    let side = c.args.taker.id_side in
-    let sizes = c.args.sizes in
-    let n = order_of c.args.taker in
-    let met : Meeting = meeting_with sizes c.args.taker c.args.opposing.now.orders.items in (
-      book-posted side sizes c.args.own.now (record c.args.own.now { orders = c.post.new.orders }) (resting side c.args.till.now.next_sequence 0 n (rested side sizes n met)) c.requires.own
-          (resting-fills side sizes n c.args.till.now.next_sequence c.args.opposing.now.orders.items (omega (arith, c.requires.next)) c.requires.trade.lock (tier_number-lt n.tier)) refl
-          c.post.ensures.reserved c.post.ensures.within
-          (c.post.ensures.orders
-          ∙ ap (λ (o : Order). (post side c.args.own.now.room o c.args.own.now.orders.items).side) (order-is (goal.at.returns-clause-own c).After-resting_order-order)),
-      refl,
-    )
-
-pub returns-clause-opposing : goal.returns-clause-opposing
-returns-clause-opposing c = (rw c.terms_of-terms.ensures.sizes at c.meet_book.ensures.book, c.meet_book.ensures.room)
-
-pub returns-clause-till : goal.returns-clause-till
-returns-clause-till c = λ bound is.
+    let own_is = c.post.ensures.orders
+    ∙ ap (λ (o : Order). (post side c.args.own.now.room o c.args.own.now.orders.items).side) (order-is (goal.at.returns c).After-resting_order-order) in
     record {
-      accounts = all-more (bound + 2 ^ 81 + 2 ^ 81) (bound + 2 ^ 82) _ (omega arith)
-          (c.add.ensures.within (bound + 2 ^ 81) (2 ^ 81) (c.meet_book.ensures.within bound is.accounts) c.taker_change-change.ensures.small);
-      takings = omega (arith, is.takings, c.charge.ensures, c.taker_fee-fee.ensures.at_most_all, c.narrow-pc.ensures, c.requires.trade.pc);
+      market = order-left side sizes n met c.args.own.now c.args.opposing.now (record c.args.own.now { orders = c.post.new.orders }) c.meet_book.new.opposing c.args.till.now
+          (record { next_sequence = c.args.till.now.next_sequence + 1; accounts = c.add.new.accounts; takings = c.charge.new.takings })
+          (record {
+            own_room = refl;
+            opposing_room = c.meet_book.ensures.room;
+            own_is = own_is;
+            opposing_is = c.meet_book.ensures.left ∙ ap (λ (m : Meeting). m.left) met_is;
+            next = refl;
+            worths = c.add.ensures.worths
+                ∙ ap (with_change c.args.taker.account (worth_of c.taker_change-change.result))
+                (c.meet_book.ensures.worths ∙ ap (λ (m : Meeting). with_fills (maker_fills m.events) (map entry_of c.args.till.now.accounts.items)) met_is)
+                ∙ ap (λ (v : Worth). with_change c.args.taker.account v paid)
+                (ap worth_of c.taker_change-change.ensures.value
+                ∙ taker-worth side sizes met c.taker_fee-fee.result c.args.foreseen.now.sums.base c.narrow-pc.result reached.base (c.narrow-pc.ensures ∙ reached.pc)
+                ∙ ap (λ (f : ℕ). net (taker_gets side sizes met f) (taker_pays side sizes met f)) fee_is);
+            takings_are = c.charge.ensures
+                ∙ ap (λ (f : ℕ). c.args.till.now.takings + (f - c.args.foreseen.now.sums.rebates)) fee_is
+                ∙ ap (λ (r : ℕ). c.args.till.now.takings + (fee_of n met - r)) reached.rebates;
+          });
+      own = (
+        book-posted side sizes c.args.own.now (record c.args.own.now { orders = c.post.new.orders }) (resting side c.args.till.now.next_sequence 0 n (rested side sizes n met)) c.requires.own
+            (resting-fills side sizes n c.args.till.now.next_sequence c.args.opposing.now.orders.items (omega (arith, c.requires.next)) c.requires.trade.lock (tier_number-lt n.tier)) refl
+            c.post.ensures.reserved c.post.ensures.within own_is,
+        refl,
+      );
+      opposing = (rw c.terms_of-terms.ensures.sizes at c.meet_book.ensures.book, c.meet_book.ensures.room);
+      till = λ bound is. record {
+        accounts = all-more (bound + 2 ^ 81 + 2 ^ 81) (bound + 2 ^ 82) _ (omega arith)
+            (c.add.ensures.within (bound + 2 ^ 81) (2 ^ 81) (c.meet_book.ensures.within bound is.accounts) c.taker_change-change.ensures.small);
+        takings = omega (arith, is.takings, c.charge.ensures, c.taker_fee-fee.ensures.at_most_all, c.narrow-pc.ensures, c.requires.trade.pc);
+      };
     }

@@ -1,7 +1,7 @@
 use Rattle.std.proofs.Common.{rules, length, sym, ap, ◌∙◌, arith}
 use Rattle.dex_gate.specs.declared.stage.Stage.TheVariants.{Idle, Waiting}
 use Rattle.dex_gate.proofs.Keeps.{draws}
-use Rattle.dex_gate.proofs.Seating.{sits, is_pass, view_of_stage, drawn}
+use Rattle.dex_gate.proofs.Seating.{sits, is_pass, view_of_posed, drawn}
 use Rattle.dex_gate.proofs.gate.Gate.draw.Goals as goal
 
 pub fetch_add-pass-inside-requires : goal.fetch_add-pass-inside-requires
@@ -17,4 +17,5 @@ invariant_of-pass g c =
 pub returns : goal.returns
 returns g c =
     let at = sits _ _ _ Idle _ _ c.pass.invariant c.pass.view_is c.requires.gate c.requires.idle in
-    view_of_stage _ _ _ at.card _ Idle Waiting _ c.fetch_add-pass-inside.ensures.0 (drawn _ _ at.card _ _ at.posed_so c.fetch_add-pass-inside.ensures.2) at.shown_so
+    view_of_posed _ _ _ at.card _ Waiting c.fetch_add-pass-inside.ensures.0 (drawn _ _ at.card _ _ at.posed_so c.fetch_add-pass-inside.ensures.2)
+    ∙ (λ i. record (at.shown_so i) { stage = Waiting })

@@ -1,6 +1,7 @@
-use Rattle.std.proofs.Common.{rules, ◌<◌, refl, sym, ap, ◌∙◌, subst}
+use Rattle.std.proofs.Common.{rules, ◌+◌, ◌<◌, refl, sym, ap, ◌∙◌, subst}
 use Rattle.dex_gate.proofs.Keeps.{splits_at}
-use Rattle.dex_gate.proofs.Seating.{sits, is_pass, handed_out, view_of_handing, given_to, view_of_given}
+use Rattle.dex_gate.specs.PassView.{next_pass}
+use Rattle.dex_gate.proofs.Seating.{sits, is_pass, handed_out, given_to, view_of_posed}
 use Rattle.dex_gate.proofs.gate.Gate.split.Goals as goal
 
 pub split_seat-requires : goal.split_seat-requires
@@ -18,12 +19,10 @@ invariant_of-result g c =
     let at = sits _ _ _ _ _ _ c.pass.invariant c.pass.view_is c.requires.gate refl in
     is_pass _ _ _ _ (given_to _ _ at.card _ _ at.posed_so c.split_seat.ensures.4)
 
-pub returns-clause-kept : goal.returns-clause-kept
-returns-clause-kept g c =
-    let at = sits _ _ _ _ _ _ c.pass.invariant c.pass.view_is c.requires.gate refl in
-    view_of_handing _ _ _ at.card _ _ _ c.split_seat.ensures.0 (handed_out _ _ at.card _ _ at.posed_so c.split_seat.ensures.2) at.shown_so
-
-pub returns-clause-given : goal.returns-clause-given
-returns-clause-given g c =
-    let at = sits _ _ _ _ _ _ c.pass.invariant c.pass.view_is c.requires.gate refl in
-    view_of_given _ _ _ at.card _ _ c.split_seat.ensures.3 (given_to _ _ at.card _ _ at.posed_so c.split_seat.ensures.4) at.shown_so
+pub returns : goal.returns
+returns g c =
+    let at = sits _ _ _ _ _ _ c.pass.invariant c.pass.view_is c.requires.gate refl in record {
+      kept = view_of_posed _ _ _ _ _ _ c.split_seat.ensures.0 (handed_out _ _ at.card _ _ at.posed_so c.split_seat.ensures.2)
+          ∙ (λ i. record (at.shown_so i) { next = (at.shown_so i).next + 1 });
+      given = view_of_posed _ _ _ _ _ _ c.split_seat.ensures.3 (given_to _ _ at.card _ _ at.posed_so c.split_seat.ensures.4) ∙ ap next_pass at.shown_so;
+    }

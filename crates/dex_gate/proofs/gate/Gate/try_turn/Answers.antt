@@ -1,17 +1,12 @@
 use Rattle.std.proofs.Common.{rules, sym, ap, ◌∙◌}
-use Rattle.dex_gate.specs.declared.stage.Stage.TheVariants.{Waiting}
-use Rattle.dex_gate.proofs.Seating.{sits, is_pass, view_of_stage}
+use Rattle.dex_gate.specs.declared.stage.Stage.TheVariants.{Waiting, Out}
+use Rattle.dex_gate.proofs.Seating.{sits, is_pass, view_of_posed}
 use Rattle.dex_gate.proofs.gate.Gate.try_turn.Goals as goal
 
-pub look-requires-clause-waiting : goal.look-requires-clause-waiting
-look-requires-clause-waiting g c =
+pub look-requires : goal.look-requires
+look-requires g c =
     let at = sits _ _ _ Waiting _ _ c.pass.invariant c.pass.view_is c.requires.gate c.requires.waiting in
-    (at.card, at.posed_so)
-
-pub look-requires-clause-table : goal.look-requires-clause-table
-look-requires-clause-table g c =
-    let at = sits _ _ _ Waiting _ _ c.pass.invariant c.pass.view_is c.requires.gate c.requires.waiting in
-    (search rules, at.table_so ∙ sym (ap (λ z. z.table) c.self.view_is))
+    record { table = (search rules, at.table_so ∙ sym (ap (λ z. z.table) c.self.view_is)); waiting = (at.card, at.posed_so) }
 
 pub invariant_of-pass : goal.invariant_of-pass
 invariant_of-pass g c =
@@ -26,7 +21,8 @@ invariant_of-pass-2 g c =
 pub returns-clause-pass : goal.returns-clause-pass
 returns-clause-pass g c =
     let at = sits _ _ _ Waiting _ _ c.pass.invariant c.pass.view_is c.requires.gate c.requires.waiting in
-    view_of_stage _ _ _ at.card _ Waiting _ _ c.look.ensures.table (c.in_ok-value.ensures.took at.card at.posed_so).posed_so at.shown_so
+    view_of_posed _ _ _ at.card _ _ c.look.ensures.table (c.in_ok-value.ensures.took at.card at.posed_so).posed_so
+    ∙ (λ i. record (at.shown_so i) { stage = Out (g.V.Journaled.entries c.in_ok-value.value) })
 
 pub returns-clause-turn : goal.returns-clause-turn
 returns-clause-turn g c =
