@@ -14,7 +14,7 @@ use Rattle.dex_replay.proofs.Holdings.{CanMoveIt, markets-hold, wallets-hold}
 use Rattle.dex_replay.proofs.Runs.{AllStandIn, IsHistory, IsMoved, IsRun, StandIn, StandsIn, RowReply, naming, on, origin_of, row-sees, row-sight, said, said_of, still-there}
 use Rattle.dex_replay.proofs.Sights.{AreOnce, address_in, before-movement, sees-balances}
 use Rattle.dex_script_types.proofs.Roles.{roles-all}
-use Rattle.dex_replay.proofs.Doing.{Does, doing, made, sees-doing}
+use Rattle.dex_replay.proofs.Doing.{Does, doing, made}
 use Rattle.dex_script_types.proofs.Apart.{market-once, wallet-once}
 
 -- a market at the end of its calls is sound
@@ -29,24 +29,16 @@ history-address script done first state is =
     ∙ ap (λ (listing : Listing). listing.address) (market_after-listing is.calls (market_in first))
     ∙ ap (λ (listing : Listing). listing.address) (listing-in first)
 
--- a market of the start is still there
-market-there : (script : PlainScript) (done : List RowReply) (address : Address) (firsts : List PlainMarketAccounts) (states : List MarketState)
-    → AllZip (IsHistory script done) firsts states
-    → list_any (λ (state : MarketState). is_same address state.market.listing.address) states ≡ has_market address firsts
-market-there script done address [] [] are = refl
-market-there script done address (first ∷ firsts) (state ∷ states) are =
-    λ i. is_same address (history-address script done first state are.0 i) || market-there script done address firsts states are.1 i
-market-there script done address _ _ are = absurd are
-
-found : (address : Address) (states : List MarketState) → list_any (λ (state : MarketState). is_same address state.market.listing.address) states ≡ true
-    → (m : Market) × (market_at address states ≡ Some m)
-found address [] known = absurd (false≢true known)
-found address (state ∷ states) known =
-    cond_both (is_same address state.market.listing.address) (Some state.market) (market_at address states)
-    (λ (one : Option Market). (m : Market) × (one ≡ Some m))
+-- a market of the start is found
+found-in : (script : PlainScript) (done : List RowReply) (address : Address) (firsts : List PlainMarketAccounts) (states : List MarketState)
+    → AllZip (IsHistory script done) firsts states → has_market address firsts ≡ true → (m : Market) × (market_at address states ≡ Some m)
+found-in script done address [] [] are known = absurd (false≢true known)
+found-in script done address (first ∷ firsts) (state ∷ states) are known =
+    let here : is_same address state.market.listing.address ≡ is_same address first.address = ap (is_same address) (history-address script done first state are.0) in
+    cond_both (is_same address state.market.listing.address) (Some state.market) (market_at address states) (λ (one : Option Market). (m : Market) × (one ≡ Some m))
     (λ same. (state.market, refl))
-    (λ apart.
-    found address states (sym (ap (λ (b : Bool). b || list_any (λ (one : MarketState). is_same address one.market.listing.address) states) apart) ∙ known))
+    (λ apart. found-in script done address firsts states are.1 (sym (ap (λ (b : Bool). b || has_market address firsts) (sym here ∙ apart)) ∙ known))
+found-in script done address _ _ are known = absurd are
 
 -- ---- markets
 
@@ -99,8 +91,7 @@ module _ (script : PlainScript) (done : List RowReply) (row : PlainRow) (bytes :
       (idle first state (no (is_same row.market first.address) (omega (arith, none, sum))) are.0, all-idle firsts states are.1 (omega (arith, none, sum)))
     where
       no : (b : Bool) → cond b 1 0 ≤ 0 → b ≡ false
-      no true none = absurd (omega (arith, none))
-      no false none = refl
+      no b none = grind arith
   all-idle _ _ are none = absurd are
 
   pub markets-run : (firsts : List PlainMarketAccounts) (states : List MarketState) → AllZip (IsHistory script done) firsts states
@@ -293,7 +284,7 @@ module _ (script : PlainScript) (start : IsStart script.limits script.start) (do
   module _ (row : PlainRow) (fits : IsRowOf script.start row) where
     -- the row's market, and what it sees
     pub found-market : (m : Market) × (market_at row.market world.markets ≡ Some m)
-    found-market = found row.market world.markets (market-there script done row.market script.start.markets world.markets run.markets ∙ fits.market)
+    found-market = found-in script done row.market script.start.markets world.markets run.markets fits.market
 
     abbrev seen : Seen
     seen = seen_by row world
@@ -301,9 +292,9 @@ module _ (script : PlainScript) (start : IsStart script.limits script.start) (do
     pub act-run : (bytes : List ℕ) (m : Market) → market_at row.market world.markets ≡ Some m → Does row bytes seen m
         → IsRun script (done ++ record { row = row; reply = (row_step (doing row bytes) seen m).reply } ∷ []) (act (doing row bytes) world)
     act-run bytes m at does =
-        let sees : Sees (asked_of row) seen = row-sees script done world run row fits in
+        let sees : Sees (asked_of row) seen = row-sees script done world run row fits row.bytes in
         let sight : IsSight script seen = row-sight script done world run row in
-        let own : Sees (asked_of (doing row bytes)) seen = sees-doing row bytes seen sees in
+        let own : Sees (asked_of (doing row bytes)) seen = row-sees script done world run row fits bytes in
         let sound : IsSound m = sound-at row.market m script.start.markets world.markets run.markets start.sound at in
         let t : Transfers = (row_step (doing row bytes) seen m).transfers in
         let known : All (λ (address : Address). list_any (λ (state : WalletState). is_same address state.seen.address) world.wallets ≡ true) (row_wallets row) =
