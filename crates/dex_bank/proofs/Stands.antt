@@ -2,14 +2,13 @@
 use Rattle.std.proofs.Common.{◌≡◌, ℕ, ◌<◌, List, [], ◌∷◌, Option, None, Some, get_or, length, map, sym, ap, ◌∙◌, subst, arith}
 use Rattle.std.proofs.lemmas.Option.{none-some}
 use Rattle.dex_world.proofs.Common.{Address, PlainAccount, PlainAccounts, PlainMarketAccounts, PlainRow, get_or-map, is_same, length-map, row_wallets}
-use Rattle.dex_bank.proofs.Common.{All, AreCells, CellState, CellsState, IsFirstAt, MarketCellState, RowPlaces, market_opened, opened_of, position, wallet_opened}
+use Rattle.dex_bank.proofs.Common.{All, AreCells, CellState, CellsState, IsFirstAt, MarketCellState, RowPlaces, made_of, market_opened, opened_of, position, wallet_opened}
 use Rattle.std.proofs.lemmas.List.Quantifiers.{position-Some}
 use Rattle.dex_types.specs.declared.terms.Program.{Program}
 use Rattle.dex_world.specs.Places.{AreWalletsAt, IsIndexOf, place_at}
 use Rattle.dex_script_types.specs.Places.{ArePlaced, IsPlaced, market_place, wallet_place}
 use Rattle.dex_script_types.proofs.FoundLaws.{found-at, wallets-same}
 use Rattle.dex_script_types.proofs.PlacedLaws.{position-map}
-use Rattle.dex_wallet.specs.CellState.{new_cell}
 use Rattle.dex_act.specs.Wallets.{IsRoleAt, cell_place, wallet_places}
 use Rattle.dex_world.proofs.MappedLists.{item_at, map-agree, map-map, zip-weaker}
 use Rattle.dex_bank.specs.Opened.{opened_with}
@@ -109,14 +108,11 @@ module _ (before after : CellsState) (was : All HasItsAddress before.markets) (i
   abbrev wallet_address : CellState → Address
   wallet_address cell = cell.address
 
-  abbrev wallet_new : CellState → CellState
-  wallet_new cell = new_cell cell.address cell.start cell.room
-
   same-wallets : map wallet_address after.wallets ≡ map wallet_address before.wallets
   same-wallets =
-      sym (map-map wallet_new wallet_address after.wallets)
+      sym (map-map made_of wallet_address after.wallets)
       ∙ ap (λ (cells : CellsState). map wallet_address cells.wallets) kept
-      ∙ map-map wallet_new wallet_address before.wallets
+      ∙ map-map made_of wallet_address before.wallets
 
   -- so a row stands where it stood
   pub stands-still : (row : PlainRow) (places : RowPlaces) → ArePlacesIn before row places → ArePlacesIn after row places
