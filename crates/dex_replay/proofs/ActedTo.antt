@@ -16,7 +16,7 @@ use Rattle.dex_replay.proofs.Counting.{IsCounted, run-counted}
 use Rattle.dex_replay.proofs.Groups.{each-two}
 use Rattle.dex_replay.proofs.Items.{HaveAllRun, items-run, row_told, take-or-refused}
 use Rattle.dex_replay.proofs.MappedLists.{All-behind, All-front}
-use Rattle.dex_replay.proofs.Orders.{IsItemIn, order-items, own-order}
+use Rattle.dex_replay.proofs.Orders.{IsItemIn, number_of, order-items, own-order}
 use Rattle.dex_replay.proofs.Room.{can-act}
 use Rattle.dex_replay.proofs.RunSteps.{start-run}
 use Rattle.dex_replay.proofs.Starts.{are-of-script, opened-address, opened-opened, opened-world}
@@ -46,9 +46,6 @@ all-acted script [] places cells so none =
 all-acted script (row ∷ left) places cells so none = absurd (omega (arith, none))
 
 -- ---- numbers
-
-abbrev number_of : PlainRow → ℕ
-number_of row = row.number
 
 abbrev IsApart : ℕ → PlainRow → Type 0
 IsApart number row = eqb number row.number ≡ false

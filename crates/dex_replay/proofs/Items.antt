@@ -102,7 +102,7 @@ module _ (script : PlainScript) (start : IsStart script.limits script.start) (be
       let new : RowReply = record { row = row; reply = (row_step (doing row bytes) seen m).reply } in
       let next : World = act (doing row bytes) world in
       let later : HaveRun script before any rows (done ++ new ∷ []) next =
-      rows-run rows (done ++ new ∷ []) next (act-run script start done world run row fit bytes m at.1 settled.does) apart.1
+      rows-run rows (done ++ new ∷ []) next (act-run script start done world run row fit bytes m at.1 at.2 settled.does) apart.1
       (All-tail (IsRowOf script.start) row rows fits)
       (λ k d within.
       let other : PlainRow = get_or rows k d in
@@ -146,6 +146,11 @@ pub record IsSettled (all : List RowReply) (item : Item) : Type 0 where
   pub rows : map row_told told ≡ members item
   pub inside : All (Contains all) told
   pub held : All (IsHeldRight told) told
+
+-- so they are among more
+settled-among : (some all : List RowReply) → ((told : RowReply) → Contains some told → Contains all told) → (item : Item) → IsSettled some item → IsSettled all item
+settled-among some all more item is =
+    record { told = is.told; rows = is.rows; inside = All-weaker (Contains some) (Contains all) more is.told is.inside; held = is.held }
 
 module _ (script : PlainScript) (start : IsStart script.limits script.start) (done : List RowReply) (world : World) (run : IsRun script done world) where
   -- of more rows than one each is a leg, and so a take, unless it is refused
@@ -223,18 +228,8 @@ items-run script start (item ∷ items) done world are run =
       rows = map-append row_told first.told later.told
           ∙ ap (λ (some : List PlainRow). some ++ map row_told later.told) first.rows ∙ ap (λ (some : List PlainRow). members item ++ some) later.rows;
       settled = All-cons (IsSettled all) item items
-          (record {
-            told = first.told;
-            rows = first.rows;
-            inside = All-weaker (Contains first.told) (Contains all) (λ told here. Contains-append_left first.told later.told told here) first.told (All-contains_itself first.told);
-            held = first.held;
-          })
-          (All-weaker (IsSettled later.told) (IsSettled all)
-          (λ one is. record {
-            told = is.told;
-            rows = is.rows;
-            inside = All-weaker (Contains later.told) (Contains all) (λ told here. Contains-append_right first.told later.told told here) is.told is.inside;
-            held = is.held;
-          }) items later.settled);
+          (settled-among first.told all (Contains-append_left first.told later.told) item
+          (record { told = first.told; rows = first.rows; inside = All-contains_itself first.told; held = first.held }))
+          (All-weaker (IsSettled later.told) (IsSettled all) (settled-among later.told all (Contains-append_right first.told later.told)) items later.settled);
       run = subst (λ (some : List RowReply). IsRun script some (fold_items items (act_item item world))) (append_assoc done first.told later.told) later.run;
     }

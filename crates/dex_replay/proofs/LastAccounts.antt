@@ -1,14 +1,11 @@
 -- The accounts that cells leave are accepted, as those with which they started.
 use Rattle.std.proofs.Common.{◌≡◌, ℕ, ◌≤◌, List, [], ◌∷◌, ◌++◌, length, map, get_or, Option, Some, None, refl, sym, ap, ◌∙◌, subst, arith}
 use Rattle.dex_world.proofs.Common.{Address, All-map, Call, Listing, Market, PlainAccount, PlainAccounts, PlainMarketAccounts, acted_of, flat_map, flat_map-map, is_same, length-map, list_any, market_after, step-keeps, step_of}
-use Rattle.dex_state.specs.Accepted.{HasFew}
-use Rattle.dex_replay.proofs.Common.{All, AreAccepted, AreCells, CellState, CellsState, IsAccepted, IsMarketCell, IsWallet, IsWalletCell, MarketCellState, PlainScript, WalletWords, account_in, address_of, addresses_of, all_of_market, balance_of, closed, market_words, wallet_words, wallet_words-with_amount}
-use Rattle.dex_accounts.specs.Decoded.{market_in}
+use Rattle.dex_state.specs.Accepted.{HasFew, AreApart, HasMints, IsMintOf}
+use Rattle.dex_replay.proofs.Common.{All, AreAccepted, AreCells, CellState, CellsState, IsAccepted, IsMarketCell, IsWallet, IsWalletCell, MarketCellState, PlainScript, WalletWords, account_in, address_of, addresses_of, all_of_market, balance_of, closed, market_words, times, wallet_words, wallet_words-with_amount}
+use Rattle.dex_accounts.specs.Decoded.{listing_in, market_in}
 use Rattle.std.specs.Option.{IfSome}
 use Rattle.dex_token.specs.MintAccount.{IsMint}
-use Rattle.dex_accounts.specs.Decoded.{listing_in}
-use Rattle.dex_state.specs.Addresses.{times}
-use Rattle.dex_state.specs.Accepted.{AreApart, HasMints, IsMintOf}
 use Rattle.dex_replay.proofs.MappedLists.{All-unmap, flat_map-agree, map-map}
 use Rattle.dex_replay.proofs.Starts.{AreOfScript, start_account, wallet-addresses}
 

@@ -15,7 +15,7 @@ use Rattle.dex_replay.proofs.Runs.{AllStandIn, IsHistory, IsMoved, IsRun, StandI
 use Rattle.dex_replay.proofs.Sights.{AreOnce, address_in, before-movement, sees-balances}
 use Rattle.dex_script_types.proofs.Roles.{roles-all}
 use Rattle.dex_replay.proofs.Doing.{Does, doing, made}
-use Rattle.dex_script_types.proofs.Apart.{market-once, wallet-once}
+use Rattle.dex_script_types.proofs.Apart.{AreDistinct, market-once, wallet-once, wallets-distinct}
 
 -- a market at the end of its calls is sound
 pub history-sound : (script : PlainScript) (done : List RowReply) (first : PlainMarketAccounts) (state : MarketState) → AreSound first → IsHistory script done first state
@@ -29,16 +29,20 @@ history-address script done first state is =
     ∙ ap (λ (listing : Listing). listing.address) (market_after-listing is.calls (market_in first))
     ∙ ap (λ (listing : Listing). listing.address) (listing-in first)
 
--- a market of the start is found
+-- a market of the start is found, and is sound
 found-in : (script : PlainScript) (done : List RowReply) (address : Address) (firsts : List PlainMarketAccounts) (states : List MarketState)
-    → AllZip (IsHistory script done) firsts states → has_market address firsts ≡ true → (m : Market) × (market_at address states ≡ Some m)
-found-in script done address [] [] are known = absurd (false≢true known)
-found-in script done address (first ∷ firsts) (state ∷ states) are known =
+    → AllZip (IsHistory script done) firsts states → All AreSound firsts → has_market address firsts ≡ true
+    → (m : Market) × (market_at address states ≡ Some m) × IsSound m
+found-in script done address [] [] are sound known = absurd (false≢true known)
+found-in script done address (first ∷ firsts) (state ∷ states) are sound known =
     let here : is_same address state.market.listing.address ≡ is_same address first.address = ap (is_same address) (history-address script done first state are.0) in
-    cond_both (is_same address state.market.listing.address) (Some state.market) (market_at address states) (λ (one : Option Market). (m : Market) × (one ≡ Some m))
-    (λ same. (state.market, refl))
-    (λ apart. found-in script done address firsts states are.1 (sym (ap (λ (b : Bool). b || has_market address firsts) (sym here ∙ apart)) ∙ known))
-found-in script done address _ _ are known = absurd are
+    cond_both (is_same address state.market.listing.address) (Some state.market) (market_at address states)
+    (λ (one : Option Market). (m : Market) × (one ≡ Some m) × IsSound m)
+    (λ same. (state.market, refl, history-sound script done first state (All-head AreSound first firsts sound) are.0))
+    (λ apart.
+    found-in script done address firsts states are.1 (All-tail AreSound first firsts sound)
+    (sym (ap (λ (b : Bool). b || has_market address firsts) (sym here ∙ apart)) ∙ known))
+found-in script done address _ _ are sound known = absurd are
 
 -- ---- markets
 
@@ -268,39 +272,25 @@ module _ (script : PlainScript) (start : IsStart script.limits script.start) (do
       subst (λ (all : List Address). times address all ≤ 1) (sym addresses-kept)
       (wallet-once script.start address (start.accepted.once address))
 
-  -- each market is sound
-  sound-at : (address : Address) (m : Market) (firsts : List PlainMarketAccounts) (states : List MarketState) → AllZip (IsHistory script done) firsts states
-      → All AreSound firsts → market_at address states ≡ Some m → IsSound m
-  sound-at address m [] [] are sound at = absurd (cc)
-  sound-at address m (first ∷ firsts) (state ∷ states) are sound at =
-      cond_both (is_same address state.market.listing.address) (Some state.market) (market_at address states)
-      (λ (one : Option Market). one ≡ Some m → IsSound m)
-      (λ same is.
-      let own : state.market ≡ m = cc in
-      subst IsSound own (history-sound script done first state (All-head AreSound first firsts sound) are.0))
-      (λ apart is. sound-at address m firsts states are.1 (All-tail AreSound first firsts sound) is) at
-  sound-at address m _ _ are sound at = absurd are
-
   module _ (row : PlainRow) (fits : IsRowOf script.start row) where
     -- the row's market, and what it sees
-    pub found-market : (m : Market) × (market_at row.market world.markets ≡ Some m)
-    found-market = found-in script done row.market script.start.markets world.markets run.markets fits.market
+    pub found-market : (m : Market) × (market_at row.market world.markets ≡ Some m) × IsSound m
+    found-market = found-in script done row.market script.start.markets world.markets run.markets start.sound fits.market
 
     abbrev seen : Seen
     seen = seen_by row world
 
-    pub act-run : (bytes : List ℕ) (m : Market) → market_at row.market world.markets ≡ Some m → Does row bytes seen m
+    pub act-run : (bytes : List ℕ) (m : Market) → market_at row.market world.markets ≡ Some m → IsSound m → Does row bytes seen m
         → IsRun script (done ++ record { row = row; reply = (row_step (doing row bytes) seen m).reply } ∷ []) (act (doing row bytes) world)
-    act-run bytes m at does =
+    act-run bytes m at sound does =
         let sees : Sees (asked_of row) seen = row-sees script done world run row fits row.bytes in
         let sight : IsSight script seen = row-sight script done world run row in
         let own : Sees (asked_of (doing row bytes)) seen = row-sees script done world run row fits bytes in
-        let sound : IsSound m = sound-at row.market m script.start.markets world.markets run.markets start.sound at in
         let t : Transfers = (row_step (doing row bytes) seen m).transfers in
         let known : All (λ (address : Address). list_any (λ (state : WalletState). is_same address state.seen.address) world.wallets ≡ true) (row_wallets row) =
         roles-all (λ (address : Address). list_any (λ (state : WalletState). is_same address state.seen.address) world.wallets ≡ true) script.start
         (λ address has. still-there script done address script.start.wallets world.wallets run.wallets ∙ has) row fits in
-        let balance = sees-balances row world states-once in
+        let balance = sees-balances row world (subst AreDistinct (sym addresses-kept) (wallets-distinct script.start start.accepted)) in
         let can : All (CanMoveIt row seen t) world.wallets = λ k d within named.
         let address : Address = (get_or world.wallets k d).seen.address in
         let move : Movement = movement_of seen t address in

@@ -10,7 +10,7 @@ use Rattle.dex_act.specs.Wallets.{any_hit, hits}
 use Rattle.dex_act.proofs.Seeing.{any-seen}
 use Rattle.dex_script_types.proofs.Apart.{AreDistinct}
 use Rattle.dex_replay.specs.EntryCalls.{before_of, role_told, seen_told, wallet_told}
-use Rattle.dex_replay.proofs.Finding.{wallet-found}
+use Rattle.dex_replay.proofs.Finding.{one-found}
 use Rattle.dex_replay.proofs.Sights.{before-movement}
 
 -- ---- the balance before, in movements
@@ -103,7 +103,7 @@ module _ (wallets : List PlainAccount) (distinct : AreDistinct (map address_of w
       let same : wallet.address ≡ account.address = ap (λ (w : WalletSeen). w.address) there.4 in
       let balance : before_of account.address moves ≡ wallet.balance = ap (λ (a : Address). before_of a moves) (sym same) ∙ before in
       ap (λ (a : Address). role_told wallets moves (Some a)) same
-      ∙ wallet-found (wallet_told moves) account wallets distinct (there.0, there.2, there.3)
+      ∙ one-found address_of (wallet_told moves) account wallets distinct (there.0, there.2, there.3)
       ∙ ap (λ (n : ℕ). Some (record (wallet_told moves account) { balance = n })) balance
       ∙ ap (λ (w : WalletSeen). Some w) (sym there.4)
 

@@ -1,5 +1,5 @@
 -- Scripts without swaps: each item is a row, so items act as rows one by one.
-use Rattle.std.proofs.Common.{◌≡◌, ℕ, ◌<◌, true, false, eqb, get_or, List, [], ◌∷◌, ◌++◌, map, refl, sym, ap, ◌∙◌, subst, arith}
+use Rattle.std.proofs.Common.{◌≡◌, ℕ, true, false, eqb, get_or, List, [], ◌∷◌, ◌++◌, map, refl, sym, ap, ◌∙◌, subst, arith}
 use Rattle.dex_world.proofs.Common.{All-cons, All-head, All-map, All-nil, All-tail, All-weaker, PlainRow, World, act, alone, eq-eqb, eqb-true, filter_passes, flat_map, fold, fold_items, grouped-flat, members, rows_of_lane}
 use Rattle.dex_replay.proofs.Common.{All, HasNoSwap, IsAllOrNone, IsLawful, IsOneOrder, IsReplayOf, Item, KeepsLanes, PlainOutcome, PlainScript, items_of, start_world, was_held, world_after}
 use Rattle.dex_world.proofs.ItemLaws.{alone-acts}
@@ -7,11 +7,8 @@ use Rattle.dex_replay.specs.Replays.{IsLeftByRows, IsLeftIn}
 use Rattle.dex_replay.specs.Runs.{IsOneOrderOfRows}
 use Rattle.dex_replay.proofs.Groups.{each-two, each-two-filter, grouped-single, unfilter}
 use Rattle.dex_replay.proofs.MappedLists.{All-unmap}
+use Rattle.dex_replay.proofs.Numbers.{Rises}
 use Rattle.dex_replay.proofs.Orders.{each-item, lane-rows}
-
--- rows under rising numbers
-abbrev Rises : PlainRow → PlainRow → Type 0
-Rises one other = one.number < other.number
 
 pub rows-single : (rows : List PlainRow) → HasNoSwap rows → items_of rows ≡ map alone rows
 rows-single rows single = grouped-single (λ (row : PlainRow). row.number) rows (each-two Rises rows single)
