@@ -112,8 +112,8 @@ module _ (script : PlainScript) (cells : CellsState) (own : AreOfScript script c
           market_mints = All-map (HasMints last) (λ (cell : MarketCellState). cell.accounts) cells.markets
               (λ k d within. market-mints (get_or cells.markets k d) (kept.markets k d within) (markets k d within));
           once = λ address. subst (λ (addresses : List Address). times address addresses ≤ 1) (sym same-addresses) (accepted.once address);
-          srm = named script.start.srm cells.srm own.srm accepted.srm;
-          msrm = named script.start.msrm cells.msrm own.msrm accepted.msrm;
+          srm = subst (λ (role : Option Address). IfSome role (IsMintOf last)) (sym own.srm) (some-mint script.start.srm accepted.srm);
+          msrm = subst (λ (role : Option Address). IfSome role (IsMintOf last)) (sym own.msrm) (some-mint script.start.msrm accepted.msrm);
           apart = subst (λ (srm : Option Address). AreApart srm cells.msrm) (sym own.srm)
               (subst (λ (msrm : Option Address). AreApart script.start.srm msrm) (sym own.msrm) accepted.apart);
           within = accepted.within;
@@ -129,6 +129,3 @@ module _ (script : PlainScript) (cells : CellsState) (own : AreOfScript script c
         some-mint : (role : Option Address) → IfSome role (IsMintOf script.start) → IfSome role (IsMintOf last)
         some-mint None is = tt
         some-mint (Some address) is = still-mint address is
-
-        named : (first now : Option Address) → now ≡ first → IfSome first (IsMintOf script.start) → IfSome now (IsMintOf last)
-        named first now same is = subst (λ (role : Option Address). IfSome role (IsMintOf last)) (sym same) (some-mint first is)
