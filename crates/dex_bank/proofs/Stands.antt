@@ -13,7 +13,7 @@ use Rattle.dex_act.specs.Wallets.{IsRoleAt, cell_place, wallet_places}
 use Rattle.dex_world.proofs.MappedLists.{item_at, map-agree, map-map, zip-weaker}
 use Rattle.dex_bank.specs.Opened.{opened_with}
 use Rattle.dex_bank.specs.Places.{ArePlacedIn, ArePlacesIn, StandsAt}
-use Rattle.dex_act.proofs.BehindLaws.{same-at}
+use Rattle.dex_act.proofs.CellLists.{address_in, same-at}
 use Rattle.dex_act.proofs.InHand.{stands-at}
 use Rattle.dex_bank.proofs.StepWorld.{opened_market}
 
@@ -105,14 +105,11 @@ module _ (before after : CellsState) (was : All HasItsAddress before.markets) (i
           → (k < length after.markets) × (market_address (get_or after.markets k default) ≡ market_address (get_or before.markets k default))
       still k default within = same-at market_address before.markets after.markets same-markets k default within
 
-  abbrev wallet_address : CellState → Address
-  wallet_address cell = cell.address
-
-  same-wallets : map wallet_address after.wallets ≡ map wallet_address before.wallets
+  same-wallets : map address_in after.wallets ≡ map address_in before.wallets
   same-wallets =
-      sym (map-map made_of wallet_address after.wallets)
-      ∙ ap (λ (cells : CellsState). map wallet_address cells.wallets) kept
-      ∙ map-map made_of wallet_address before.wallets
+      sym (map-map made_of address_in after.wallets)
+      ∙ ap (λ (cells : CellsState). map address_in cells.wallets) kept
+      ∙ map-map made_of address_in before.wallets
 
   -- so a row stands where it stood
   pub stands-still : (row : PlainRow) (places : RowPlaces) → ArePlacesIn before row places → ArePlacesIn after row places

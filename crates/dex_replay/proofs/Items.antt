@@ -1,16 +1,16 @@
 -- Items that act one after the other leave a run of their rows, of which those of one item all acted, or none did.
 use Rattle.std.proofs.Common.{◌≡◌, ℕ, ◌&&◌, ◌||◌, not, Bool, true, false, cond, List, [], ◌∷◌, ◌++◌, get_or, map, Option, Some, None, Result, Ok, Err, is_some, refl, sym, ap, ◌∙◌, subst}
-use Rattle.dex_world.proofs.Common.{All-cons, All-head, All-nil, All-tail, All-weaker, BadData, Contains, Contains-append_left, EachApart, EachTwo, Ix, Market, PlainRow, Refusal, Seen, ShareNothing, Step, World, act, act_item, asked_of, chosen, decoded, false≢true, flat_map, fold, fold_items, idle-step, idle_row, is_done, is_refusal, is_take, list_any, map-id, members, nothing_to_do, request_of, row_step, seen_by, step-refused, why, why-far, why_in, why_on}
+use Rattle.dex_world.proofs.Common.{All-cons, All-head, All-nil, All-tail, All-weaker, BadData, Contains, Contains-append_left, EachApart, EachTwo, Ix, Market, PlainRow, Refusal, Seen, ShareNothing, Step, World, act, act_item, chosen, decoded, false≢true, flat_map, fold, fold_items, idle-step, idle_row, is_done, is_refusal, is_take, list_any, map-id, members, nothing_to_do, request_of, row_step, seen_by, step-refused, why, why-far, why_in, why_on}
 use Rattle.dex_replay.proofs.Common.{All, AreLegs, IsLeg, IsRowOf, IsStart, Item, PlainScript, held_in}
 use Rattle.std.proofs.lemmas.List.{append-nil, append_assoc, map-append}
 use Rattle.std.proofs.lemmas.List.Elements.{All-contains_itself, Contains-append_right}
 use Rattle.dex_types.specs.Requests.{Request}
 use Rattle.dex_types.specs.Why.{why_decoded}
 use Rattle.dex_history.specs.Journal.{is_take_or_bad}
-use Rattle.dex_history.proofs.HeldLaws.{take-tells}
+use Rattle.dex_history.proofs.HeldLaws.{own-not_held}
 use Rattle.dex_replay.proofs.MappedLists.{list_any-agree, list_any-map, map-agree}
 use Rattle.dex_replay.proofs.Orders.{IsItemIn, legs-apart}
-use Rattle.dex_replay.proofs.Doing.{Does, does-nothing, does-own, doing}
+use Rattle.dex_replay.proofs.Doing.{Does, does-nothing, does-own, doing, made}
 use Rattle.dex_replay.proofs.RunSteps.{act-run, found-market}
 use Rattle.dex_replay.proofs.Runs.{IsRun, RowReply}
 
@@ -32,11 +32,7 @@ record Settles (row : PlainRow) (bytes : List ℕ) (seen : Seen) (m : Market) (a
 module _ (row : PlainRow) (seen : Seen) (m : Market) where
   -- a take that acts tells what it took, or why it is refused
   own-told : (is_take (decoded row.bytes) && is_done (row_step row seen m).reply) ≡ false
-  own-told = either (is_take (decoded row.bytes)) (take-tells (asked_of row) seen m)
-    where
-      either : (b : Bool) → (b ≡ true → is_done (row_step row seen m).reply ≡ false) → (b && is_done (row_step row seen m).reply) ≡ false
-      either true tells = tells refl
-      either false tells = refl
+  own-told = own-not_held (made row row.bytes seen m) m refl
 
   none : (reason : Option Refusal) → is_some reason ≡ false → reason ≡ None
   none None is = refl

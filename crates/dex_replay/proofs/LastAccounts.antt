@@ -86,11 +86,10 @@ module _ (script : PlainScript) (cells : CellsState) (own : AreOfScript script c
   module _ (accepted : AreAccepted script.limits script.start) where
     -- what holds of each market of the start holds of each cell's
     each-start : (P : PlainMarketAccounts → Type 0) → All P script.start.markets → All (λ (cell : MarketCellState). P cell.start) cells.markets
-    each-start P all = All-unmap P (λ (cell : MarketCellState). cell.start) cells.markets
-        (subst (λ (some : List PlainMarketAccounts). All P some) (sym own.markets) all)
+    each-start P all = All-unmap P (λ (cell : MarketCellState). cell.start) cells.markets (subst (All P) (sym own.markets) all)
 
     each-wallet : (P : PlainAccount → Type 0) → All P script.start.wallets → All (λ (cell : CellState). P (start_account cell)) cells.wallets
-    each-wallet P all = All-unmap P start_account cells.wallets (subst (λ (some : List PlainAccount). All P some) (sym own.wallets) all)
+    each-wallet P all = All-unmap P start_account cells.wallets (subst (All P) (sym own.wallets) all)
 
     few : {A B : Type 0} (f : A → B) (xs : List A) (ys : List B) (most : ℕ) → map f xs ≡ ys → length ys ≤ most → length xs ≤ most
     few f xs ys most same most_is =

@@ -68,15 +68,13 @@ wallet-addresses script cells own =
 -- ---- the start
 
 -- cells as they were opened are as they were opened
-opened-again : (script : PlainScript) → opened_of (opened script) ≡ opened script
-opened-again script =
-    λ i. record (opened script) {
+pub opened-opened : (script : PlainScript) (cells : CellsState) → cells ≡ opened script → opened_of cells ≡ opened script
+opened-opened script cells made =
+    ap opened_of made
+    ∙ (λ i. record (opened script) {
       markets = map-map (market_opened script.rows) opened_market script.start.markets i;
       wallets = map-map (wallet_opened script.rows) made_of script.start.wallets i;
-    }
-
-pub opened-opened : (script : PlainScript) (cells : CellsState) → cells ≡ opened script → opened_of cells ≡ opened script
-opened-opened script cells made = ap opened_of made ∙ opened-again script
+    })
 
 pub opened-address : (script : PlainScript) (cells : CellsState) → cells ≡ opened script → All HasItsAddress cells.markets
 opened-address script cells made =
