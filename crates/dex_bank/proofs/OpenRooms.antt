@@ -135,17 +135,17 @@ pub record AreRowsOf (names : PlainRow → Address → Bool) (addresses : List A
   pub each : (place : ℕ) (d : Address) → place < length addresses
       → get_or counts place 0 ≡ count_by (λ (row : PlainRow). names row (get_or addresses place d)) rows
 
-module _ (names : PlainRow → Address → Bool) (addresses : List Address) where
+module _ {names : PlainRow → Address → Bool} {addresses : List Address} where
   -- no count is higher than there are rows
-  pub rows-spare : (rows : List PlainRow) (more : ℕ) (counts : List ℕ) → length rows + more < 2 ^ 64 → AreRowsOf names addresses rows counts → HaveSpare more counts
-  rows-spare rows more counts few so place less =
+  pub rows-spare : {rows : List PlainRow} {counts : List ℕ} (more : ℕ) → AreRowsOf names addresses rows counts → length rows + more < 2 ^ 64 → HaveSpare more counts
+  rows-spare {rows} more so few place less =
       let d : Address = item_at addresses place (omega (arith, less, so.long)) in
       omega (arith, few, so.each place d (omega (arith, less, so.long)), count_by-le-length (λ (one : PlainRow). names one (get_or addresses place d)) rows)
 
   -- a row more
-  row-counted : (rows : List PlainRow) (row : PlainRow) (told : ℕ → ℕ) (before after : List ℕ) → Tells addresses names row told
+  row-counted : {rows : List PlainRow} (row : PlainRow) {told : ℕ → ℕ} {before after : List ℕ} → Tells addresses names row told
       → AreRowsOf names addresses rows before → AreCounted told before after → AreRowsOf names addresses (rows ++ row ∷ []) after
-  row-counted rows row told before after tells so more = record {
+  row-counted {rows} row tells so more = record {
     long = more.long ∙ so.long;
     each = λ place d less.
         let test : PlainRow → Bool = λ one. names one (get_or addresses place d) in
@@ -161,14 +161,14 @@ module _ (names : PlainRow → Address → Bool) (addresses : List Address) wher
   }
 
   -- one of a script's
-  pub row-more : (rows : List Row) (i : ℕ) (row : Row) (told : ℕ → ℕ) (before after : List ℕ) → i < length rows → row ≡ get_or rows i row
+  pub row-more : (rows : List Row) (i : ℕ) (row : Row) {told : ℕ → ℕ} {before after : List ℕ} → i < length rows → row ≡ get_or rows i row
       → Tells addresses names (row_of row) told → AreRowsOf names addresses (take i (map row_of rows)) before → AreCounted told before after
       → AreRowsOf names addresses (take (i + 1) (map row_of rows)) after
-  row-more rows i row told before after inside at tells so more =
+  row-more rows i row {after = after} inside at tells so more =
       subst (λ (some : List PlainRow). AreRowsOf names addresses some after)
       (sym (take_more (map row_of rows) i (row_of row) (omega (arith, inside, length-map rows row_of))
       ∙ ap (λ (one : PlainRow). take i (map row_of rows) ++ one ∷ []) (get_or-map row_of rows i row (row_of row) inside ∙ ap row_of (sym at))))
-      (row-counted (take i (map row_of rows)) (row_of row) told before after tells so more)
+      (row-counted (row_of row) tells so more)
 
 -- the counts of all of them
 all-counted : {A : Type 0} (names : PlainRow → Address → Bool) (address_in : A → Address) (rows : List PlainRow) (items : List A) (counts : List ℕ)

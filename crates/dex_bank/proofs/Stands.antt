@@ -2,19 +2,18 @@
 use Rattle.std.proofs.Common.{◌≡◌, ℕ, ◌<◌, List, [], ◌∷◌, Option, None, Some, get_or, length, map, sym, ap, ◌∙◌, subst, arith}
 use Rattle.std.proofs.lemmas.Option.{none-some}
 use Rattle.dex_world.proofs.Common.{Address, PlainAccount, PlainAccounts, PlainMarketAccounts, PlainRow, get_or-map, is_same, length-map, row_wallets}
-use Rattle.dex_bank.proofs.Common.{All, AreCells, CellState, CellsState, IsFirstAt, MarketCellState, RowPlaces, market_opened, opened_of, position, wallet_opened}
+use Rattle.dex_bank.proofs.Common.{All, AreCells, CellState, CellsState, IsFirstAt, MarketCellState, RowPlaces, made_of, market_opened, opened_of, position, wallet_opened}
 use Rattle.std.proofs.lemmas.List.Quantifiers.{position-Some}
 use Rattle.dex_types.specs.declared.terms.Program.{Program}
 use Rattle.dex_world.specs.Places.{AreWalletsAt, IsIndexOf, place_at}
 use Rattle.dex_script_types.specs.Places.{ArePlaced, IsPlaced, market_place, wallet_place}
 use Rattle.dex_script_types.proofs.FoundLaws.{found-at, wallets-same}
 use Rattle.dex_script_types.proofs.PlacedLaws.{position-map}
-use Rattle.dex_wallet.specs.CellState.{new_cell}
 use Rattle.dex_act.specs.Wallets.{IsRoleAt, cell_place, wallet_places}
 use Rattle.dex_world.proofs.MappedLists.{item_at, map-agree, map-map, zip-weaker}
 use Rattle.dex_bank.specs.Opened.{opened_with}
 use Rattle.dex_bank.specs.Places.{ArePlacedIn, ArePlacesIn, StandsAt}
-use Rattle.dex_act.proofs.BehindLaws.{same-at}
+use Rattle.dex_act.proofs.CellLists.{address_in, same-at}
 use Rattle.dex_act.proofs.InHand.{stands-at}
 use Rattle.dex_bank.proofs.StepWorld.{opened_market}
 
@@ -106,17 +105,11 @@ module _ (before after : CellsState) (was : All HasItsAddress before.markets) (i
           → (k < length after.markets) × (market_address (get_or after.markets k default) ≡ market_address (get_or before.markets k default))
       still k default within = same-at market_address before.markets after.markets same-markets k default within
 
-  abbrev wallet_address : CellState → Address
-  wallet_address cell = cell.address
-
-  abbrev wallet_new : CellState → CellState
-  wallet_new cell = new_cell cell.address cell.start cell.room
-
-  same-wallets : map wallet_address after.wallets ≡ map wallet_address before.wallets
+  same-wallets : map address_in after.wallets ≡ map address_in before.wallets
   same-wallets =
-      sym (map-map wallet_new wallet_address after.wallets)
-      ∙ ap (λ (cells : CellsState). map wallet_address cells.wallets) kept
-      ∙ map-map wallet_new wallet_address before.wallets
+      sym (map-map made_of address_in after.wallets)
+      ∙ ap (λ (cells : CellsState). map address_in cells.wallets) kept
+      ∙ map-map made_of address_in before.wallets
 
   -- so a row stands where it stood
   pub stands-still : (row : PlainRow) (places : RowPlaces) → ArePlacesIn before row places → ArePlacesIn after row places

@@ -80,13 +80,6 @@ module _ (first second : PlainRow) (share : ShareNothing first second) (one two 
   done-both : doing (two && not one) first ∷ doing (one && not two) second ∷ [] ≡ chosen (world_of before) (first ∷ second ∷ [])
   done-both = sym (chosen-two (world_of before) first second one two one_is two_is)
 
-  -- where one is refused, the other waits or is
-  waits-by : (a b : Bool) → (a || b) ≡ true → a ≡ false → (b && not a) ≡ true
-  waits-by a b some none = grind arith
-
-  waits-too : (a b : Bool) → (a || b) ≡ true → b ≡ false → (a && not b) ≡ true
-  waits-too a b some none = grind arith
-
   pub both-stepped : HaveBothStepped first second (answer, other_answer) before after
   both-stepped = record {
     replies =
@@ -101,7 +94,7 @@ module _ (first second : PlainRow) (share : ShareNothing first second) (one two 
         let either : (one || two) ≡ true = ap (λ (b : Bool). b || two) one_is ∙ ap (λ (b : Bool). is_some (why_in (world_of before) first) || b) two_is ∙ some in
         let told : two ≡ is_some (why_in (world_of between) second) =
         two_is ∙ ap (λ (found : Option Refusal). is_some found) (sym (why-still first second share (two && not one) answer before between step)) in
-        other_step.refused (waits-or-refused second (world_of between) (one && not two) two other_answer other_step.reply told (waits-too one two either))
-        ∙ step.refused (waits-or-refused first (world_of before) (two && not one) one answer step.reply one_is (waits-by one two either));
+        other_step.refused (waits-or-refused second (world_of between) (one && not two) two other_answer other_step.reply told (λ none. grind (arith, either, none)))
+        ∙ step.refused (waits-or-refused first (world_of before) (two && not one) one answer step.reply one_is (λ none. grind (arith, either, none)));
     cells = other_step.cells;
   }

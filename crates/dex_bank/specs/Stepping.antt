@@ -4,10 +4,9 @@ use Rattle.dex_types.specs.declared.addresses.Address.{Address}
 use Rattle.dex_types.specs.Addresses.{is_same}
 use Rattle.dex_cell.specs.CellState.{MarketCellState}
 use Rattle.dex_wallet.specs.CellState.{CellState}
-use Rattle.dex_act.specs.Steps.{Terms}
+use Rattle.dex_act.specs.Steps.{Terms, AreStepsOn}
 use Rattle.dex_act.specs.declared.steps.Legs.{Legs}
 use Rattle.dex_act.specs.declared.steps.RowDone.{RowDone}
-use Rattle.dex_act.specs.Steps.{AreStepsOn}
 
 -- the first of the cells whose market has this address stands at the place
 pub record IsFirstAt (address : Address) (cells : List MarketCellState) (place : ℕ) : Type 0 where

@@ -181,7 +181,7 @@ credited-by address before taken brought one_way =
     (cases_lt 0 taken)
 
 -- a sum where a test holds is the sum of both where it holds
-cond-plus : (test : Bool) (a b : ℕ) → cond test (a + b) 0 ≡ cond test a 0 + cond test b 0
+pub cond-plus : (test : Bool) (a b : ℕ) → cond test (a + b) 0 ≡ cond test a 0 + cond test b 0
 cond-plus true a b = refl
 cond-plus false a b = refl
 

@@ -24,7 +24,7 @@ IsIn wallet [] = ⊥
 IsIn wallet (role ∷ roles) = (role ≡ Some wallet) ⊎ IsIn wallet roles
 
 -- so its balance is the one that is seen
-balance-in : (wallet : WalletSeen) (roles : List (Option WalletSeen)) → AreOneWith wallet roles → IsIn wallet roles → balance_in wallet.address roles ≡ wallet.balance
+pub balance-in : (wallet : WalletSeen) (roles : List (Option WalletSeen)) → AreOneWith wallet roles → IsIn wallet roles → balance_in wallet.address roles ≡ wallet.balance
 balance-in wallet [] one here = absurd here
 balance-in wallet (None ∷ roles) one (inl is) = absurd (cc)
 balance-in wallet (None ∷ roles) one (inr later) = balance-in wallet roles one.1 later

@@ -8,7 +8,8 @@ use Rattle.dex_parts.specs.Chains.{AreCut, AreLinked, AreTwoParts, IsChainOf, Is
 use Rattle.dex_parts.specs.Together.{bare_world, each_behind, market_behind, wallet_behind, world_behind}
 use Rattle.dex_parts.proofs.KeptLaws.{msrm-kept, program-kept, srm-kept}
 use Rattle.dex_parts.proofs.LeftLaws.{StandIn, left-as, markets-told, same-addresses, wallets-told}
-use Rattle.dex_parts.proofs.TogetherLaws.{behind-others, items-append}
+use Rattle.dex_replay.proofs.ActedTo.{items-append}
+use Rattle.dex_parts.proofs.TogetherLaws.{behind-others}
 
 -- ---- lists behind others
 

@@ -3,7 +3,7 @@ use Rattle.std.proofs.Common.{◌≡◌, ℕ, List, [], ◌∷◌, map, refl, sy
 use Rattle.dex_world.proofs.Common.{Address, AllZip, MarketState, PlainAccount, PlainAccounts, PlainMarketAccounts, WalletSeen, WalletState, World}
 use Rattle.dex_parts.proofs.Common.{AreAccepted, AreOfOneMarket, IsLeftBy, IsLeftIn, Item, Limits, PlainMarketJournal, PlainOutcome, PlainScript, PlainWalletJournal, StandsFor, WalletWords, address_of, balance_of, head-same, map-map, market_state, start_world, tail-same, wallet_state, wallet_words, wallet_words-with_amount, with_amount, with_amounts, world_after, zip-map}
 use Rattle.dex_accounts.proofs.Decoded as decoded
-use Rattle.dex_replay.specs.Alike.{StandForOne}
+use Rattle.dex_replay.proofs.OneReplay.{same-by-two}
 use Rattle.dex_parts.specs.Together.{bare_market, bare_wallet}
 use Rattle.dex_parts.proofs.KeptLaws.{named, named-kept}
 
@@ -73,14 +73,6 @@ journal_in state = record { address = state.market.listing.address; entries = st
 abbrev pub wallet_journal_in : WalletState → PlainWalletJournal
 wallet_journal_in state = record { address = state.seen.address; entries = state.entries }
 
--- lists are one where two things that tell an element are the same of both
-same-by-two : {A B C : Type 0} (f : A → B) (g : A → C) → ((x y : A) → f x ≡ f y → g x ≡ g y → x ≡ y) → (xs ys : List A)
-    → map f xs ≡ map f ys → map g xs ≡ map g ys → xs ≡ ys
-same-by-two f g tell [] [] first second = refl
-same-by-two f g tell (x ∷ xs) (y ∷ ys) first second =
-    λ i. tell x y (head-same first) (head-same second) i ∷ same-by-two f g tell xs ys (tail-same first) (tail-same second) i
-same-by-two f g tell _ _ first second = absurd (cc)
-
 -- addresses of accounts that stand for markets are theirs
 pub stand-addresses : (all : List PlainMarketAccounts) (states : List MarketState) → AllZip StandIn all states
     → map (λ (state : MarketState). state.market.listing.address) states ≡ map (λ (accounts : PlainMarketAccounts). accounts.address) all
@@ -131,12 +123,3 @@ module _ (script : PlainScript) (items : List Item) (outcome : PlainOutcome) (le
       ∙ map-map named seen_address world.wallets
       ∙ sym (map-map wallet_journal_in address world.wallets))
       (left.wallets ∙ sym (map-map wallet_journal_in (λ (journal : PlainWalletJournal). journal.entries) world.wallets))
-
--- accounts that stand for the markets of one world stand for one market, place by place
-pub stand-for-one : (one other : List PlainMarketAccounts) (states : List MarketState) → AllZip StandIn one states → AllZip StandIn other states → AllZip StandForOne one other
-stand-for-one [] [] states first second = tt
-stand-for-one [] (y ∷ ys) [] first second = absurd second
-stand-for-one (x ∷ xs) [] (state ∷ states) first second = absurd second
-stand-for-one (x ∷ xs) (y ∷ ys) (state ∷ states) first second =
-    (record { market = state.market; first = first.0; second = second.0 }, stand-for-one xs ys states first.1 second.1)
-stand-for-one _ _ _ first second = absurd first

@@ -6,9 +6,10 @@ use Rattle.std.proofs.lemmas.List.Elements.{All-cons, filter_agree}
 use Rattle.dex_replay.specs.Acting.{NeverFalls}
 use Rattle.dex_replay.proofs.Groups.{each-two, each-two-weaker, grouped-each, grouped-filter, grouped-number, grouped-two}
 use Rattle.dex_replay.proofs.LastAccounts.{listing-in}
+use Rattle.dex_replay.proofs.OneReplay.{stand-for-one}
 use Rattle.dex_parts.specs.Shards.{AreOfOneShard, FallsInto, IsItemOfOneShard, IsLeftInShard, IsOfOneShard, IsShardOf, Sharding, has_market, has_wallet, items_in, market_journals_in, markets_in, rows_in, wallet_journals_in, wallets_in, world_in}
 use Rattle.dex_parts.proofs.KeptLaws.{named}
-use Rattle.dex_parts.proofs.LeftLaws.{StandIn, journal_in, journals-left, named-left, stand-for-one, wallet-journals-left, wallet_journal_in}
+use Rattle.dex_parts.proofs.LeftLaws.{StandIn, journal_in, journals-left, named-left, wallet-journals-left, wallet_journal_in}
 use Rattle.dex_parts.proofs.ShardWorlds.{is_market_in, is_wallet_in, items-act}
 
 -- ---- lists side by side, and what tests of both keep

@@ -1,5 +1,5 @@
 -- Rows that act behind others leave what they leave by themselves, behind the journals of the others.
-use Rattle.std.proofs.Common.{◌≡◌, ◌∙◌, Bool, cond, if◌then◌else◌, List, [], ◌∷◌, ◌++◌, Option, Some, ap, append_assoc, map, refl, sym}
+use Rattle.std.proofs.Common.{◌≡◌, ◌∙◌, Bool, cond, if◌then◌else◌, List, [], ◌∷◌, Option, Some, ap, append_assoc, map, refl, sym}
 use Rattle.dex_world.proofs.Common.{Address, Entry, Market, MarketState, Movement, PlainRow, Seen, Transfers, WalletEntry, WalletSeen, WalletState, World, act_item, chosen, entry_by, fold, fold_items, is_same, map-id, market_acted, markets_acted, members, movement_of, names, row_step, wallet_acted, wallet_at, wallet_entry_by, wallet_moved}
 use Rattle.dex_parts.proofs.Common.{Item, append-nil, market_at}
 use Rattle.dex_parts.proofs.AlikeWorlds.{ActsAlike, cond-of, item-acts}
@@ -70,10 +70,6 @@ module _ (before : World) where
       ∙ ap (fold_items items)
       (item-acts (λ number. number) behind_markets behind_wallets (λ row. Unit {0}) (λ row all. acts-alike row) (λ row all. tt) item world (λ k d within. tt))
       ∙ items-act items (act_item item world)
-
-pub items-append : (items later : List Item) (world : World) → fold_items (items ++ later) world ≡ fold_items later (fold_items items world)
-items-append [] later world = refl
-items-append (item ∷ items) later world = items-append items later (act_item item world)
 
 -- ---- behind its own journals a world is as it was
 

@@ -16,7 +16,7 @@ use Rattle.dex_replay.proofs.Counting.{IsCounted, run-counted}
 use Rattle.dex_replay.proofs.Groups.{each-two}
 use Rattle.dex_replay.proofs.Items.{HaveAllRun, items-run, row_told, take-or-refused}
 use Rattle.dex_replay.proofs.MappedLists.{All-behind, All-front}
-use Rattle.dex_replay.proofs.Orders.{IsItemIn, order-items, own-order}
+use Rattle.dex_replay.proofs.Orders.{IsItemIn, number_of, order-items, own-order}
 use Rattle.dex_replay.proofs.Room.{can-act}
 use Rattle.dex_replay.proofs.RunSteps.{start-run}
 use Rattle.dex_replay.proofs.Starts.{are-of-script, opened-address, opened-opened, opened-world}
@@ -46,9 +46,6 @@ all-acted script [] places cells so none =
 all-acted script (row ∷ left) places cells so none = absurd (omega (arith, none))
 
 -- ---- numbers
-
-abbrev number_of : PlainRow → ℕ
-number_of row = row.number
 
 abbrev IsApart : ℕ → PlainRow → Type 0
 IsApart number row = eqb number row.number ≡ false
@@ -89,18 +86,18 @@ placed-behind : (cells : CellsState) (row : PlainRow) (rows : List PlainRow) (pl
 placed-behind cells row rows [] are = absurd are
 placed-behind cells row rows (first ∷ places) are = are.1
 
-pub row-stands : (script : PlainScript) (row : PlainRow) (behind : Option PlainRow) (others : List PlainRow) (places : List RowPlaces) (at at_behind : RowPlaces)
-    (cells : CellsState) → IsNext script row behind others places at at_behind cells → ArePlacesIn cells row at
-row-stands script row behind others [] at at_behind cells next = absurd next.left.placed
-row-stands script row behind others (first ∷ places) at at_behind cells next = subst (ArePlacesIn cells row) next.stands next.left.placed.0
+pub row-stands : {script : PlainScript} {row : PlainRow} {behind : Option PlainRow} {others : List PlainRow} {places : List RowPlaces} {at at_behind : RowPlaces}
+    {cells : CellsState} → IsNext script row behind others places at at_behind cells → ArePlacesIn cells row at
+row-stands {places = []} next = absurd next.left.placed
+row-stands {row = row} {places = first ∷ places} {cells = cells} next = subst (ArePlacesIn cells row) next.stands next.left.placed.0
 
 -- ---- one item more
 
-fold_items-more : (items : List Item) (item : Item) (world : World) → fold_items (items ++ item ∷ []) world ≡ act_item item (fold_items items world)
-fold_items-more [] item world = refl
-fold_items-more (first ∷ items) item world = fold_items-more items item (act_item first world)
+pub items-append : (items later : List Item) (world : World) → fold_items (items ++ later) world ≡ fold_items later (fold_items items world)
+items-append [] later world = refl
+items-append (item ∷ items) later world = items-append items later (act_item item world)
 
-module _ (script : PlainScript) (is : IsScript script) (left : List PlainRow) (places : List RowPlaces) (cells : CellsState) (so : AreLeft script left places cells) where
+module _ {script : PlainScript} (is : IsScript script) {left : List PlainRow} {places : List RowPlaces} {cells : CellsState} (so : AreLeft script left places cells) where
   abbrev IsOwn : Item → Type 0
   IsOwn item = IsItemIn script item.first.lane item
 
@@ -154,42 +151,37 @@ module _ (script : PlainScript) (is : IsScript script) (left : List PlainRow) (p
       placed = stand-still cells after so.addresses (its-address after are) kept rest behind placed;
       opened = kept ∙ so.opened;
       addresses = its-address after are;
-      acted = acted ∙ ap (act_item item) so.acted ∙ sym (fold_items-more so.done item (start_world script));
+      acted = acted ∙ ap (act_item item) so.acted ∙ sym (items-append so.done (item ∷ []) (start_world script));
     }
 
+-- the row behind has another number
+abbrev pub IsAlone : PlainRow → Option PlainRow → Type 0
+IsAlone row behind = (second : PlainRow) → behind ≡ Some second → row.number ≡ second.number → ⊥
+
 -- a row alone
-module _ (script : PlainScript) (is : IsScript script) (row : PlainRow) (behind : Option PlainRow) (others : List PlainRow) (places : List RowPlaces)
-    (at at_behind : RowPlaces) (cells : CellsState) (next : IsNext script row behind others places at at_behind cells) (other : (second : PlainRow) → behind ≡ Some second → row.number ≡ second.number → ⊥) where
+module _ {script : PlainScript} (is : IsScript script) {row : PlainRow} {behind : Option PlainRow} {others : List PlainRow} {places : List RowPlaces}
+    {at at_behind : RowPlaces} {cells : CellsState} (next : IsNext script row behind others places at at_behind cells) (other : IsAlone row behind) where
   alone-split : items_of (row ∷ others) ≡ alone row ∷ items_of others
   alone-split = grouped-apart number_of row others (alone-apart row others next.left.rising (λ second at. other second (next.front ∙ at)))
 
   pub can-row : CanAct row cells
-  can-row =
-      can script is (row ∷ others) places cells next.left [] others row refl
-      (All-head (IsRowOf script.start) row [] (begins script is (row ∷ others) places cells next.left (alone row) others alone-split refl).fits)
+  can-row = can is next.left [] others row refl (All-head (IsRowOf script.start) row [] (begins is next.left (alone row) others alone-split refl).fits)
 
-  pub row-done : (after : CellsState) → opened_of after ≡ opened_of cells → AreCells after → world_of after ≡ act row (world_of cells)
+  pub row-done : {after : CellsState} → opened_of after ≡ opened_of cells → AreCells after → world_of after ≡ act row (world_of cells)
       → HaveActed script (row ∷ others) places 1 after
-  row-done after kept are acted = record {
+  row-done {after} kept are acted = record {
     some = omega arith;
     within = omega arith;
-    left = acts script is (row ∷ others) places cells next.left (alone row) others alone-split refl after (drop 1 places) (behind-two row others next.left.rising)
+    left = acts is next.left (alone row) others alone-split refl after (drop 1 places) (behind-two row others next.left.rising)
         (behind-three row others next.left.two) (placed-behind cells row others places next.left.placed) kept are (acted ∙ sym (alone-acts row (world_of cells)));
   }
 
 -- two legs
-module _ (script : PlainScript) (is : IsScript script) (row : Row) (behind : Option (Bor Row)) (after_it : Bor Row) (others : List PlainRow) (places : List RowPlaces)
-    (at at_behind : RowPlaces) (cells : CellsState) (is_behind : behind ≡ Some after_it)
-    (next : IsNext script (row_of row) (option_map row_of (option_copied behind)) others places at at_behind cells)
-    (same : after_it.now.number ≡ row.number) where
-  abbrev first : PlainRow
-  first = row_of row
-
-  abbrev second : PlainRow
-  second = row_of after_it.now
-
+module _ {script : PlainScript} (is : IsScript script) {first second : PlainRow} {behind : Option PlainRow} {others : List PlainRow} {places : List RowPlaces}
+    {at at_behind : RowPlaces} {cells : CellsState} (next : IsNext script first behind others places at at_behind cells)
+    (is_behind : behind ≡ Some second) (same : second.number ≡ first.number) where
   behind-it : (rest : List PlainRow) × (others ≡ second ∷ rest)
-  behind-it = told others (sym (ap (λ (b : Option (Bor Row)). option_map row_of (option_copied b)) is_behind) ∙ next.front)
+  behind-it = told others (sym is_behind ∙ next.front)
     where
       told : (some : List PlainRow) → Some second ≡ slice_get some 0 → (rest : List PlainRow) × (some ≡ second ∷ rest)
       told [] is = absurd (cc)
@@ -198,17 +190,14 @@ module _ (script : PlainScript) (is : IsScript script) (row : Row) (behind : Opt
   abbrev rest : List PlainRow
   rest = behind-it.0
 
-  abbrev left : List PlainRow
-  left = first ∷ second ∷ rest
-
-  so : AreLeft script left places cells
+  so : AreLeft script (first ∷ second ∷ rest) places cells
   so = subst (λ (some : List PlainRow). AreLeft script (first ∷ some) places cells) behind-it.1 next.left
 
-  pair-split : items_of left ≡ pair_of first second ∷ items_of rest
+  pair-split : items_of (first ∷ second ∷ rest) ≡ pair_of first second ∷ items_of rest
   pair-split = grouped-pair number_of first second rest same (pair-apart first second rest so.rising so.two)
 
   pair-begins : IsItemIn script first.lane (pair_of first second)
-  pair-begins = begins script is left places cells so (pair_of first second) rest pair-split refl
+  pair-begins = begins is so (pair_of first second) rest pair-split refl
 
   legs : AreLegs first second
   legs = All-head (AreLegs first) second [] pair-begins.legs.0
@@ -221,33 +210,33 @@ module _ (script : PlainScript) (is : IsScript script) (row : Row) (behind : Opt
 
   pub can-legs : CanActBoth first second cells
   can-legs = record {
-    first_can = can script is left places cells so [] (second ∷ rest) first refl fits-first;
-    second_can = can script is left places cells so (first ∷ []) rest second refl fits-second;
+    first_can = can is so [] (second ∷ rest) first refl fits-first;
+    second_can = can is so (first ∷ []) rest second refl fits-second;
     share = legs.apart;
-    first_take = leg-or-refused script is left places cells so first fits-first legs.first;
-    second_take = leg-or-refused script is left places cells so second fits-second legs.second;
+    first_take = leg-or-refused is so first fits-first legs.first;
+    second_take = leg-or-refused is so second fits-second legs.second;
   }
 
-  pub legs-done : (after : CellsState) → opened_of after ≡ opened_of cells → AreCells after → world_of after ≡ act_item (pair_of first second) (world_of cells)
+  pub legs-done : {after : CellsState} → opened_of after ≡ opened_of cells → AreCells after → world_of after ≡ act_item (pair_of first second) (world_of cells)
       → HaveActed script (first ∷ others) places 2 after
-  legs-done after kept are acted =
+  legs-done {after} kept are acted =
       subst (λ (some : List PlainRow). HaveActed script (first ∷ some) places 2 after) (sym behind-it.1)
       (record {
         some = omega arith;
         within = omega arith;
-        left = acts script is left places cells so (pair_of first second) rest pair-split refl after (drop 2 places)
+        left = acts is so (pair_of first second) rest pair-split refl after (drop 2 places)
             (behind-two second rest (behind-two first (second ∷ rest) so.rising)) (behind-three second rest (behind-three first (second ∷ rest) so.two))
             (placed-two places so.placed) kept are acted;
       })
     where
-      placed-two : (some : List RowPlaces) → ArePlacedIn cells left some → ArePlacedIn cells rest (drop 2 some)
+      placed-two : (some : List RowPlaces) → ArePlacedIn cells (first ∷ second ∷ rest) some → ArePlacedIn cells rest (drop 2 some)
       placed-two [] are = absurd are
       placed-two (one ∷ some) are = placed-behind cells second rest some are.1
 
   pub legs-stand : ArePlacesIn cells first at × ArePlacesIn cells second at_behind
   legs-stand = told places so.placed next.stands next.stands_behind
     where
-      told : (some : List RowPlaces) → ArePlacedIn cells left some → get_or some 0 at ≡ at → get_or some 1 at_behind ≡ at_behind
+      told : (some : List RowPlaces) → ArePlacedIn cells (first ∷ second ∷ rest) some → get_or some 0 at ≡ at → get_or some 1 at_behind ≡ at_behind
           → ArePlacesIn cells first at × ArePlacesIn cells second at_behind
       told [] are one two = absurd are
       told (only ∷ []) are one two = absurd are.1
@@ -255,63 +244,54 @@ module _ (script : PlainScript) (is : IsScript script) (row : Row) (behind : Opt
 
 -- ---- the rows of buffers
 
--- the row after it has another number
-abbrev pub IsAlone : Row → Option (Bor Row) → Type 0
-IsAlone row behind = (second : PlainRow) → option_map row_of (option_copied behind) ≡ Some second → row.number ≡ second.number → ⊥
+-- the row behind, as a plain one
+pub plain-behind : {behind : Option (Bor Row)} {second : Bor Row} → behind ≡ Some second → option_map row_of (option_copied behind) ≡ Some (row_of second.now)
+plain-behind is = ap (λ (b : Option (Bor Row)). option_map row_of (option_copied b)) is
 
-pub alone-some : (row : Row) (behind : Option (Bor Row)) (second : Bor Row) → behind ≡ Some second → (second.now.number ≡ row.number → ⊥) → IsAlone row behind
-alone-some row behind second is differ found at same =
-    let it : Some (row_of second.now) ≡ Some found = sym (ap (λ (b : Option (Bor Row)). option_map row_of (option_copied b)) is) ∙ at in
+pub alone-some : (row : Row) {behind : Option (Bor Row)} {second : Bor Row} → behind ≡ Some second → (second.now.number ≡ row.number → ⊥)
+    → IsAlone (row_of row) (option_map row_of (option_copied behind))
+alone-some row {behind} {second} is differ found at same =
+    let it : Some (row_of second.now) ≡ Some found = sym (plain-behind is) ∙ at in
     let both : row_of second.now ≡ found = cc in
     differ (ap number_of both ∙ sym same)
 
-pub alone-none : (row : Row) (behind : Option (Bor Row)) → ((second : Bor Row) → behind ≡ Some second → ⊥) → IsAlone row behind
-alone-none row None none found at same = absurd (cc)
-alone-none row (Some second) none found at same = none second refl
+pub alone-none : (row : Row) {behind : Option (Bor Row)} → ((second : Bor Row) → behind ≡ Some second → ⊥)
+    → IsAlone (row_of row) (option_map row_of (option_copied behind))
+alone-none row {behind = None} none found at same = absurd (cc)
+alone-none row {behind = Some second} none found at same = none second refl
 
-pub is-next : (script : PlainScript) (row : Row) (behind : Option Row) (others all : List Row) (places : List RowPlaces) (at at_behind : RowPlaces) (cells : CellsState)
-    → all ≡ row ∷ others → behind ≡ slice_get others 0 → get_or places 0 at ≡ at → get_or places 1 at_behind ≡ at_behind
-    → AreLeft script (map row_of all) places cells
-    → IsNext script (row_of row) (option_map row_of behind) (map row_of others) places at at_behind cells
-is-next script row behind others all places at at_behind cells is front one two left = record {
-  left = subst (λ (some : List Row). AreLeft script (map row_of some) places cells) is left;
-  front = ap (option_map row_of) front ∙ sym (slice_get-map row_of others 0);
-  stands = one;
-  stands_behind = two;
-}
-
--- there are as many places as rows
-pub so-many : (script : PlainScript) (all : List Row) (places : List RowPlaces) (cells : CellsState) → AreLeft script (map row_of all) places cells
-    → length places ≡ length all
-so-many script all places cells left = AllZip-long (ArePlacesIn cells) (map row_of all) places left.placed ∙ length-map all row_of
-
--- a row and the others after it have as many places
-pub as-many : (places : List RowPlaces) (all others : List Row) (row : Row) → length places ≡ length all → all ≡ row ∷ others → length places ≡ suc (length others)
-as-many places all others row same is = omega (arith, same, ap (λ (some : List Row). length some) is)
-
--- what is left after the item that acted
-pub behind-item : (script : PlainScript) (row : Row) (behind : Option Row) (others all : List Row) (places : List RowPlaces) (at at_behind : RowPlaces) (count : ℕ)
-    (cells after : CellsState)
-    → IsScript script → all ≡ row ∷ others → behind ≡ slice_get others 0 → get_or places 0 at ≡ at → get_or places 1 at_behind ≡ at_behind
-    → AreLeft script (map row_of all) places cells
-    → ((one : PlainScript) (rows : List PlainRow) (some : List RowPlaces) → IsScript one → IsNext one (row_of row) (option_map row_of behind) rows some at at_behind cells
-    → HaveActed one (row_of row ∷ rows) some count after)
-    → (0 < count) × (count ≤ length all) × (count ≤ length places) × AreLeft script (map row_of (drop count all)) (drop count places) after
-behind-item script row behind others all places at at_behind count cells after is rows front one two left acts =
-    let acted = acts script (map row_of others) places is (is-next script row behind others all places at at_behind cells rows front one two left) in
-    let long = AllZip-long (ArePlacesIn cells) (map row_of all) places left.placed in
-    let same : map row_of all ≡ row_of row ∷ map row_of others = ap (map row_of) rows in
-    let within : count ≤ length all = omega (arith, acted.within, ap (λ (some : List PlainRow). length some) same, length-map all row_of) in (
-      acted.some,
-      within,
-      omega (arith, within, long, length-map all row_of),
-      subst (λ (some : List PlainRow). AreLeft script some (drop count places) after) (ap (drop count) (sym same) ∙ drop-map row_of count all) acted.left,
-    )
-
--- ---- the places of a row and of the one behind it
-
-pub stands-second : (places : List RowPlaces) (others place : ℕ) (d : RowPlaces) → length places ≡ suc others → place ≡ min others 1
+-- the place of the row behind, or where none is, its own
+stands-second : (places : List RowPlaces) (others place : ℕ) (d : RowPlaces) → length places ≡ suc others → place ≡ min others 1
     → get_or places 1 (get_or places place d) ≡ get_or places place d
 stands-second places zero place d long is = get_or_past places 1 (get_or places place d) (omega (arith, long))
 stands-second places (suc others) place d long is =
     ap (λ (n : ℕ). get_or places n (get_or places place d)) (omega (arith, is)) ∙ get_or_default places place (get_or places place d) d (omega (arith, long, is))
+
+-- rows are left, and of them one is in front of others
+module _ {script : PlainScript} {all others : List Row} {row : Row} {places : List RowPlaces} {cells : CellsState}
+    (left : AreLeft script (map row_of all) places cells) (rows : all ≡ row ∷ others) where
+  -- there are as many places
+  pub as-many : length places ≡ suc (length others)
+  as-many = AllZip-long (ArePlacesIn cells) (map row_of all) places left.placed ∙ length-map all row_of ∙ ap (λ (some : List Row). length some) rows
+
+  -- what is left after the item that acted
+  pub behind-item : {behind : Option Row} {place count : ℕ} (d e : RowPlaces) {after : CellsState} → IsScript script → behind ≡ slice_get others 0
+      → place ≡ min (length others) 1
+      → ((one : PlainScript) (rows : List PlainRow) (some : List RowPlaces) → IsScript one
+      → IsNext one (row_of row) (option_map row_of behind) rows some (get_or places 0 d) (get_or places place e) cells → HaveActed one (row_of row ∷ rows) some count after)
+      → (0 < count) × (count ≤ length all) × (count ≤ length places) × AreLeft script (map row_of (drop count all)) (drop count places) after
+  behind-item {behind} {place} {count} d e {after} is front second does =
+      let acted = does script (map row_of others) places is (record {
+        left = subst (λ (some : List Row). AreLeft script (map row_of some) places cells) rows left;
+        front = ap (option_map row_of) front ∙ sym (slice_get-map row_of others 0);
+        stands = get_or_default places 0 (get_or places 0 d) d (omega (arith, as-many));
+        stands_behind = stands-second places (length others) place e as-many second;
+      }) in
+      let same : map row_of all ≡ row_of row ∷ map row_of others = ap (map row_of) rows in
+      let many : length all ≡ suc (length others) = ap (λ (some : List Row). length some) rows in
+      let within : count ≤ length all = omega (arith, acted.within, many, length-map others row_of) in (
+        acted.some,
+        within,
+        omega (arith, within, many, as-many),
+        subst (λ (some : List PlainRow). AreLeft script some (drop count places) after) (ap (drop count) (sym same) ∙ drop-map row_of count all) acted.left,
+      )

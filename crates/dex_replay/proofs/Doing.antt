@@ -38,18 +38,3 @@ does-nothing row seen m take spared =
       stands = λ own sees. held-stands call m own (decoded-priced row.bytes) sees take spared is;
       step = λ n. held-step call n held ∙ sym (idle-step row seen n);
     }
-
--- it sees the wallets that the row names
-pub sees-doing : (row : PlainRow) (bytes : List ℕ) (seen : Seen) → Sees (asked_of row) seen → Sees (asked_of (doing row bytes)) seen
-sees-doing row bytes seen sees = record {
-  coin = sees.coin;
-  pc = sees.pc;
-  discount = sees.discount;
-  referrer = sees.referrer;
-  coin_pc = sees.coin_pc;
-  coin_discount = sees.coin_discount;
-  coin_referrer = sees.coin_referrer;
-  pc_discount = sees.pc_discount;
-  pc_referrer = sees.pc_referrer;
-  discount_referrer = sees.discount_referrer;
-}

@@ -1,7 +1,8 @@
--- The row of a number on a market and the wallet of an address are found, where none stands twice.
+-- The row of a number on a market and what has an address are found, where none stands twice.
 use Rattle.std.proofs.Common.{◌≡◌, ℕ, zero, suc, ◌<◌, ◌==◌, ◌&&◌, ⊎_elim, Bool, true, false, List, [], ◌∷◌, length, get_or, map, Some, refl, sym, ap, ◌∙◌, subst, arith, ap₂}
-use Rattle.dex_world.proofs.Common.{Address, AllPairs, Contains, PlainAccount, PlainRow, cases_Bool, cond-false, cond-true, eq-eqb, eqb-true, get_or-map, is_same, is_same-refl, is_same-sym, length-map}
-use Rattle.dex_replay.proofs.Common.{AreLegs, address_of, first_of}
+use Rattle.dex_world.proofs.Common.{Address, AllPairs, Contains, PlainRow, cases_Bool, cond-false, cond-true, eq-eqb, eqb-true, get_or-map, is_same, is_same-refl, is_same-sym, length-map}
+use Rattle.dex_replay.proofs.Common.{first_of}
+use Rattle.dex_replay.proofs.Orders.{AreLegsIfOne}
 use Rattle.dex_script_types.proofs.Apart.{AreDistinct}
 use Rattle.dex_replay.specs.EntryCalls.{is_row_on}
 
@@ -17,15 +18,11 @@ found-at test told x is (first ∷ others) (suc k) within here before =
 
 -- ---- a row
 
--- two rows of one number are legs, so they are on different markets
-abbrev pub MayBeLegs : PlainRow → PlainRow → Type 0
-MayBeLegs one other = one.number ≡ other.number → AreLegs one other
-
 module _ {Y : Type 0} (told : PlainRow → Y) (row : PlainRow) where
   abbrev is_it : PlainRow → Bool
   is_it one = is_row_on row.market row.number one
 
-  another : (one : PlainRow) → MayBeLegs one row → is_it one ≡ false
+  another : (one : PlainRow) → AreLegsIfOne one row → is_it one ≡ false
   another one legs =
       ⊎_elim
       (λ (same : (one.number == row.number) ≡ true).
@@ -37,21 +34,19 @@ module _ {Y : Type 0} (told : PlainRow → Y) (row : PlainRow) where
   itself =
       ap (λ (b : Bool). b && is_same row.market row.market) (eq-eqb row.number row.number refl) ∙ is_same-refl row.market
 
-  pub row-found : (rows : List PlainRow) → AllPairs MayBeLegs rows → Contains rows row → first_of is_it told rows ≡ Some (told row)
+  pub row-found : (rows : List PlainRow) → AllPairs AreLegsIfOne rows → Contains rows row → first_of is_it told rows ≡ Some (told row)
   row-found rows legs here =
       found-at is_it told row itself rows here.0 here.1 here.2
-      (λ j before. another (get_or rows j row) (subst (MayBeLegs (get_or rows j row)) here.2 (legs j here.0 row before here.1)))
+      (λ j before. another (get_or rows j row) (subst (AreLegsIfOne (get_or rows j row)) here.2 (legs j here.0 row before here.1)))
 
--- ---- a wallet
+-- ---- what has an address
 
-module _ {Y : Type 0} (told : PlainAccount → Y) (wallet : PlainAccount) where
-  pub wallet-found : (wallets : List PlainAccount) → AreDistinct (map address_of wallets) → Contains wallets wallet
-      → first_of (λ (one : PlainAccount). is_same wallet.address one.address) told wallets ≡ Some (told wallet)
-  wallet-found wallets distinct here =
-      let address : Address = wallet.address in
-      found-at (λ (one : PlainAccount). is_same address one.address) told wallet (is_same-refl address) wallets here.0 here.1 here.2
+module _ {A Y : Type 0} (key : A → Address) (told : A → Y) (x : A) where
+  pub one-found : (xs : List A) → AreDistinct (map key xs) → Contains xs x → first_of (λ (one : A). is_same (key x) (key one)) told xs ≡ Some (told x)
+  one-found xs distinct here =
+      let address : Address = key x in
+      found-at (λ (one : A). is_same address (key one)) told x (is_same-refl address) xs here.0 here.1 here.2
       (λ j before.
-      is_same-sym address (get_or wallets j wallet).address
-      ∙ ap₂ is_same (sym (get_or-map address_of wallets j wallet address (omega (arith, before, here.1))))
-      (sym (get_or-map address_of wallets here.0 wallet address here.1 ∙ ap address_of here.2))
-      ∙ distinct j here.0 address before (omega (arith, here.1, length-map wallets address_of)))
+      is_same-sym address (key (get_or xs j x))
+      ∙ ap₂ is_same (sym (get_or-map key xs j x address (omega (arith, before, here.1)))) (sym (get_or-map key xs here.0 x address here.1 ∙ ap key here.2))
+      ∙ distinct j here.0 address before (omega (arith, here.1, length-map xs key)))

@@ -7,7 +7,7 @@ use Rattle.dex_types.specs.Wallets.{amount_at}
 use Rattle.dex_laws.proofs.TotalLaws.{total-agree, total-none, total-plus}
 use Rattle.dex_sound.specs.Kept.{KeepsMarket}
 use Rattle.dex_history.proofs.BalanceLaws.{ArePaid, amount-le}
-use Rattle.dex_history.proofs.MintLaws.{AreOfMints, IsOfMint}
+use Rattle.dex_history.proofs.MintLaws.{AreOfMints, IsOfMint, cond-plus}
 use Rattle.dex_history.proofs.StepConserves.{row-paid}
 use Rattle.dex_state.proofs.Times.{one, times-cons}
 use Rattle.dex_replay.proofs.Sights.{AreOnce, address_in, found-address}
@@ -38,9 +38,6 @@ when-of false now before gave got is = refl
 when-none : (test : Bool) (amount : ℕ) → amount ≡ 0 → cond test amount 0 ≡ 0
 when-none true amount none = none
 when-none false amount none = refl
-
-when-both : (test : Bool) (x y : ℕ) → cond test (x + y) 0 ≡ cond test x 0 + cond test y 0
-when-both test x y = grind arith
 
 -- ---- what moves under a role, at the wallets of a mint
 
@@ -185,7 +182,7 @@ module _ (row : PlainRow) (world : World) (t : Transfers) (one_way : (address : 
     both-total first second =
         total-agree (λ (state : WalletState). cond (is_same mint state.seen.mint) (first state + second state) 0)
         (λ (state : WalletState). cond (is_same mint state.seen.mint) (first state) 0 + cond (is_same mint state.seen.mint) (second state) 0) world.wallets
-        (λ k d within. let state : WalletState = get_or world.wallets k d in when-both (is_same mint state.seen.mint) (first state) (second state))
+        (λ k d within. let state : WalletState = get_or world.wallets k d in cond-plus (is_same mint state.seen.mint) (first state) (second state))
         ∙ total-plus (λ (state : WalletState). cond (is_same mint state.seen.mint) (first state) 0) (λ (state : WalletState). cond (is_same mint state.seen.mint) (second state) 0) world.wallets
 
     abbrev of_coin : ℕ → ℕ
@@ -235,7 +232,7 @@ module _ (mint : Address) (row : PlainRow) (seen : Seen) (m : Market) (sound : I
         ap (λ (l : Listing). cond (is_same mint l.coin_mint) s.market.coin_vault 0 + cond (is_same mint l.pc_mint) s.market.pc_vault 0) keeps.listing,
         when-of (is_same mint m.listing.coin_mint) s.market.coin_vault m.coin_vault moved.coin_out moved.coin_in (omega (arith, keeps.coin, paid.coin)),
         when-of (is_same mint m.listing.pc_mint) s.market.pc_vault m.pc_vault (moved.pc_out + moved.referrer_out) moved.pc_in (omega (arith, keeps.pc, paid.pc)),
-        when-both (is_same mint m.listing.pc_mint) moved.pc_out moved.referrer_out,
+        cond-plus (is_same mint m.listing.pc_mint) moved.pc_out moved.referrer_out,
       )
 
   -- the market that the row found is the one that acts

@@ -1,16 +1,16 @@
 -- Items that act one after the other leave a run of their rows, of which those of one item all acted, or none did.
 use Rattle.std.proofs.Common.{◌≡◌, ℕ, ◌&&◌, ◌||◌, not, Bool, true, false, cond, List, [], ◌∷◌, ◌++◌, get_or, map, Option, Some, None, Result, Ok, Err, is_some, refl, sym, ap, ◌∙◌, subst}
-use Rattle.dex_world.proofs.Common.{All-cons, All-head, All-nil, All-tail, All-weaker, BadData, Contains, Contains-append_left, EachApart, EachTwo, Ix, Market, PlainRow, Refusal, Seen, ShareNothing, Step, World, act, act_item, asked_of, chosen, decoded, false≢true, flat_map, fold, fold_items, idle-step, idle_row, is_done, is_refusal, is_take, list_any, map-id, members, nothing_to_do, request_of, row_step, seen_by, step-refused, why, why-far, why_in, why_on}
+use Rattle.dex_world.proofs.Common.{All-cons, All-head, All-nil, All-tail, All-weaker, BadData, Contains, Contains-append_left, EachApart, EachTwo, Ix, Market, PlainRow, Refusal, Seen, ShareNothing, Step, World, act, act_item, chosen, decoded, false≢true, flat_map, fold, fold_items, idle-step, idle_row, is_done, is_refusal, is_take, list_any, map-id, members, nothing_to_do, request_of, row_step, seen_by, step-refused, why, why-far, why_in, why_on}
 use Rattle.dex_replay.proofs.Common.{All, AreLegs, IsLeg, IsRowOf, IsStart, Item, PlainScript, held_in}
 use Rattle.std.proofs.lemmas.List.{append-nil, append_assoc, map-append}
 use Rattle.std.proofs.lemmas.List.Elements.{All-contains_itself, Contains-append_right}
 use Rattle.dex_types.specs.Requests.{Request}
 use Rattle.dex_types.specs.Why.{why_decoded}
 use Rattle.dex_history.specs.Journal.{is_take_or_bad}
-use Rattle.dex_history.proofs.HeldLaws.{take-tells}
+use Rattle.dex_history.proofs.HeldLaws.{own-not_held}
 use Rattle.dex_replay.proofs.MappedLists.{list_any-agree, list_any-map, map-agree}
 use Rattle.dex_replay.proofs.Orders.{IsItemIn, legs-apart}
-use Rattle.dex_replay.proofs.Doing.{Does, does-nothing, does-own, doing}
+use Rattle.dex_replay.proofs.Doing.{Does, does-nothing, does-own, doing, made}
 use Rattle.dex_replay.proofs.RunSteps.{act-run, found-market}
 use Rattle.dex_replay.proofs.Runs.{IsRun, RowReply}
 
@@ -32,11 +32,7 @@ record Settles (row : PlainRow) (bytes : List ℕ) (seen : Seen) (m : Market) (a
 module _ (row : PlainRow) (seen : Seen) (m : Market) where
   -- a take that acts tells what it took, or why it is refused
   own-told : (is_take (decoded row.bytes) && is_done (row_step row seen m).reply) ≡ false
-  own-told = either (is_take (decoded row.bytes)) (take-tells (asked_of row) seen m)
-    where
-      either : (b : Bool) → (b ≡ true → is_done (row_step row seen m).reply ≡ false) → (b && is_done (row_step row seen m).reply) ≡ false
-      either true tells = tells refl
-      either false tells = refl
+  own-told = own-not_held (made row row.bytes seen m) m refl
 
   none : (reason : Option Refusal) → is_some reason ≡ false → reason ≡ None
   none None is = refl
@@ -102,7 +98,7 @@ module _ (script : PlainScript) (start : IsStart script.limits script.start) (be
       let new : RowReply = record { row = row; reply = (row_step (doing row bytes) seen m).reply } in
       let next : World = act (doing row bytes) world in
       let later : HaveRun script before any rows (done ++ new ∷ []) next =
-      rows-run rows (done ++ new ∷ []) next (act-run script start done world run row fit bytes m at.1 settled.does) apart.1
+      rows-run rows (done ++ new ∷ []) next (act-run script start done world run row fit bytes m at.1 at.2 settled.does) apart.1
       (All-tail (IsRowOf script.start) row rows fits)
       (λ k d within.
       let other : PlainRow = get_or rows k d in
@@ -146,6 +142,11 @@ pub record IsSettled (all : List RowReply) (item : Item) : Type 0 where
   pub rows : map row_told told ≡ members item
   pub inside : All (Contains all) told
   pub held : All (IsHeldRight told) told
+
+-- so they are among more
+settled-among : (some all : List RowReply) → ((told : RowReply) → Contains some told → Contains all told) → (item : Item) → IsSettled some item → IsSettled all item
+settled-among some all more item is =
+    record { told = is.told; rows = is.rows; inside = All-weaker (Contains some) (Contains all) more is.told is.inside; held = is.held }
 
 module _ (script : PlainScript) (start : IsStart script.limits script.start) (done : List RowReply) (world : World) (run : IsRun script done world) where
   -- of more rows than one each is a leg, and so a take, unless it is refused
@@ -223,18 +224,8 @@ items-run script start (item ∷ items) done world are run =
       rows = map-append row_told first.told later.told
           ∙ ap (λ (some : List PlainRow). some ++ map row_told later.told) first.rows ∙ ap (λ (some : List PlainRow). members item ++ some) later.rows;
       settled = All-cons (IsSettled all) item items
-          (record {
-            told = first.told;
-            rows = first.rows;
-            inside = All-weaker (Contains first.told) (Contains all) (λ told here. Contains-append_left first.told later.told told here) first.told (All-contains_itself first.told);
-            held = first.held;
-          })
-          (All-weaker (IsSettled later.told) (IsSettled all)
-          (λ one is. record {
-            told = is.told;
-            rows = is.rows;
-            inside = All-weaker (Contains later.told) (Contains all) (λ told here. Contains-append_right first.told later.told told here) is.told is.inside;
-            held = is.held;
-          }) items later.settled);
+          (settled-among first.told all (Contains-append_left first.told later.told) item
+          (record { told = first.told; rows = first.rows; inside = All-contains_itself first.told; held = first.held }))
+          (All-weaker (IsSettled later.told) (IsSettled all) (settled-among later.told all (Contains-append_right first.told later.told)) items later.settled);
       run = subst (λ (some : List RowReply). IsRun script some (fold_items items (act_item item world))) (append_assoc done first.told later.told) later.run;
     }

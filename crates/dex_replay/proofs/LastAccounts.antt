@@ -1,14 +1,11 @@
 -- The accounts that cells leave are accepted, as those with which they started.
 use Rattle.std.proofs.Common.{◌≡◌, ℕ, ◌≤◌, List, [], ◌∷◌, ◌++◌, length, map, get_or, Option, Some, None, refl, sym, ap, ◌∙◌, subst, arith}
 use Rattle.dex_world.proofs.Common.{Address, All-map, Call, Listing, Market, PlainAccount, PlainAccounts, PlainMarketAccounts, acted_of, flat_map, flat_map-map, is_same, length-map, list_any, market_after, step-keeps, step_of}
-use Rattle.dex_state.specs.Accepted.{HasFew}
-use Rattle.dex_replay.proofs.Common.{All, AreAccepted, AreCells, CellState, CellsState, IsAccepted, IsMarketCell, IsWallet, IsWalletCell, MarketCellState, PlainScript, WalletWords, account_in, address_of, addresses_of, all_of_market, balance_of, closed, market_words, wallet_words, wallet_words-with_amount}
-use Rattle.dex_accounts.specs.Decoded.{market_in}
+use Rattle.dex_state.specs.Accepted.{HasFew, AreApart, HasMints, IsMintOf}
+use Rattle.dex_replay.proofs.Common.{All, AreAccepted, AreCells, CellState, CellsState, IsAccepted, IsMarketCell, IsWallet, IsWalletCell, MarketCellState, PlainScript, WalletWords, account_in, address_of, addresses_of, all_of_market, balance_of, closed, market_words, times, wallet_words, wallet_words-with_amount}
+use Rattle.dex_accounts.specs.Decoded.{listing_in, market_in}
 use Rattle.std.specs.Option.{IfSome}
 use Rattle.dex_token.specs.MintAccount.{IsMint}
-use Rattle.dex_accounts.specs.Decoded.{listing_in}
-use Rattle.dex_state.specs.Addresses.{times}
-use Rattle.dex_state.specs.Accepted.{AreApart, HasMints, IsMintOf}
 use Rattle.dex_replay.proofs.MappedLists.{All-unmap, flat_map-agree, map-map}
 use Rattle.dex_replay.proofs.Starts.{AreOfScript, start_account, wallet-addresses}
 
@@ -89,11 +86,10 @@ module _ (script : PlainScript) (cells : CellsState) (own : AreOfScript script c
   module _ (accepted : AreAccepted script.limits script.start) where
     -- what holds of each market of the start holds of each cell's
     each-start : (P : PlainMarketAccounts → Type 0) → All P script.start.markets → All (λ (cell : MarketCellState). P cell.start) cells.markets
-    each-start P all = All-unmap P (λ (cell : MarketCellState). cell.start) cells.markets
-        (subst (λ (some : List PlainMarketAccounts). All P some) (sym own.markets) all)
+    each-start P all = All-unmap P (λ (cell : MarketCellState). cell.start) cells.markets (subst (All P) (sym own.markets) all)
 
     each-wallet : (P : PlainAccount → Type 0) → All P script.start.wallets → All (λ (cell : CellState). P (start_account cell)) cells.wallets
-    each-wallet P all = All-unmap P start_account cells.wallets (subst (λ (some : List PlainAccount). All P some) (sym own.wallets) all)
+    each-wallet P all = All-unmap P start_account cells.wallets (subst (All P) (sym own.wallets) all)
 
     few : {A B : Type 0} (f : A → B) (xs : List A) (ys : List B) (most : ℕ) → map f xs ≡ ys → length ys ≤ most → length xs ≤ most
     few f xs ys most same most_is =
@@ -115,8 +111,8 @@ module _ (script : PlainScript) (cells : CellsState) (own : AreOfScript script c
           market_mints = All-map (HasMints last) (λ (cell : MarketCellState). cell.accounts) cells.markets
               (λ k d within. market-mints (get_or cells.markets k d) (kept.markets k d within) (markets k d within));
           once = λ address. subst (λ (addresses : List Address). times address addresses ≤ 1) (sym same-addresses) (accepted.once address);
-          srm = named script.start.srm cells.srm own.srm accepted.srm;
-          msrm = named script.start.msrm cells.msrm own.msrm accepted.msrm;
+          srm = subst (λ (role : Option Address). IfSome role (IsMintOf last)) (sym own.srm) (some-mint script.start.srm accepted.srm);
+          msrm = subst (λ (role : Option Address). IfSome role (IsMintOf last)) (sym own.msrm) (some-mint script.start.msrm accepted.msrm);
           apart = subst (λ (srm : Option Address). AreApart srm cells.msrm) (sym own.srm)
               (subst (λ (msrm : Option Address). AreApart script.start.srm msrm) (sym own.msrm) accepted.apart);
           within = accepted.within;
@@ -132,6 +128,3 @@ module _ (script : PlainScript) (cells : CellsState) (own : AreOfScript script c
         some-mint : (role : Option Address) → IfSome role (IsMintOf script.start) → IfSome role (IsMintOf last)
         some-mint None is = tt
         some-mint (Some address) is = still-mint address is
-
-        named : (first now : Option Address) → now ≡ first → IfSome first (IsMintOf script.start) → IfSome now (IsMintOf last)
-        named first now same is = subst (λ (role : Option Address). IfSome role (IsMintOf last)) (sym same) (some-mint first is)

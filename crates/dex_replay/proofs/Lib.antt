@@ -12,14 +12,14 @@ pub mod MappedLists
 mod Numbers
 pub mod Orders
 pub mod Room
-mod ActedTo
+pub mod ActedTo
 mod RunOf
 mod RunSteps
 mod Runs
 mod Sights
 pub mod Singles
 pub mod Starts
-mod OneReplay
+pub mod OneReplay
 mod CallsTold
 mod Finding
 pub mod SightTold

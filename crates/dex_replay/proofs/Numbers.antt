@@ -45,7 +45,7 @@ wallet-numbers script first last journal lane lawful =
     ∙ map-map origin_of_row (λ (origin : Origin). origin.row) (rows_of_wallet lane first.address script.rows)
 
 -- the rows of a part rise, where no two of one number are in it
-abbrev Rises : PlainRow → PlainRow → Type 0
+abbrev pub Rises : PlainRow → PlainRow → Type 0
 Rises one other = one.number < other.number
 
 module _ (script : PlainScript) (rows : AreRows script) (lane : ℕ) (test : PlainRow → Bool) where

@@ -7,7 +7,7 @@ use Rattle.dex_replay.specs.Alike.{AreAlike, StandForOne}
 use Rattle.dex_replay.specs.Replays.{IsLeftIn}
 
 -- lists are one where two things that tell an element are the same of both
-same-by-two : {A B C : Type 0} (f : A → B) (g : A → C) → ((x y : A) → f x ≡ f y → g x ≡ g y → x ≡ y) → (xs ys : List A)
+pub same-by-two : {A B C : Type 0} (f : A → B) (g : A → C) → ((x y : A) → f x ≡ f y → g x ≡ g y → x ≡ y) → (xs ys : List A)
     → map f xs ≡ map f ys → map g xs ≡ map g ys → xs ≡ ys
 same-by-two f g tell [] [] first second = refl
 same-by-two f g tell (x ∷ xs) (y ∷ ys) first second =
@@ -15,7 +15,7 @@ same-by-two f g tell (x ∷ xs) (y ∷ ys) first second =
 same-by-two f g tell _ _ first second = absurd (cc)
 
 -- accounts that stand for the markets of one world stand for one market, place by place
-stand-for-one : (one other : List PlainMarketAccounts) (states : List MarketState)
+pub stand-for-one : (one other : List PlainMarketAccounts) (states : List MarketState)
     → AllZip (λ (accounts : PlainMarketAccounts) (state : MarketState). StandsFor accounts state.market) one states
     → AllZip (λ (accounts : PlainMarketAccounts) (state : MarketState). StandsFor accounts state.market) other states
     → AllZip StandForOne one other

@@ -4,7 +4,7 @@ use Rattle.dex_world.proofs.Common.{All-filter, All-head, All-tail, All-weaker, 
 use Rattle.dex_replay.proofs.Common.{All, AreLegs, AreRows, IsRowOf, Item, KeepsLanes, PlainScript, items_of}
 use Rattle.dex_replay.proofs.Groups.{each-two, each-two-filter, each-two-weaker, each-with-each, filter-all, filter-none, grouped-each, grouped-filter, grouped-number, grouped-two, pairs-of-class, unfilter}
 
-abbrev number_of : PlainRow → ℕ
+abbrev pub number_of : PlainRow → ℕ
 number_of row = row.number
 
 abbrev lane_of : PlainRow → ℕ

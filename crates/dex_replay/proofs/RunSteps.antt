@@ -14,8 +14,8 @@ use Rattle.dex_replay.proofs.Holdings.{CanMoveIt, markets-hold, wallets-hold}
 use Rattle.dex_replay.proofs.Runs.{AllStandIn, IsHistory, IsMoved, IsRun, StandIn, StandsIn, RowReply, naming, on, origin_of, row-sees, row-sight, said, said_of, still-there}
 use Rattle.dex_replay.proofs.Sights.{AreOnce, address_in, before-movement, sees-balances}
 use Rattle.dex_script_types.proofs.Roles.{roles-all}
-use Rattle.dex_replay.proofs.Doing.{Does, doing, made, sees-doing}
-use Rattle.dex_script_types.proofs.Apart.{market-once, wallet-once}
+use Rattle.dex_replay.proofs.Doing.{Does, doing, made}
+use Rattle.dex_script_types.proofs.Apart.{AreDistinct, market-once, wallet-once, wallets-distinct}
 
 -- a market at the end of its calls is sound
 pub history-sound : (script : PlainScript) (done : List RowReply) (first : PlainMarketAccounts) (state : MarketState) → AreSound first → IsHistory script done first state
@@ -29,24 +29,20 @@ history-address script done first state is =
     ∙ ap (λ (listing : Listing). listing.address) (market_after-listing is.calls (market_in first))
     ∙ ap (λ (listing : Listing). listing.address) (listing-in first)
 
--- a market of the start is still there
-market-there : (script : PlainScript) (done : List RowReply) (address : Address) (firsts : List PlainMarketAccounts) (states : List MarketState)
-    → AllZip (IsHistory script done) firsts states
-    → list_any (λ (state : MarketState). is_same address state.market.listing.address) states ≡ has_market address firsts
-market-there script done address [] [] are = refl
-market-there script done address (first ∷ firsts) (state ∷ states) are =
-    λ i. is_same address (history-address script done first state are.0 i) || market-there script done address firsts states are.1 i
-market-there script done address _ _ are = absurd are
-
-found : (address : Address) (states : List MarketState) → list_any (λ (state : MarketState). is_same address state.market.listing.address) states ≡ true
-    → (m : Market) × (market_at address states ≡ Some m)
-found address [] known = absurd (false≢true known)
-found address (state ∷ states) known =
+-- a market of the start is found, and is sound
+found-in : (script : PlainScript) (done : List RowReply) (address : Address) (firsts : List PlainMarketAccounts) (states : List MarketState)
+    → AllZip (IsHistory script done) firsts states → All AreSound firsts → has_market address firsts ≡ true
+    → (m : Market) × (market_at address states ≡ Some m) × IsSound m
+found-in script done address [] [] are sound known = absurd (false≢true known)
+found-in script done address (first ∷ firsts) (state ∷ states) are sound known =
+    let here : is_same address state.market.listing.address ≡ is_same address first.address = ap (is_same address) (history-address script done first state are.0) in
     cond_both (is_same address state.market.listing.address) (Some state.market) (market_at address states)
-    (λ (one : Option Market). (m : Market) × (one ≡ Some m))
-    (λ same. (state.market, refl))
+    (λ (one : Option Market). (m : Market) × (one ≡ Some m) × IsSound m)
+    (λ same. (state.market, refl, history-sound script done first state (All-head AreSound first firsts sound) are.0))
     (λ apart.
-    found address states (sym (ap (λ (b : Bool). b || list_any (λ (one : MarketState). is_same address one.market.listing.address) states) apart) ∙ known))
+    found-in script done address firsts states are.1 (All-tail AreSound first firsts sound)
+    (sym (ap (λ (b : Bool). b || has_market address firsts) (sym here ∙ apart)) ∙ known))
+found-in script done address _ _ are sound known = absurd are
 
 -- ---- markets
 
@@ -99,8 +95,7 @@ module _ (script : PlainScript) (done : List RowReply) (row : PlainRow) (bytes :
       (idle first state (no (is_same row.market first.address) (omega (arith, none, sum))) are.0, all-idle firsts states are.1 (omega (arith, none, sum)))
     where
       no : (b : Bool) → cond b 1 0 ≤ 0 → b ≡ false
-      no true none = absurd (omega (arith, none))
-      no false none = refl
+      no b none = grind arith
   all-idle _ _ are none = absurd are
 
   pub markets-run : (firsts : List PlainMarketAccounts) (states : List MarketState) → AllZip (IsHistory script done) firsts states
@@ -277,39 +272,25 @@ module _ (script : PlainScript) (start : IsStart script.limits script.start) (do
       subst (λ (all : List Address). times address all ≤ 1) (sym addresses-kept)
       (wallet-once script.start address (start.accepted.once address))
 
-  -- each market is sound
-  sound-at : (address : Address) (m : Market) (firsts : List PlainMarketAccounts) (states : List MarketState) → AllZip (IsHistory script done) firsts states
-      → All AreSound firsts → market_at address states ≡ Some m → IsSound m
-  sound-at address m [] [] are sound at = absurd (cc)
-  sound-at address m (first ∷ firsts) (state ∷ states) are sound at =
-      cond_both (is_same address state.market.listing.address) (Some state.market) (market_at address states)
-      (λ (one : Option Market). one ≡ Some m → IsSound m)
-      (λ same is.
-      let own : state.market ≡ m = cc in
-      subst IsSound own (history-sound script done first state (All-head AreSound first firsts sound) are.0))
-      (λ apart is. sound-at address m firsts states are.1 (All-tail AreSound first firsts sound) is) at
-  sound-at address m _ _ are sound at = absurd are
-
   module _ (row : PlainRow) (fits : IsRowOf script.start row) where
     -- the row's market, and what it sees
-    pub found-market : (m : Market) × (market_at row.market world.markets ≡ Some m)
-    found-market = found row.market world.markets (market-there script done row.market script.start.markets world.markets run.markets ∙ fits.market)
+    pub found-market : (m : Market) × (market_at row.market world.markets ≡ Some m) × IsSound m
+    found-market = found-in script done row.market script.start.markets world.markets run.markets start.sound fits.market
 
     abbrev seen : Seen
     seen = seen_by row world
 
-    pub act-run : (bytes : List ℕ) (m : Market) → market_at row.market world.markets ≡ Some m → Does row bytes seen m
+    pub act-run : (bytes : List ℕ) (m : Market) → market_at row.market world.markets ≡ Some m → IsSound m → Does row bytes seen m
         → IsRun script (done ++ record { row = row; reply = (row_step (doing row bytes) seen m).reply } ∷ []) (act (doing row bytes) world)
-    act-run bytes m at does =
-        let sees : Sees (asked_of row) seen = row-sees script done world run row fits in
+    act-run bytes m at sound does =
+        let sees : Sees (asked_of row) seen = row-sees script done world run row fits row.bytes in
         let sight : IsSight script seen = row-sight script done world run row in
-        let own : Sees (asked_of (doing row bytes)) seen = sees-doing row bytes seen sees in
-        let sound : IsSound m = sound-at row.market m script.start.markets world.markets run.markets start.sound at in
+        let own : Sees (asked_of (doing row bytes)) seen = row-sees script done world run row fits bytes in
         let t : Transfers = (row_step (doing row bytes) seen m).transfers in
         let known : All (λ (address : Address). list_any (λ (state : WalletState). is_same address state.seen.address) world.wallets ≡ true) (row_wallets row) =
         roles-all (λ (address : Address). list_any (λ (state : WalletState). is_same address state.seen.address) world.wallets ≡ true) script.start
         (λ address has. still-there script done address script.start.wallets world.wallets run.wallets ∙ has) row fits in
-        let balance = sees-balances row world states-once in
+        let balance = sees-balances row world (subst AreDistinct (sym addresses-kept) (wallets-distinct script.start start.accepted)) in
         let can : All (CanMoveIt row seen t) world.wallets = λ k d within named.
         let address : Address = (get_or world.wallets k d).seen.address in
         let move : Movement = movement_of seen t address in

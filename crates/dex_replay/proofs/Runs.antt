@@ -1,7 +1,8 @@
 -- Rows that act one after the other leave each market a history, and each wallet a journal, of the rows that name it.
-use Rattle.std.proofs.Common.{◌≡◌, Bool, true, ◌||◌, List, [], ◌∷◌, map, Option, Some, None, refl, sym, ap, ◌∙◌}
+use Rattle.std.proofs.Common.{◌≡◌, ℕ, Bool, true, ◌||◌, List, [], ◌∷◌, map, Option, Some, None, refl, sym, ap, ◌∙◌}
 use Rattle.dex_world.proofs.Common.{Address, Agree, AllZip, Asked, Call, Contains, Entry, IsLegal, IsWalletLegal, MarketState, Movement, PlainAccount, PlainMarketAccounts, PlainRow, Reply, Sees, WalletSeen, WalletState, World, address_seen, asked_of, balance_after, cond_both, false≢true, filter, is_same, is_same-true, list_any, market_after, names, role_at, seen_by, wallet_at, wallet_entry_of}
 use Rattle.dex_replay.proofs.Common.{All, Any, IsRowOf, IsSight, IsWalletSeen, Origin, PlainScript, balance_of, front, has_account, is_known_role, market_in, origin_of_entry, origin_of_row, start_world, wallet_words}
+use Rattle.dex_replay.proofs.Doing.{doing}
 use Rattle.dex_replay.proofs.Holdings.{held_in}
 use Rattle.dex_replay.proofs.MappedLists.{any-here, any-there}
 
@@ -80,13 +81,6 @@ wallet-seen address (state ∷ states) known =
     (λ apart.
     wallet-seen address states (sym (ap (λ (b : Bool). b || list_any (λ (one : WalletState). is_same address one.seen.address) states) apart) ∙ known))
 
--- wallets of one address are one wallet
-agree : (wallets : List WalletState) (address other : Address) (one two : Option WalletSeen) → one ≡ wallet_at address wallets → two ≡ wallet_at other wallets
-    → address_seen one ≡ Some address → address_seen two ≡ Some other → Agree one two
-agree wallets address other None two is is_two at at_two = tt
-agree wallets address other (Some wallet) None is is_two at at_two = tt
-agree wallets address other (Some wallet) (Some second) is is_two at at_two = λ same. cc
-
 module _ (script : PlainScript) (done : List RowReply) where
   -- an account of the start is still there
   pub still-there : (address : Address) (firsts : List PlainAccount) (states : List WalletState) → AllZip (IsMoved done) firsts states
@@ -122,24 +116,26 @@ module _ (script : PlainScript) (done : List RowReply) where
     role-seen None known = refl
     role-seen (Some address) known = wallet-seen address world.wallets (here address known)
 
+    abbrev see : Option Address → Option WalletSeen
+    see role = role_at role world.wallets
+
+    -- two roles that name one wallet see one
     roles-agree : (role other : Option Address) → is_known_role script.start.wallets role ≡ true → is_known_role script.start.wallets other ≡ true
-        → Agree (role_at role world.wallets) (role_at other world.wallets)
-    roles-agree None other known known_other = tt
-    roles-agree (Some address) None known known_other = with-none (wallet_at address world.wallets)
+        → Agree (see role) (see other)
+    roles-agree role other known known_other = both (see role) (see other) (ap see (role-seen role known)) (ap see (role-seen other known_other))
       where
-        with-none : (one : Option WalletSeen) → Agree one None
-        with-none None = tt
-        with-none (Some wallet) = tt
-    roles-agree (Some address) (Some other) known known_other =
-        agree world.wallets address other (wallet_at address world.wallets) (wallet_at other world.wallets) refl refl
-        (role-seen (Some address) known) (role-seen (Some other) known_other)
+        both : (one two : Option WalletSeen) → see (address_seen one) ≡ one → see (address_seen two) ≡ two → Agree one two
+        both (Some wallet) (Some another) first second = λ same.
+            let own : Some wallet ≡ Some another = sym first ∙ ap (λ (a : Address). see (Some a)) same ∙ second in
+            cc
+        both _ _ first second = tt
 
     role-sight : (role : Option Address) → IsWalletSeen script.start.wallets (role_at role world.wallets)
     role-sight None = tt
     role-sight (Some address) = sight-of address script.start.wallets world.wallets run.wallets
 
-    pub row-sees : (row : PlainRow) → IsRowOf script.start row → Sees (asked_of row) (seen_by row world)
-    row-sees row fits = record {
+    pub row-sees : (row : PlainRow) → IsRowOf script.start row → (bytes : List ℕ) → Sees (asked_of (doing row bytes)) (seen_by row world)
+    row-sees row fits bytes = record {
       coin = role-seen row.coin fits.coin;
       pc = role-seen row.pc fits.pc;
       discount = role-seen row.discount fits.discount;

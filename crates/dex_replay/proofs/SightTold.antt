@@ -1,16 +1,17 @@
 -- What a call saw is what its entry tells.
-use Rattle.std.proofs.Common.{◌≡◌, ℕ, ◌⊎◌, inl, inr, Bool, true, false, ◌||◌, List, [], ◌∷◌, map, Option, Some, None, refl, sym, ap, ◌∙◌, subst}
-use Rattle.dex_world.proofs.Common.{Address, Agree, Asked, Call, Entry, Market, Movement, PlainAccount, PlainRow, Seen, Sees, Stands, Transfers, WalletSeen, address_seen, asked_of, balance_in, balance_seen, brought_to, cond_both, is_same, is_same-refl, is_same-true, list_any, movement_of, places-movements, seen_wallets, step_of, taken_from, wallet-movement_by}
+use Rattle.std.proofs.Common.{◌≡◌, ℕ, inl, inr, Bool, true, false, ◌||◌, List, [], ◌∷◌, map, Option, Some, None, refl, sym, ap, ◌∙◌, subst}
+use Rattle.dex_world.proofs.Common.{Address, Agree, Asked, Call, Entry, Market, Movement, PlainAccount, PlainRow, Seen, Sees, Stands, Transfers, WalletSeen, address_seen, asked_of, balance_seen, brought_to, cond_both, is_same, is_same-refl, is_same-true, list_any, movement_of, places-movements, seen_wallets, step_of, taken_from, wallet-movement_by}
 use Rattle.dex_replay.proofs.Common.{IsSight, IsWalletSeen, PlainScript, address_of, front}
-use Rattle.std.proofs.lemmas.Bool.{both_ways, false≢true, or_left, or_right}
+use Rattle.std.proofs.lemmas.Bool.{false≢true, or_left, or_right}
 use Rattle.std.proofs.lemmas.Option.{same_Some}
 use Rattle.dex_history.proofs.BalanceLaws.{agree-one, agree-one_back}
+pub use Rattle.dex_history.proofs.MoveLaws.{balance-in}
 use Rattle.dex_history.proofs.MoveLaws.{AreOneWith, IsIn, coin-one, pc-one, referrer-one, roles_of}
 use Rattle.dex_act.specs.Wallets.{any_hit, hits}
 use Rattle.dex_act.proofs.Seeing.{any-seen}
 use Rattle.dex_script_types.proofs.Apart.{AreDistinct}
 use Rattle.dex_replay.specs.EntryCalls.{before_of, role_told, seen_told, wallet_told}
-use Rattle.dex_replay.proofs.Finding.{wallet-found}
+use Rattle.dex_replay.proofs.Finding.{one-found}
 use Rattle.dex_replay.proofs.Sights.{before-movement}
 
 -- ---- the balance before, in movements
@@ -62,21 +63,6 @@ module _ (asked : Asked) (seen : Seen) (sees : Sees asked seen) (wallet : Wallet
     there = inr (inr (inl is));
   }
 
-pub balance-in : (wallet : WalletSeen) (roles : List (Option WalletSeen)) → AreOneWith wallet roles → IsIn wallet roles → balance_in wallet.address roles ≡ wallet.balance
-balance-in wallet [] one here = absurd here
-balance-in wallet (None ∷ roles) one (inl is) = absurd (cc)
-balance-in wallet (None ∷ roles) one (inr later) = balance-in wallet roles one.1 later
-balance-in wallet (Some first ∷ roles) one here =
-    cond_both (is_same wallet.address first.address) first.balance (balance_in wallet.address roles) (λ (n : ℕ). n ≡ wallet.balance)
-    (λ same. sym (ap (λ (w : WalletSeen). w.balance) (one.0 first refl (is_same-true wallet.address first.address same))))
-    (λ apart. balance-in wallet roles one.1 (later apart here))
-  where
-    later : is_same wallet.address first.address ≡ false → (Some first ≡ Some wallet) ⊎ IsIn wallet roles → IsIn wallet roles
-    later apart (inl is) =
-        absurd (both_ways (is_same wallet.address first.address) apart
-        (subst (λ (w : WalletSeen). is_same wallet.address w.address ≡ true) (sym (same_Some first wallet is)) (is_same-refl wallet.address)))
-    later apart (inr there) = there
-
 pub hit-in : (wallet : WalletSeen) (roles : List (Option WalletSeen)) → IsIn wallet roles → any_hit wallet.address roles ≡ true
 hit-in wallet [] here = absurd here
 hit-in wallet (role ∷ roles) (inl is) =
@@ -103,7 +89,7 @@ module _ (wallets : List PlainAccount) (distinct : AreDistinct (map address_of w
       let same : wallet.address ≡ account.address = ap (λ (w : WalletSeen). w.address) there.4 in
       let balance : before_of account.address moves ≡ wallet.balance = ap (λ (a : Address). before_of a moves) (sym same) ∙ before in
       ap (λ (a : Address). role_told wallets moves (Some a)) same
-      ∙ wallet-found (wallet_told moves) account wallets distinct (there.0, there.2, there.3)
+      ∙ one-found address_of (wallet_told moves) account wallets distinct (there.0, there.2, there.3)
       ∙ ap (λ (n : ℕ). Some (record (wallet_told moves account) { balance = n })) balance
       ∙ ap (λ (w : WalletSeen). Some w) (sym there.4)
 

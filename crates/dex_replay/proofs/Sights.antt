@@ -1,8 +1,10 @@
 -- What a row sees of a wallet that it names, and at which balance it moves it.
-use Rattle.std.proofs.Common.{nat_lt, ℕ, ◌+◌, ◌≤◌, ◌≡◌, Bool, true, false, ◌||◌, List, [], ◌∷◌, get_or, map, Option, Some, None, refl, sym, ap, ◌∙◌, subst, arith, ⊎_elim}
-use Rattle.dex_replay.proofs.Common.{All, times}
-use Rattle.dex_world.proofs.Common.{Address, All-cons, All-nil, Movement, PlainRow, Seen, Transfers, WalletSeen, WalletState, World, balance_in, balance_seen, brought_to, cases_Bool, cond-false, cond-true, cond_both, false≢true, is_role, is_same, is_same-refl, is_same-true, list_any, movement_of, names, names-roles, role_at, seen_by, taken_from, wallet_at}
-use Rattle.dex_state.proofs.Times.{one, times-cons}
+use Rattle.std.proofs.Common.{nat_lt, ◌≤◌, ◌≡◌, Bool, true, false, ◌||◌, cond, List, [], ◌∷◌, get_or, map, Option, Some, None, refl, sym, ap, ◌∙◌, subst, ⊎_elim}
+use Rattle.dex_replay.proofs.Common.{All, first_of, times}
+use Rattle.dex_world.proofs.Common.{Address, Movement, PlainRow, Seen, Transfers, WalletSeen, WalletState, World, balance_in, balance_seen, brought_to, cases_Bool, cond-false, cond-true, cond_both, false≢true, is_role, is_same, is_same-refl, is_same-true, list_any, movement_of, names, names-roles, role_at, seen_by, taken_from, wallet_at}
+use Rattle.std.proofs.lemmas.List.{get_or_default}
+use Rattle.dex_script_types.proofs.Apart.{AreDistinct}
+use Rattle.dex_replay.proofs.Finding.{one-found}
 
 abbrev pub address_in : WalletState → Address
 address_in state = state.seen.address
@@ -13,32 +15,20 @@ address_in state = state.seen.address
 abbrev pub AreOnce : List WalletState → Type 0
 AreOnce states = (address : Address) → times address (map address_in states) ≤ 1
 
--- one that stands there is counted
-counted : (states : List WalletState) → All (λ (state : WalletState). 1 ≤ times state.seen.address (map address_in states)) states
-counted [] = All-nil _
-counted (first ∷ states) =
-    let Counted : WalletState → Type 0 = λ (state : WalletState). 1 ≤ times state.seen.address (map address_in (first ∷ states)) in
-    All-cons Counted first states
-    (omega (arith, times-cons first.seen.address first.seen.address (map address_in states), cond-true {A = ℕ} (is_same first.seen.address first.seen.address) 1 0 (is_same-refl first.seen.address)))
-    (λ k d within.
-    let address : Address = (get_or states k d).seen.address in
-    omega (arith, times-cons address first.seen.address (map address_in states), counted states k d within))
+-- the one that is found at an address is the first
+at-first : (address : Address) (states : List WalletState)
+    → wallet_at address states ≡ first_of (λ (state : WalletState). is_same address state.seen.address) (λ (state : WalletState). state.seen) states
+at-first address [] = refl
+at-first address (state ∷ states) =
+    ap (λ (rest : Option WalletSeen). cond (is_same address state.seen.address) (Some state.seen) rest) (at-first address states)
 
--- so each is the one that is found at its address
-pub each-found : (states : List WalletState) → AreOnce states → All (λ (state : WalletState). wallet_at state.seen.address states ≡ Some state.seen) states
-each-found [] once = All-nil _
-each-found (first ∷ states) once =
-    let Found : WalletState → Type 0 = λ (state : WalletState). wallet_at state.seen.address (first ∷ states) ≡ Some state.seen in
-    let count : (address : Address) → times address (map address_in (first ∷ states)) ≡ one address first.seen.address + times address (map address_in states) =
-    λ address. times-cons address first.seen.address (map address_in states) in
-    All-cons Found first states
-    (cond-true (is_same first.seen.address first.seen.address) (Some first.seen) (wallet_at first.seen.address states) (is_same-refl first.seen.address))
-    (λ k d within.
+-- so each is found at its address, where these differ
+each-found : (states : List WalletState) → AreDistinct (map address_in states)
+    → All (λ (state : WalletState). wallet_at state.seen.address states ≡ Some state.seen) states
+each-found states distinct k d within =
     let state : WalletState = get_or states k d in
-    let address : Address = state.seen.address in
-    cond_both (is_same address first.seen.address) (Some first.seen) (wallet_at address states) (λ (found : Option WalletSeen). found ≡ Some state.seen)
-    (λ same. absurd (omega (arith, once address, count address, counted states k d within, cond-true {A = ℕ} (is_same address first.seen.address) 1 0 same)))
-    (λ apart. each-found states (λ a. omega (arith, once a, count a)) k d within))
+    at-first state.seen.address states
+    ∙ one-found address_in (λ (one : WalletState). one.seen) state states distinct (k, within, get_or_default states k state d within)
 
 -- what is found at an address has it
 pub found-address : (address : Address) (states : List WalletState) (wallet : WalletSeen) → wallet_at address states ≡ Some wallet → address ≡ wallet.address
@@ -82,11 +72,11 @@ module _ (states : List WalletState) (wallet : WalletSeen) (found : wallet_at wa
       (cases_Bool (is_same wallet.address address))
 
 -- a row sees the balance of each wallet that it names
-pub sees-balances : (row : PlainRow) (world : World) → AreOnce world.wallets
+pub sees-balances : (row : PlainRow) (world : World) → AreDistinct (map address_in world.wallets)
     → All (λ (state : WalletState). names row state.seen.address ≡ true → balance_seen (seen_by row world) state.seen.address ≡ state.seen.balance) world.wallets
-sees-balances row world once k d within named =
+sees-balances row world distinct k d within named =
     let state : WalletState = get_or world.wallets k d in
-    role-reads world.wallets state.seen (each-found world.wallets once k d within) (row.coin ∷ row.pc ∷ row.discount ∷ row.referrer ∷ [])
+    role-reads world.wallets state.seen (each-found world.wallets distinct k d within) (row.coin ∷ row.pc ∷ row.discount ∷ row.referrer ∷ [])
     (sym (names-roles row state.seen.address) ∙ named)
 
 -- a movement was made at the balance that it states

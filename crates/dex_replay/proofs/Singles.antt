@@ -1,17 +1,14 @@
 -- Scripts without swaps: each item is a row, so items act as rows one by one.
-use Rattle.std.proofs.Common.{◌≡◌, ℕ, ◌<◌, true, false, eqb, get_or, List, [], ◌∷◌, ◌++◌, map, refl, sym, ap, ◌∙◌, subst, arith}
-use Rattle.dex_world.proofs.Common.{All-cons, All-head, All-map, All-nil, All-tail, All-weaker, PlainRow, World, act, alone, eq-eqb, eqb-true, filter_passes, flat_map, fold, fold_items, grouped-flat, members, rows_of_lane}
+use Rattle.std.proofs.Common.{◌≡◌, ℕ, false, eqb, get_or, List, [], ◌∷◌, ◌++◌, map, refl, sym, ap, ◌∙◌, subst, arith}
+use Rattle.dex_world.proofs.Common.{All-cons, All-head, All-map, All-nil, All-tail, All-weaker, PlainRow, World, act, alone, eq-eqb, flat_map, fold, fold_items, grouped-flat, members, rows_of_lane}
 use Rattle.dex_replay.proofs.Common.{All, HasNoSwap, IsAllOrNone, IsLawful, IsOneOrder, IsReplayOf, Item, KeepsLanes, PlainOutcome, PlainScript, items_of, start_world, was_held, world_after}
 use Rattle.dex_world.proofs.ItemLaws.{alone-acts}
 use Rattle.dex_replay.specs.Replays.{IsLeftByRows, IsLeftIn}
 use Rattle.dex_replay.specs.Runs.{IsOneOrderOfRows}
 use Rattle.dex_replay.proofs.Groups.{each-two, each-two-filter, grouped-single, unfilter}
 use Rattle.dex_replay.proofs.MappedLists.{All-unmap}
+use Rattle.dex_replay.proofs.Numbers.{Rises}
 use Rattle.dex_replay.proofs.Orders.{each-item, lane-rows}
-
--- rows under rising numbers
-abbrev Rises : PlainRow → PlainRow → Type 0
-Rises one other = one.number < other.number
 
 pub rows-single : (rows : List PlainRow) → HasNoSwap rows → items_of rows ≡ map alone rows
 rows-single rows single = grouped-single (λ (row : PlainRow). row.number) rows (each-two Rises rows single)
@@ -30,32 +27,23 @@ lane-single script single lane =
     grouped-single (λ (row : PlainRow). row.number) (rows_of_lane lane script.rows)
     (each-two-filter Rises (λ (row : PlainRow). eqb row.lane lane) script.rows (each-two Rises script.rows single))
 
--- an item that is a row of its lane
-record IsSingle (lane : ℕ) (item : Item) : Type 0 where
-  own : item.first.lane ≡ lane
-  single : item ≡ alone item.first
+-- an item that is a row
+abbrev IsSingle : Item → Type 0
+IsSingle item = item ≡ alone item.first
 
-lane-singles : (lane : ℕ) (rows : List PlainRow) → All (λ (row : PlainRow). eqb row.lane lane ≡ true) rows → All (IsSingle lane) (map alone rows)
-lane-singles lane rows own =
-    All-map (IsSingle lane) alone rows
-    (All-weaker (λ (row : PlainRow). eqb row.lane lane ≡ true) (λ (row : PlainRow). IsSingle lane (alone row)) (λ row is. record { own = eqb-true row.lane lane is; single = refl }) rows own)
-
-order-singles : (script : PlainScript) → HasNoSwap script.rows → (order : List Item) → KeepsLanes script order → All (λ (item : Item). IsSingle item.first.lane item) order
+order-singles : (script : PlainScript) → HasNoSwap script.rows → (order : List Item) → KeepsLanes script order → All IsSingle order
 order-singles script single order lanes =
-    each-item order IsSingle
+    each-item order (λ lane. IsSingle)
     (λ lane.
-    let rows : List PlainRow = rows_of_lane lane script.rows in
-    subst (All (IsSingle lane)) (sym (lanes lane ∙ lane-single script single lane))
-    (lane-singles lane rows (filter_passes (λ (row : PlainRow). eqb row.lane lane) script.rows)))
+    subst (All IsSingle) (sym (lanes lane ∙ lane-single script single lane)) (All-map IsSingle alone (rows_of_lane lane script.rows) (λ k d within. refl)))
 
 -- items that are rows are the rows of them
-flat-singles : (order : List Item) → All (λ (item : Item). IsSingle item.first.lane item) order → map alone (flat_map members order) ≡ order
+flat-singles : (order : List Item) → All IsSingle order → map alone (flat_map members order) ≡ order
 flat-singles [] are = refl
 flat-singles (item ∷ order) are =
-    let Is : Item → Type 0 = λ (one : Item). IsSingle one.first.lane one in
-    let own : item ≡ alone item.first = (All-head Is item order are).single in
+    let own : item ≡ alone item.first = All-head IsSingle item order are in
     ap (λ (one : Item). map alone (members one ++ flat_map members order)) own
-    ∙ ap (λ (rest : List Item). alone item.first ∷ rest) (flat-singles order (All-tail Is item order are))
+    ∙ ap (λ (rest : List Item). alone item.first ∷ rest) (flat-singles order (All-tail IsSingle item order are))
     ∙ ap (λ (one : Item). one ∷ order) (sym own)
 
 -- ---- the outcomes
@@ -70,8 +58,8 @@ order-by-rows script outcome single one =
     record {
       order = rows;
       lanes = λ lane.
-          lane-rows one.order (All-weaker (λ (item : Item). IsSingle item.first.lane item) (λ (item : Item). All (λ (row : PlainRow). row.lane ≡ item.first.lane) (members item))
-          (λ item is. subst (λ (it : Item). All (λ (row : PlainRow). row.lane ≡ it.first.lane) (members it)) (sym is.single)
+          lane-rows one.order (All-weaker IsSingle (λ (item : Item). All (λ (row : PlainRow). row.lane ≡ item.first.lane) (members item))
+          (λ item is. subst (λ (it : Item). All (λ (row : PlainRow). row.lane ≡ it.first.lane) (members it)) (sym is)
           (All-cons (λ (row : PlainRow). row.lane ≡ item.first.lane) item.first [] refl (All-nil _))) one.order are) lane
           ∙ ap (flat_map members) (one.lanes lane)
           ∙ grouped-flat (λ (row : PlainRow). row.number) (rows_of_lane lane script.rows);

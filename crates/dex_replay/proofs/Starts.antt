@@ -2,8 +2,8 @@
 use Rattle.std.proofs.Common.{◌≡◌, List, map, refl, sym, ap, ◌∙◌, subst}
 use Rattle.dex_world.proofs.Common.{All-map, PlainAccount, PlainMarketAccounts, map-id}
 use Rattle.dex_replay.proofs.Common.{All, CellState, CellsState, MarketCellState, PlainScript, address_of, market_opened, market_state_of, opened, opened_of, rows_naming, rows_on, start_world, wallet_opened, wallet_state_of, world_of}
-use Rattle.dex_cell.specs.CellState as market
-use Rattle.dex_wallet.specs.CellState as wallet
+use Rattle.dex_act.specs.Wallets.{made_of}
+use Rattle.dex_bank.proofs.StepWorld.{opened_market}
 pub use Rattle.dex_bank.proofs.Stands.{HasItsAddress, its-address}
 use Rattle.dex_replay.proofs.MappedLists.{All-across, map-agree, map-map}
 
@@ -23,16 +23,10 @@ pub record AreOfScript (script : PlainScript) (cells : CellsState) : Type 0 wher
   pub wallet_room : All (λ (cell : CellState). cell.room ≡ rows_naming cell.address script.rows) cells.wallets
 
 module _ (script : PlainScript) (cells : CellsState) (same : opened_of cells ≡ opened script) where
-  abbrev opened_market : MarketCellState → MarketCellState
-  opened_market cell = market.new_cell cell.start cell.room
-
-  abbrev opened_wallet : CellState → CellState
-  opened_wallet cell = wallet.new_cell cell.address cell.start cell.room
-
   same-markets : map opened_market cells.markets ≡ map (market_opened script.rows) script.start.markets
   same-markets = ap (λ (some : CellsState). some.markets) same
 
-  same-wallets : map opened_wallet cells.wallets ≡ map (wallet_opened script.rows) script.start.wallets
+  same-wallets : map made_of cells.wallets ≡ map (wallet_opened script.rows) script.start.wallets
   same-wallets = ap (λ (some : CellsState). some.wallets) same
 
   pub are-of-script : AreOfScript script cells
@@ -47,11 +41,11 @@ module _ (script : PlainScript) (cells : CellsState) (same : opened_of cells ≡
         ∙ map-id script.start.markets;
     market_room = All-across (λ (cell : MarketCellState). cell.room ≡ rows_on cell.start.address script.rows) opened_market (market_opened script.rows)
         cells.markets script.start.markets same-markets (λ k d within. refl);
-    wallets = sym (map-map opened_wallet start_account cells.wallets)
+    wallets = sym (map-map made_of start_account cells.wallets)
         ∙ ap (λ (some : List CellState). map start_account some) same-wallets
         ∙ map-map (wallet_opened script.rows) start_account script.start.wallets
         ∙ map-id script.start.wallets;
-    wallet_room = All-across (λ (cell : CellState). cell.room ≡ rows_naming cell.address script.rows) opened_wallet (wallet_opened script.rows)
+    wallet_room = All-across (λ (cell : CellState). cell.room ≡ rows_naming cell.address script.rows) made_of (wallet_opened script.rows)
         cells.wallets script.start.wallets same-wallets (λ k d within. refl);
   }
 
@@ -74,15 +68,13 @@ wallet-addresses script cells own =
 -- ---- the start
 
 -- cells as they were opened are as they were opened
-opened-again : (script : PlainScript) → opened_of (opened script) ≡ opened script
-opened-again script =
-    λ i. record (opened script) {
-      markets = map-map (market_opened script.rows) (λ (cell : MarketCellState). market.new_cell cell.start cell.room) script.start.markets i;
-      wallets = map-map (wallet_opened script.rows) (λ (cell : CellState). wallet.new_cell cell.address cell.start cell.room) script.start.wallets i;
-    }
-
 pub opened-opened : (script : PlainScript) (cells : CellsState) → cells ≡ opened script → opened_of cells ≡ opened script
-opened-opened script cells made = ap opened_of made ∙ opened-again script
+opened-opened script cells made =
+    ap opened_of made
+    ∙ (λ i. record (opened script) {
+      markets = map-map (market_opened script.rows) opened_market script.start.markets i;
+      wallets = map-map (wallet_opened script.rows) made_of script.start.wallets i;
+    })
 
 pub opened-address : (script : PlainScript) (cells : CellsState) → cells ≡ opened script → All HasItsAddress cells.markets
 opened-address script cells made =

@@ -1,10 +1,10 @@
-use Rattle.std.proofs.Common.{◌≡◌, ◌+◌, ◌<◌, ◌≤◌, List, ℕ, arith, eqb, get_or, length, map, take, sym, subst, ◌∙◌}
+use Rattle.std.proofs.Common.{◌≡◌, ◌+◌, ◌<◌, ◌≤◌, List, ℕ, arith, get_or, length, map, take, sym, subst, ◌∙◌}
 use Rattle.dex_world.proofs.Common.{PlainAccount, PlainAccounts, PlainMarketAccounts, Row, accounts_of, length-map, market_accounts_of, named_of, names, row_of, with_items_is}
 use Rattle.std.proofs.lemmas.List.{length-take-le}
 use Rattle.dex_world.specs.declared.places.RowPlaces.{RowPlaces}
 use Rattle.dex_script_types.specs.Places.{ArePlaced, IsPlaced}
 use Rattle.dex_script_types.proofs.PlacedLaws.{nowhere, placed-long, row-at}
-use Rattle.dex_bank.specs.Counts.{HaveSpare, one, times_told}
+use Rattle.dex_bank.specs.Counts.{HaveSpare}
 use Rattle.dex_bank.proofs.OpenRooms.{AreRowsOf, market-tells, markets_at, on, rooms-told, row-more, rows-spare, wallet-tells, wallets_at}
 use Rattle.dex_bank.proofs.counting.row_counts.Goals as goal
 use Rattle.dex_world.proofs.MappedLists.{item-at, item_at}
@@ -25,14 +25,14 @@ few rows i le = length-take-le i (map row_of rows) (omega (arith, le, length-map
 pub count-requires : goal.count-requires
 count-requires c =
     subst (HaveSpare 1) (sym c.deref_mut.ensures.value)
-    (rows-spare on (markets_at (map market_accounts_of c.args.start.now.markets.items)) (take c.loop-i.i (map row_of c.args.rows.now)) 1 c.loop-i.markets.items
-    (omega (arith, few c.args.rows.now c.loop-i.i (omega arith), together (accounts_of c.args.start.now) c.args.rows.now c.args.places.now c.requires.places)) c.loop-i.invariant.markets)
+    (rows-spare 1 c.loop-i.invariant.markets
+    (omega (arith, few c.args.rows.now c.loop-i.i (omega arith), together (accounts_of c.args.start.now) c.args.rows.now c.args.places.now c.requires.places)))
 
 pub count_each-requires : goal.count_each-requires
 count_each-requires c =
     subst (HaveSpare 4) (sym c.deref_mut-in-loop-i.ensures.value)
-    (rows-spare names (wallets_at (map named_of c.args.start.now.wallets.items)) (take c.loop-i.i (map row_of c.args.rows.now)) 4 c.loop-i.wallets.items
-    (omega (arith, few c.args.rows.now c.loop-i.i (omega arith), together (accounts_of c.args.start.now) c.args.rows.now c.args.places.now c.requires.places)) c.loop-i.invariant.wallets)
+    (rows-spare 4 c.loop-i.invariant.wallets
+    (omega (arith, few c.args.rows.now c.loop-i.i (omega arith), together (accounts_of c.args.start.now) c.args.rows.now c.args.places.now c.requires.places)))
 
 pub loop-i-preserved : goal.loop-i-preserved
 loop-i-preserved c =
@@ -50,14 +50,12 @@ loop-i-preserved c =
       markets =
           subst (AreRowsOf on markets (take (i + 1) (map row_of rows)))
           (sym (with_items_is c.loop-i.markets c.count.new.counts (omega (arith, c.count.auto.counts, c.deref_mut.ensures.len))))
-          (row-more on markets rows i row (λ (place : ℕ). one (eqb place there.market)) c.deref_mut.result.now c.count.new.counts inside is
-          (market-tells start c.requires.start.1 (row_of row) there placed)
+          (row-more rows i row inside is (market-tells start c.requires.start.1 (row_of row) there placed)
           (subst (AreRowsOf on markets (take i (map row_of rows))) (sym c.deref_mut.ensures.value) c.loop-i.invariant.markets) c.count.ensures);
       wallets =
           subst (AreRowsOf names wallets (take (i + 1) (map row_of rows)))
           (sym (with_items_is c.loop-i.wallets c.count_each.new.counts (omega (arith, c.count_each.auto.counts, c.deref_mut-in-loop-i.ensures.len))))
-          (row-more names wallets rows i row (λ (place : ℕ). times_told place there.wallets.places) c.deref_mut-in-loop-i.result.now c.count_each.new.counts inside is
-          (wallet-tells start c.requires.start.1 (row_of row) there placed)
+          (row-more rows i row inside is (wallet-tells start c.requires.start.1 (row_of row) there placed)
           (subst (AreRowsOf names wallets (take i (map row_of rows))) (sym c.deref_mut-in-loop-i.ensures.value) c.loop-i.invariant.wallets) c.count_each.ensures);
     }
 

@@ -1,4 +1,5 @@
-use Rattle.dex_parts.proofs.TogetherLaws.{behind-others, items-append}
+use Rattle.dex_replay.proofs.ActedTo.{items-append}
+use Rattle.dex_parts.proofs.TogetherLaws.{behind-others}
 use Rattle.dex_parts.proofs.laws.items_behind_others_act_as_by_themselves.Goals as goal
 
 pub returns-clause-cut : goal.returns-clause-cut
