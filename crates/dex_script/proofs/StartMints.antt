@@ -67,9 +67,6 @@ has-decimals (first ∷ mints) address words count found are = elim (cases_Bool 
   | inr other ↦ rw other (has-decimals mints address words count (rw other at found) are)
 ]
 
-pub grows-same : (mints : List PlainAccount) → Grows mints mints
-grows-same mints = record { has = λ address h. h; decimals = λ count address h. h }
-
 pub grows-push : (mints : List PlainAccount) (mint : PlainAccount) → Grows mints (mints ++ mint ∷ [])
 grows-push mints mint = record {
   has = λ address h. list_any-append (here address) mints (mint ∷ []) ∙ or_left (has_account address mints) (list_any (here address) (mint ∷ [])) h;
