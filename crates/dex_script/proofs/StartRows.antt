@@ -25,10 +25,10 @@ use Rattle.dex_script.specs.Drafts.{PlainDraft}
 use Rattle.dex_script.specs.Known.{made_addresses}
 use Rattle.dex_script.specs.Rows.{market_set, with_start}
 use Rattle.dex_script.proofs.MadeMarkets.{IsSet, set-is, stands-made}
-use Rattle.dex_script.proofs.MintLaws.{length-with_supply, mints-raised}
+use Rattle.dex_script.proofs.MintLaws.{addresses-raised, length-with_supply, mints-raised}
 use Rattle.dex_script.proofs.RowParts.{Declares, IsMarketRow, IsMintRow, IsName, IsOrdersRow, IsWalletRow, more_markets, more_mints, more_orders, more_wallets}
 use Rattle.dex_script.proofs.StartAddresses.{AreTaken, are-free, made-apart, made-within, new-is-other, part-free, taken-more, taken-once}
-use Rattle.dex_script.proofs.StartMints.{Grows, HasDecimals, addresses-raised, declared-there, decimals_of, grows-push, grows-raised, has-decimals, mint_says, names-apart}
+use Rattle.dex_script.proofs.StartMints.{Grows, HasDecimals, declared-there, decimals_of, grows-push, grows-raised, has-decimals, mint_says, names-apart}
 use Rattle.dex_script.proofs.StartOrders.{has-room, made-grown}
 use Rattle.dex_script.proofs.StartSupplies.{IsBacked, mint-backed, none-held, wallet-backed}
 use Rattle.dex_script.proofs.Started.{IsMade, blank-names, made-accepted}
