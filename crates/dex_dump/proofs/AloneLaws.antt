@@ -25,9 +25,6 @@ pub record IsLeft (left whole : List AccountCheck) : Type 0 where
   pub all : AllHold left → AllHold whole
   pub first : (account : Address) (fault : AccountFault) → FirstFails left account fault → FirstFails whole account fault
 
-pub nothing-done : (whole : List AccountCheck) → IsLeft whole whole
-nothing-done whole = record { all = λ hold. hold; first = λ account fault fails. fails }
-
 pub one-done : (one : AccountCheck) (left whole : List AccountCheck) → IsLeft (one ∷ left) whole → Holds one.check → IsLeft left whole
 one-done one left whole is holds = record {
   all = λ hold. is.all (holds, hold);

@@ -73,7 +73,7 @@ prefixed-address (first ∷ second ∷ digits) address h = elim (cases_Bool ((fi
   | inr other ↦ absurd (none-some address (rw other at h))
 ]
 
-address_of-address : (word : List ℕ) (address : Address) → address_of word ≡ Some address → IsAddress address
+pub address_of-address : (word : List ℕ) (address : Address) → address_of word ≡ Some address → IsAddress address
 unfolding address_of
 address_of-address word address h = elim (cases_Bool (is_label word)) [
   | inl label ↦ subst IsAddress (same_Some _ address (rw label at h)) (label-address word label)
@@ -117,10 +117,10 @@ printable-bytes (c ∷ field) h =
     bytes-cons c field (printable-byte c parts.0) (printable-bytes field parts.1)
 
 -- each field of the row is bytes
-abbrev AreFields : Fields → Type 0
+abbrev pub AreFields : Fields → Type 0
 AreFields row = (place : ℕ) → IsBytes (field_at row place)
 
-fields-bytes : (row : Fields) → row_is_printable row ≡ true → AreFields row
+pub fields-bytes : (row : Fields) → row_is_printable row ≡ true → AreFields row
 unfolding row_is_printable
 fields-bytes [] h place = λ i. omega arith
 fields-bytes (field ∷ row) h zero = printable-bytes field (and_parts (is_printable field) (list_all is_printable row) h).0

@@ -1,46 +1,18 @@
 -- The market of an open-orders account among those read so far.
-use Rattle.std.proofs.Common.{◌≡◌, ◌<◌, ◌≤◌, ◌+◌, [], ◌∷◌, ◌++◌, ◌∙◌, ◌||◌, ℕ, Bool, true, false, List, append_assoc, append-nil, refl, subst, sym, ap, map, take, drop, get_or, length, set, nat_lt}
+use Rattle.std.proofs.Common.{◌≡◌, ◌<◌, ◌+◌, [], ◌∷◌, ◌++◌, ◌∙◌, ◌||◌, ℕ, Bool, true, List, refl, subst, sym, ap, map, take, drop, get_or, length, set}
 use Rattle.std.specs.List.{list_any}
-use Rattle.std.proofs.lemmas.List.{at_drop_all, at_drop_more, get_or_default, drop-set, map-append, map_more, take-append-drop, take-set, take_all}
+use Rattle.std.proofs.lemmas.List.{at_drop_more, get_or_default, drop-set, map-append, take-append-drop, take-set}
 use Rattle.dex_types.specs.declared.account_bytes.MarketAccounts.{MarketAccounts}
 use Rattle.dex_types.specs.declared.account_bytes.OrdersAccount.{OrdersAccount}
 use Rattle.dex_types.specs.declared.addresses.Address.{Address}
 use Rattle.dex_types.specs.Accounts.{PlainAccount, PlainMarketAccounts, market_accounts_of, orders_account_of}
 use Rattle.dex_types.specs.Addresses.{is_same}
-use Rattle.dex_dump.specs.Reading.{has_room, with_orders}
+use Rattle.dex_dump.specs.Reading.{with_orders}
 
 -- a test of each element that is made of another
 pub list_any_map : {X Y : Type 0} (p : Y → Bool) (f : X → Y) (xs : List X) → list_any p (map f xs) ≡ list_any (λ x. p (f x)) xs
 list_any_map p f [] = refl
 list_any_map p f (x ∷ xs) = ap (λ (b : Bool). p (f x) || b) (list_any_map p f xs)
-
--- ---- the room of the first market of an address, with the markets from a place on
-
-abbrev room_from : ℕ → Address → List MarketAccounts → Bool
-room_from most address markets = has_room most address (map market_accounts_of markets)
-
-pub room-other : (most : ℕ) (address : Address) (markets : List MarketAccounts) (place : ℕ) (market : MarketAccounts) → place < length markets
-    → market ≡ get_or markets place market → is_same address market.address ≡ false
-    → has_room most address (map market_accounts_of (drop place markets)) ≡ has_room most address (map market_accounts_of markets)
-    → has_room most address (map market_accounts_of (drop (place + 1) markets)) ≡ has_room most address (map market_accounts_of markets)
-room-other most address markets place market within here other rest =
-    let step = at_drop_more (room_from most address) markets place market within in
-    let stood = rw (← here, other) at step in
-    sym stood ∙ rest
-
-pub room-here : (most : ℕ) (address : Address) (markets : List MarketAccounts) (place : ℕ) (market : MarketAccounts) → place < length markets
-    → market ≡ get_or markets place market → is_same address market.address ≡ true
-    → has_room most address (map market_accounts_of (drop place markets)) ≡ has_room most address (map market_accounts_of markets)
-    → nat_lt (length (market_accounts_of market).orders) most ≡ has_room most address (map market_accounts_of markets)
-room-here most address markets place market within here found rest =
-    let step = at_drop_more (room_from most address) markets place market within in
-    let stood = rw (← here, found) at step in
-    sym stood ∙ rest
-
-pub room-none : (most : ℕ) (address : Address) (markets : List MarketAccounts) (place : ℕ) → length markets ≤ place
-    → has_room most address (map market_accounts_of (drop place markets)) ≡ has_room most address (map market_accounts_of markets)
-    → false ≡ has_room most address (map market_accounts_of markets)
-room-none most address markets place over rest = sym (at_drop_all (room_from most address) markets place over) ∙ rest
 
 -- ---- one more account of the first market of an address
 
@@ -52,13 +24,6 @@ NoneBefore address account markets place =
 
 abbrev added_from : Address → PlainAccount → List MarketAccounts → List PlainMarketAccounts
 added_from address account markets = with_orders address account (map market_accounts_of markets)
-
-pub none-other : (address : Address) (account : PlainAccount) (markets : List MarketAccounts) (place : ℕ) (market : MarketAccounts)
-    → place < length markets → market ≡ get_or markets place market → is_same address market.address ≡ false
-    → NoneBefore address account markets place → NoneBefore address account markets (place + 1)
-none-other address account markets place market within here other rest =
-    let step = rw (← here, other) at (at_drop_more (added_from address account) markets place market within) in
-    rw (map_more market_accounts_of markets place market within, ← here, append_assoc) (rest ∙ ap (λ (ms : List PlainMarketAccounts). map market_accounts_of (take place markets) ++ ms) step)
 
 pub none-here : (address : Address) (account : PlainAccount) (markets : List MarketAccounts) (place : ℕ) (market changed : MarketAccounts)
     → place < length markets → market ≡ get_or markets place market → is_same address market.address ≡ true
@@ -92,10 +57,3 @@ added address account markets first place d e changed same within found only gro
     none-here address (orders_account_of account) markets place market changed within one (rw other at found) plain
     (subst (λ (ms : List MarketAccounts). NoneBefore address (orders_account_of account) ms place) (sym same) rest)
     ∙ ap (λ (ms : List MarketAccounts). with_orders address (orders_account_of account) (map market_accounts_of ms)) same
-
-pub none-left : (address : Address) (account : PlainAccount) (markets : List MarketAccounts) (place : ℕ) → length markets ≤ place
-    → NoneBefore address account markets place → map market_accounts_of markets ≡ with_orders address account (map market_accounts_of markets)
-none-left address account markets place over rest =
-    let left = at_drop_all (added_from address account) markets place over in
-    sym (rest ∙ ap (λ (ms : List PlainMarketAccounts). map market_accounts_of (take place markets) ++ ms) left ∙ append-nil _
-    ∙ ap (map market_accounts_of) (take_all place markets over))

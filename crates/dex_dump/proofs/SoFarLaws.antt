@@ -1,6 +1,5 @@
 -- The accounts read so far are accepted: each row that is added keeps that, so what a dump is read as is accepted.
 use Rattle.std.proofs.Common.{◌≡◌, ◌<◌, ◌≤◌, ◌+◌, ◌∷◌, ◌++◌, ◌∙◌, [], ℕ, zero, suc, get_or, List, All, IfOk, IfSome, true, false, not, Option, Some, None, Result, Ok, Err, arith, refl, sym, ap, subst, inl, inr, length, nat_lt}
-use Rattle.std.specs.List.{list_any}
 use Rattle.std.proofs.lemmas.Bool.{and_parts, cases_Bool, false≢true, ltb-true, not-true}
 use Rattle.std.proofs.lemmas.List.{length-append}
 use Rattle.std.proofs.lemmas.List.Folds.{list_any-append}
@@ -54,10 +53,18 @@ mint-stays : (accounts : PlainAccounts) (mint : PlainAccount) (address : Address
     → IsMintOf (record accounts { mints = accounts.mints ++ mint ∷ [] }) address
 mint-stays accounts mint address h = rw (list_any-append (λ (other : PlainAccount). is_same address other.address) accounts.mints (mint ∷ []), h) refl
 
-name-stays : (accounts : PlainAccounts) (mint : PlainAccount) (name : Option Address) → IfSome name (IsMintOf accounts)
-    → IfSome name (IsMintOf (record accounts { mints = accounts.mints ++ mint ∷ [] }))
-name-stays accounts mint None h = h
-name-stays accounts mint (Some address) h = mint-stays accounts mint address h
+name-stays : (old new : PlainAccounts) → ((address : Address) → IsMintOf old address → IsMintOf new address) → (name : Option Address)
+    → IfSome name (IsMintOf old) → IfSome name (IsMintOf new)
+name-stays old new stay None h = h
+name-stays old new stay (Some address) h = stay address h
+
+markets-stay : (old new : PlainAccounts) → ((address : Address) → IsMintOf old address → IsMintOf new address) → (markets : List PlainMarketAccounts)
+    → All (HasMints old) markets → All (HasMints new) markets
+markets-stay old new stay markets h =
+    All-weaker (HasMints old) (HasMints new) (λ market has. record {
+      coin = stay (market_words market.market).terms.coin_mint has.coin;
+      pc = stay (market_words market.market).terms.pc_mint has.pc;
+    }) markets h
 
 -- ---- a list with room has room for one more
 
@@ -67,7 +74,7 @@ room-left xs x limit h = omega (arith, ltb-true (length xs) limit h, length-appe
 -- ---- one more open-orders account
 
 -- what holds of the market with it and of the others holds of all
-orders-each : (P : PlainMarketAccounts → Type 0) (name : Address) (account : PlainAccount)
+pub orders-each : (P : PlainMarketAccounts → Type 0) (name : Address) (account : PlainAccount)
     → ((market : PlainMarketAccounts) → is_same name market.address ≡ true → P market → P (record market { orders = market.orders ++ account ∷ [] }))
     → (markets : List PlainMarketAccounts) → All P markets → All P (with_orders name account markets)
 orders-each P name account grown [] h = h
@@ -80,7 +87,7 @@ orders-each P name account grown (market ∷ markets) h = elim (cases_Bool (is_s
       (All-cons P market (with_orders name account markets) (All-head P market markets h) (orders-each P name account grown markets (All-tail P market markets h)))
 ]
 
-orders-length : (name : Address) (account : PlainAccount) (markets : List PlainMarketAccounts)
+pub orders-length : (name : Address) (account : PlainAccount) (markets : List PlainMarketAccounts)
     → length (with_orders name account markets) ≡ length markets
 orders-length name account [] = refl
 orders-length name account (market ∷ markets) = elim (cases_Bool (is_same name market.address)) [
@@ -220,16 +227,6 @@ line-taken limits reading line so read allowed hold =
           omega (arith, same address);
     }
 
--- the mints of markets are declared still, where the mints are the same
-same-mints : (old new : PlainAccounts) → new.mints ≡ old.mints → (markets : List PlainMarketAccounts) → All (HasMints old) markets → All (HasMints new) markets
-same-mints old new same markets h =
-    let stays = λ (address : Address) (is : IsMintOf old address).
-    subst (λ (mints : List PlainAccount). list_any (λ (mint : PlainAccount). is_same address mint.address) mints ≡ true) (sym same) is in
-    All-weaker (HasMints old) (HasMints new) (λ market has. record {
-      coin = stays (market_words market.market).terms.coin_mint has.coin;
-      pc = stays (market_words market.market).terms.pc_mint has.pc;
-    }) markets h
-
 -- a mint may be named
 named-mint : (accounts : PlainAccounts) (mint : Address) (named other : Option Address) → is_name accounts mint named other ≡ true
     → IsMintOf accounts mint × NamesApart (Some mint) other
@@ -242,128 +239,154 @@ names-swapped : (mint : Address) (other : Option Address) → NamesApart (Some m
 names-swapped mint None h = tt
 names-swapped mint (Some other) h = is_same-sym other mint ∙ h
 
--- the names of mints alone are others
-names-accepted : (limits : Limits) (accounts : PlainAccounts) (srm msrm : Option Address) → AreAccepted limits accounts → ((address : Address) → times address (addresses_of accounts) ≤ 1)
-    → IfSome srm (IsMintOf accounts) → IfSome msrm (IsMintOf accounts) → NamesApart srm msrm → AreAccepted limits (record accounts { srm = srm; msrm = msrm })
-names-accepted limits accounts srm msrm old once is_srm is_msrm apart = record {
-  mints = old.mints;
-  wallets = old.wallets;
-  markets = old.markets;
-  wallet_mints = old.wallet_mints;
-  market_mints = same-mints accounts (record accounts { srm = srm; msrm = msrm }) refl accounts.markets old.market_mints;
-  once = once;
-  srm = is_srm;
-  msrm = is_msrm;
-  apart = apart;
-  within = old.within;
-  few_mints = old.few_mints;
-  few_wallets = old.few_wallets;
-  few_markets = old.few_markets;
-  few_orders = old.few_orders;
-}
+-- ---- accounts that are accepted, with one thing more
+
+-- no address is that of two accounts
+abbrev IsOnce : PlainAccounts → Type 0
+IsOnce accounts = (address : Address) → times address (addresses_of accounts) ≤ 1
+
+module _ (limits : Limits) (accounts : PlainAccounts) (old : AreAccepted limits accounts) where
+  -- other mints, among which those of before are declared
+  pub with-mints : (mints : List PlainAccount) → All (λ (mint : PlainAccount). IsMint mint.bytes) mints
+      → ((address : Address) → IsMintOf accounts address → IsMintOf (record accounts { mints = mints }) address)
+      → IsOnce (record accounts { mints = mints }) → length mints ≤ limits.mints → AreAccepted limits (record accounts { mints = mints })
+  with-mints mints are stay once few =
+      let next = record accounts { mints = mints } in
+      let Old : PlainAccount → Type 0 = λ wallet. IsMintOf accounts (wallet_words wallet.bytes).mint in
+      let New : PlainAccount → Type 0 = λ wallet. IsMintOf next (wallet_words wallet.bytes).mint in
+      record {
+        mints = are;
+        wallets = old.wallets;
+        markets = old.markets;
+        wallet_mints = All-weaker Old New (λ wallet h. stay (wallet_words wallet.bytes).mint h) accounts.wallets old.wallet_mints;
+        market_mints = markets-stay accounts next stay accounts.markets old.market_mints;
+        once = once;
+        srm = name-stays accounts next stay accounts.srm old.srm;
+        msrm = name-stays accounts next stay accounts.msrm old.msrm;
+        apart = old.apart;
+        within = old.within;
+        few_mints = few;
+        few_wallets = old.few_wallets;
+        few_markets = old.few_markets;
+        few_orders = old.few_orders;
+      }
+
+  -- other names of mints
+  pub with-names : (srm msrm : Option Address) → IfSome srm (IsMintOf accounts) → IfSome msrm (IsMintOf accounts) → NamesApart srm msrm
+      → AreAccepted limits (record accounts { srm = srm; msrm = msrm })
+  with-names srm msrm is_srm is_msrm apart = record {
+    mints = old.mints;
+    wallets = old.wallets;
+    markets = old.markets;
+    wallet_mints = old.wallet_mints;
+    market_mints = markets-stay accounts (record accounts { srm = srm; msrm = msrm }) (λ address is. is) accounts.markets old.market_mints;
+    once = old.once;
+    srm = is_srm;
+    msrm = is_msrm;
+    apart = apart;
+    within = old.within;
+    few_mints = old.few_mints;
+    few_wallets = old.few_wallets;
+    few_markets = old.few_markets;
+    few_orders = old.few_orders;
+  }
+
+  pub with-wallet : (wallet : PlainAccount) → IsWallet wallet.bytes → IsMintOf accounts (wallet_words wallet.bytes).mint
+      → IsOnce (with_line accounts (Wallet wallet)) → length (accounts.wallets ++ wallet ∷ []) ≤ limits.wallets
+      → AreAccepted limits (with_line accounts (Wallet wallet))
+  with-wallet wallet is of_mint once few = record {
+    mints = old.mints;
+    wallets = All-push (λ (other : PlainAccount). IsWallet other.bytes) accounts.wallets wallet old.wallets is;
+    markets = old.markets;
+    wallet_mints = All-push (λ (other : PlainAccount). IsMintOf accounts (wallet_words other.bytes).mint) accounts.wallets wallet old.wallet_mints of_mint;
+    market_mints = markets-stay accounts (with_line accounts (Wallet wallet)) (λ address is. is) accounts.markets old.market_mints;
+    once = once;
+    srm = old.srm;
+    msrm = old.msrm;
+    apart = old.apart;
+    within = old.within;
+    few_mints = old.few_mints;
+    few_wallets = few;
+    few_markets = old.few_markets;
+    few_orders = old.few_orders;
+  }
+
+  pub with-market : (market : PlainMarketAccounts) → IsAccepted market → HasMints accounts market → HasFew limits market
+      → IsOnce (with_line accounts (Market market)) → length (accounts.markets ++ market ∷ []) ≤ limits.markets
+      → AreAccepted limits (with_line accounts (Market market))
+  with-market market is has few once few_markets =
+      let next = with_line accounts (Market market) in
+      record {
+        mints = old.mints;
+        wallets = old.wallets;
+        markets = All-push IsAccepted accounts.markets market old.markets is;
+        wallet_mints = old.wallet_mints;
+        market_mints = All-push (HasMints next) accounts.markets market
+            (markets-stay accounts next (λ address is. is) accounts.markets old.market_mints) (record { coin = has.coin; pc = has.pc });
+        once = once;
+        srm = old.srm;
+        msrm = old.msrm;
+        apart = old.apart;
+        within = old.within;
+        few_mints = old.few_mints;
+        few_wallets = old.few_wallets;
+        few_markets = few_markets;
+        few_orders = All-push (HasFew limits) accounts.markets market old.few_orders few;
+      }
+
+  pub with-account : (name : Address) (account : PlainAccount) → IsOrders account.bytes → NamesMarket name account
+      → has_room limits.orders name accounts.markets ≡ true → IsOnce (with_line accounts (Orders name account))
+      → AreAccepted limits (with_line accounts (Orders name account))
+  with-account name account is names room once =
+      let next = with_line accounts (Orders name account) in
+      record {
+        mints = old.mints;
+        wallets = old.wallets;
+        markets = orders-each IsAccepted name account (orders-accepted name account is names) accounts.markets old.markets;
+        wallet_mints = old.wallet_mints;
+        market_mints = orders-each (HasMints next) name account (λ market here has. record { coin = has.coin; pc = has.pc }) accounts.markets
+            (markets-stay accounts next (λ address is. is) accounts.markets old.market_mints);
+        once = once;
+        srm = old.srm;
+        msrm = old.msrm;
+        apart = old.apart;
+        within = old.within;
+        few_mints = old.few_mints;
+        few_wallets = old.few_wallets;
+        few_markets = omega (arith, orders-length name account accounts.markets, old.few_markets);
+        few_orders = orders-few limits name account accounts.markets room old.few_orders;
+      }
 
 line-accepted : (limits : Limits) (reading : PlainReading) (line : PlainLine) → IsSoFar limits reading → IsRead line → is_allowed reading line ≡ true
     → AllHold (checks reading line) → ((address : Address) → times address (addresses_of (with_line reading.accounts line)) ≤ 1)
     → AreAccepted reading.limits (with_line reading.accounts line)
 unfolding checks
 line-accepted limits reading (Mint mint) so read allowed hold once =
-    let accounts = reading.accounts in
-    let old = so.accepted in
-    let P : PlainAccount → Type 0 = λ other. IsMintOf accounts (wallet_words other.bytes).mint in
-    record {
-      mints = All-push (λ (other : PlainAccount). IsMint other.bytes) accounts.mints mint old.mints (mint_from_none mint.bytes hold.0);
-      wallets = old.wallets;
-      markets = old.markets;
-      wallet_mints = All-weaker P (λ (other : PlainAccount). IsMintOf (with_line accounts (Mint mint)) (wallet_words other.bytes).mint)
-          (λ other h. mint-stays accounts mint (wallet_words other.bytes).mint h) accounts.wallets old.wallet_mints;
-      market_mints = All-weaker (HasMints accounts) (HasMints (with_line accounts (Mint mint))) (λ market h. record {
-        coin = mint-stays accounts mint (market_words market.market).terms.coin_mint h.coin;
-        pc = mint-stays accounts mint (market_words market.market).terms.pc_mint h.pc;
-      }) accounts.markets old.market_mints;
-      once = once;
-      srm = name-stays accounts mint accounts.srm old.srm;
-      msrm = name-stays accounts mint accounts.msrm old.msrm;
-      apart = old.apart;
-      within = old.within;
-      few_mints = room-left accounts.mints mint reading.limits.mints (and_parts _ _ allowed).1;
-      few_wallets = old.few_wallets;
-      few_markets = old.few_markets;
-      few_orders = old.few_orders;
-    }
+    let mints = reading.accounts.mints in
+    with-mints reading.limits reading.accounts so.accepted (mints ++ mint ∷ [])
+    (All-push (λ (other : PlainAccount). IsMint other.bytes) mints mint so.accepted.mints (mint_from_none mint.bytes hold.0))
+    (mint-stays reading.accounts mint) once (room-left mints mint reading.limits.mints (and_parts _ _ allowed).1)
 line-accepted limits reading (Srm mint) so read allowed hold once =
     let accounts = reading.accounts in
     let named = named-mint accounts mint accounts.srm accounts.msrm allowed in
-    names-accepted reading.limits accounts (Some mint) accounts.msrm so.accepted once named.0 so.accepted.msrm named.1
+    with-names reading.limits accounts so.accepted (Some mint) accounts.msrm named.0 so.accepted.msrm named.1
 line-accepted limits reading (Msrm mint) so read allowed hold once =
     let accounts = reading.accounts in
     let named = named-mint accounts mint accounts.msrm accounts.srm allowed in
-    names-accepted reading.limits accounts accounts.srm (Some mint) so.accepted once so.accepted.srm named.0 (names-swapped mint accounts.srm named.1)
+    with-names reading.limits accounts so.accepted accounts.srm (Some mint) so.accepted.srm named.0 (names-swapped mint accounts.srm named.1)
 line-accepted limits reading (Wallet wallet) so read allowed hold once =
-    let accounts = reading.accounts in
-    let old = so.accepted in
-    let held = wallet_held accounts wallet.bytes hold.0 in
-    record {
-      mints = old.mints;
-      wallets = All-push (λ (other : PlainAccount). IsWallet other.bytes) accounts.wallets wallet old.wallets held.0;
-      markets = old.markets;
-      wallet_mints = All-push (λ (other : PlainAccount). IsMintOf accounts (wallet_words other.bytes).mint) accounts.wallets wallet old.wallet_mints held.1;
-      market_mints = same-mints accounts (with_line accounts (Wallet wallet)) refl accounts.markets old.market_mints;
-      once = once;
-      srm = old.srm;
-      msrm = old.msrm;
-      apart = old.apart;
-      within = old.within;
-      few_mints = old.few_mints;
-      few_wallets = room-left accounts.wallets wallet reading.limits.wallets (and_parts _ _ allowed).1;
-      few_markets = old.few_markets;
-      few_orders = old.few_orders;
-    }
+    let held = wallet_held reading.accounts wallet.bytes hold.0 in
+    with-wallet reading.limits reading.accounts so.accepted wallet held.0 held.1 once
+    (room-left reading.accounts.wallets wallet reading.limits.wallets (and_parts _ _ allowed).1)
 line-accepted limits reading (Market market) so read allowed hold once =
-    let accounts = reading.accounts in
-    let old = so.accepted in
     let both = market-accepted reading market read hold in
-    let mints : HasMints (with_line accounts (Market market)) market = record { coin = both.0.coin_mint; pc = both.0.pc_mint } in
     let none : HasFew reading.limits market = subst (λ (orders : List PlainAccount). length orders ≤ reading.limits.orders) (sym read.1) (omega arith) in
-    record {
-      mints = old.mints;
-      wallets = old.wallets;
-      markets = All-push IsAccepted accounts.markets market old.markets both.1;
-      wallet_mints = old.wallet_mints;
-      market_mints = All-push (HasMints (with_line accounts (Market market))) accounts.markets market
-          (same-mints accounts (with_line accounts (Market market)) refl accounts.markets old.market_mints) mints;
-      once = once;
-      srm = old.srm;
-      msrm = old.msrm;
-      apart = old.apart;
-      within = old.within;
-      few_mints = old.few_mints;
-      few_wallets = old.few_wallets;
-      few_markets = room-left accounts.markets market reading.limits.markets (and_parts _ _ allowed).1;
-      few_orders = All-push (HasFew reading.limits) accounts.markets market old.few_orders none;
-    }
+    with-market reading.limits reading.accounts so.accepted market both.1 (record { coin = both.0.coin_mint; pc = both.0.pc_mint }) none once
+    (room-left reading.accounts.markets market reading.limits.markets (and_parts _ _ allowed).1)
 line-accepted limits reading (Orders name account) so read allowed hold once =
-    let accounts = reading.accounts in
-    let new = with_line accounts (Orders name account) in
-    let old = so.accepted in
     let held = orders_held name account.bytes read.0.size hold.0 in
-    let room = (and_parts (not (is_among account.address reading.taken)) (has_room reading.limits.orders name accounts.markets) allowed).1 in
-    record {
-      mints = old.mints;
-      wallets = old.wallets;
-      markets = orders-each IsAccepted name account (orders-accepted name account held.0 held.1) accounts.markets old.markets;
-      wallet_mints = old.wallet_mints;
-      market_mints = orders-each (HasMints new) name account (λ market here has. record { coin = has.coin; pc = has.pc }) accounts.markets
-          (same-mints accounts new refl accounts.markets old.market_mints);
-      once = once;
-      srm = old.srm;
-      msrm = old.msrm;
-      apart = old.apart;
-      within = old.within;
-      few_mints = old.few_mints;
-      few_wallets = old.few_wallets;
-      few_markets = subst (λ (n : ℕ). n ≤ reading.limits.markets) (sym (orders-length name account accounts.markets)) old.few_markets;
-      few_orders = orders-few reading.limits name account accounts.markets room old.few_orders;
-    }
+    let room = (and_parts (not (is_among account.address reading.taken)) (has_room reading.limits.orders name reading.accounts.markets) allowed).1 in
+    with-account reading.limits reading.accounts so.accepted name account held.0 held.1 room once
 line-accepted limits reading End so read allowed hold once = so.accepted
 
 -- what a line holds is held with the accounts so far
@@ -456,7 +479,7 @@ rows-read limits number reading (row ∷ rows) dump so (inl ends) = ends-read li
 rows-read limits number reading (row ∷ rows) dump so (inr more) =
     rows-read limits (next_number number) more.0 rows dump (row-so-far limits reading more.0 row so more.1) more.2
 
-start-so-far : (limits : Limits) → AreLimits limits → IsSoFar limits (start limits)
+pub start-so-far : (limits : Limits) → AreLimits limits → IsSoFar limits (start limits)
 start-so-far limits are = record {
   same = refl;
   accepted = record {

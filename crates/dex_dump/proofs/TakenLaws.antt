@@ -83,37 +83,36 @@ times-new address taken xs free apart once =
       | inr none ↦ omega (arith, times-append address taken xs)
     ]
 
--- ---- what a line adds
+-- ---- what accounts have more
+
+-- the accounts have these addresses more
+abbrev pub AddsOnly : PlainAccounts → List Address → PlainAccounts → Type 0
+AddsOnly accounts new next = (address : Address) → times address (addresses_of next) ≡ times address (addresses_of accounts) + times address new
 
 abbrev in_markets : Address → List PlainMarketAccounts → ℕ
 in_markets address markets = times address (flat_map all_of_market markets)
 
-market-added : (address : Address) (markets : List PlainMarketAccounts) (market : PlainMarketAccounts) → market.orders ≡ []
-    → in_markets address (markets ++ market ∷ []) ≡ in_markets address markets + times address (market_addresses market)
-market-added address markets market none =
-    let bare : flat_map all_of_market (market ∷ []) ≡ market_addresses market = rw none refl in
-    ap (times address) (flat_map-append all_of_market markets (market ∷ [])) ∙ times-append address (flat_map all_of_market markets) (flat_map all_of_market (market ∷ []))
-    ∙ ap (λ (xs : List Address). in_markets address markets + times address xs) bare
+pub parts : (address : Address) (accounts : PlainAccounts) → times address (addresses_of accounts)
+    ≡ times address (map address_of accounts.mints) + (times address (map address_of accounts.wallets) + in_markets address accounts.markets)
+parts address accounts =
+    times-append address (map address_of accounts.mints) (map address_of accounts.wallets ++ flat_map all_of_market accounts.markets)
+    ∙ ap (λ (n : ℕ). times address (map address_of accounts.mints) + n) (times-append address (map address_of accounts.wallets) (flat_map all_of_market accounts.markets))
 
-with-added : (address : Address) (account : PlainAccount) (market : PlainMarketAccounts)
-    → times address (all_of_market (record market { orders = market.orders ++ account ∷ [] })) ≡ times address (all_of_market market) + one address account.address
-with-added address account market =
-    let all = ap (λ (xs : List Address). times address (market_addresses market ++ xs)) (map-append address_of market.orders (account ∷ [])) in
-    let new = times-append address (market_addresses market) (map address_of market.orders ++ account.address ∷ []) in
-    let both = times-append address (map address_of market.orders) (account.address ∷ []) in
-    let old = times-append address (market_addresses market) (map address_of market.orders) in
-    let last = times-cons address account.address [] in
-    omega arith
+pushed : (address : Address) (xs : List PlainAccount) (x : PlainAccount)
+    → times address (map address_of (xs ++ x ∷ [])) ≡ times address (map address_of xs) + times address (x.address ∷ [])
+pushed address xs x = ap (times address) (map-append address_of xs (x ∷ [])) ∙ times-append address (map address_of xs) (x.address ∷ [])
 
 orders-added : (most : ℕ) (address name : Address) (account : PlainAccount) (markets : List PlainMarketAccounts) → has_room most name markets ≡ true
-    → in_markets address (with_orders name account markets) ≡ in_markets address markets + one address account.address
+    → in_markets address (with_orders name account markets) ≡ in_markets address markets + times address (account.address ∷ [])
 orders-added most address name account [] h = absurd (false≢true h)
 orders-added most address name account (market ∷ markets) h = elim (cases_Bool (is_same name market.address)) [
   | inl here ↦
       let grown : PlainMarketAccounts = record market { orders = market.orders ++ account ∷ [] } in
       let new = times-append address (all_of_market grown) (flat_map all_of_market markets) in
       let old = times-append address (all_of_market market) (flat_map all_of_market markets) in
-      let more = with-added address account market in
+      let mine = times-append address (market_addresses market) (map address_of market.orders) in
+      let more = times-append address (market_addresses market) (map address_of grown.orders) in
+      let last = pushed address market.orders account in
       rw here (omega arith)
   | inr other ↦
       let room : has_room most name markets ≡ true = rw other at h in
@@ -123,34 +122,43 @@ orders-added most address name account (market ∷ markets) h = elim (cases_Bool
       rw other (omega arith)
 ]
 
--- ---- the addresses of all accounts
+module _ (accounts : PlainAccounts) where
+  pub mint-adds : (mint : PlainAccount) → AddsOnly accounts (mint.address ∷ []) (with_line accounts (Mint mint))
+  mint-adds mint address =
+      omega (arith, parts address accounts, parts address (with_line accounts (Mint mint)), pushed address accounts.mints mint)
 
-parts : (address : Address) (accounts : PlainAccounts) → times address (addresses_of accounts)
-    ≡ times address (map address_of accounts.mints) + (times address (map address_of accounts.wallets) + in_markets address accounts.markets)
-parts address accounts =
-    times-append address (map address_of accounts.mints) (map address_of accounts.wallets ++ flat_map all_of_market accounts.markets)
-    ∙ ap (λ (n : ℕ). times address (map address_of accounts.mints) + n) (times-append address (map address_of accounts.wallets) (flat_map all_of_market accounts.markets))
+  -- with other mints of the same addresses
+  pub wallet-adds : (mints : List PlainAccount) (wallet : PlainAccount) → map address_of mints ≡ map address_of accounts.mints
+      → AddsOnly accounts (wallet.address ∷ []) (record accounts { mints = mints; wallets = accounts.wallets ++ wallet ∷ [] })
+  wallet-adds mints wallet same address =
+      let next = record accounts { mints = mints; wallets = accounts.wallets ++ wallet ∷ [] } in
+      omega (arith, parts address accounts, parts address next, pushed address accounts.wallets wallet, ap (times address) same)
 
-pushed : (address : Address) (xs : List PlainAccount) (x : PlainAccount)
-    → times address (map address_of (xs ++ x ∷ [])) ≡ times address (map address_of xs) + one address x.address
-pushed address xs x =
-    let all = ap (times address) (map-append address_of xs (x ∷ [])) in
-    let both = times-append address (map address_of xs) (x.address ∷ []) in
-    let last = times-cons address x.address [] in
-    omega arith
+  -- a market without open-orders accounts
+  pub market-adds : (market : PlainMarketAccounts) → market.orders ≡ [] → AddsOnly accounts (market_addresses market) (with_line accounts (Market market))
+  market-adds market none address =
+      let bare : flat_map all_of_market (market ∷ []) ≡ market_addresses market = rw none refl in
+      let all : in_markets address (accounts.markets ++ market ∷ []) ≡ in_markets address accounts.markets + times address (market_addresses market) =
+      ap (times address) (flat_map-append all_of_market accounts.markets (market ∷ []))
+      ∙ times-append address (flat_map all_of_market accounts.markets) (flat_map all_of_market (market ∷ []))
+      ∙ ap (λ (xs : List Address). in_markets address accounts.markets + times address xs) bare in
+      omega (arith, parts address accounts, parts address (with_line accounts (Market market)), all)
+
+  pub orders-add : (most : ℕ) (name : Address) (account : PlainAccount) → has_room most name accounts.markets ≡ true
+      → AddsOnly accounts (account.address ∷ []) (with_line accounts (Orders name account))
+  orders-add most name account room address =
+      let next = with_line accounts (Orders name account) in
+      omega (arith, parts address accounts, parts address next, orders-added most address name account accounts.markets room)
 
 -- a line adds the addresses that it takes
-pub line-adds : (reading : PlainReading) (line : PlainLine) → IsRead line → is_allowed reading line ≡ true → (address : Address)
-    → times address (addresses_of (with_line reading.accounts line)) ≡ times address (addresses_of reading.accounts) + times address (taken_by line)
-line-adds reading (Mint mint) read allowed address =
-    omega (arith, parts address reading.accounts, parts address (with_line reading.accounts (Mint mint)), pushed address reading.accounts.mints mint, times-cons address mint.address [])
-line-adds reading (Srm mint) read allowed address = omega (arith, parts address reading.accounts, parts address (with_line reading.accounts (Srm mint)))
-line-adds reading (Msrm mint) read allowed address = omega (arith, parts address reading.accounts, parts address (with_line reading.accounts (Msrm mint)))
-line-adds reading (Wallet wallet) read allowed address =
-    omega (arith, parts address reading.accounts, parts address (with_line reading.accounts (Wallet wallet)), pushed address reading.accounts.wallets wallet, times-cons address wallet.address [])
-line-adds reading (Market market) read allowed address =
-    omega (arith, parts address reading.accounts, parts address (with_line reading.accounts (Market market)), market-added address reading.accounts.markets market read.1)
-line-adds reading (Orders market account) read allowed address =
-    let room = (and_parts (not (is_among account.address reading.taken)) (has_room reading.limits.orders market reading.accounts.markets) allowed).1 in
-    omega (arith, parts address reading.accounts, parts address (with_line reading.accounts (Orders market account)), orders-added reading.limits.orders address market account reading.accounts.markets room, times-cons address account.address [])
-line-adds reading End read allowed address = omega arith
+pub line-adds : (reading : PlainReading) (line : PlainLine) → IsRead line → is_allowed reading line ≡ true
+    → AddsOnly reading.accounts (taken_by line) (with_line reading.accounts line)
+line-adds reading (Mint mint) read allowed = mint-adds reading.accounts mint
+line-adds reading (Srm mint) read allowed = λ address. omega arith
+line-adds reading (Msrm mint) read allowed = λ address. omega arith
+line-adds reading (Wallet wallet) read allowed = wallet-adds reading.accounts reading.accounts.mints wallet refl
+line-adds reading (Market market) read allowed = market-adds reading.accounts market read.1
+line-adds reading (Orders market account) read allowed =
+    orders-add reading.accounts reading.limits.orders market account
+    (and_parts (not (is_among account.address reading.taken)) (has_room reading.limits.orders market reading.accounts.markets) allowed).1
+line-adds reading End read allowed = λ address. omega arith

@@ -61,13 +61,6 @@ changed-none {X} {Y} test change f (x ∷ xs) none =
 
 -- ---- a change in a list of the same length
 
-pub length-with_first : {X : Type 0} (test : X → Bool) (change : X → X) (xs : List X) → length (with_first test change xs) ≡ length xs
-length-with_first test change [] = refl
-length-with_first test change (x ∷ xs) = elim (cases_Bool (test x)) [
-  | inl here ↦ rw here refl
-  | inr other ↦ rw other (ap suc (length-with_first test change xs))
-]
-
 -- a change that leaves what is told of each leaves what is told of all, and of the first that passes a test
 pub map-changed : {X Y : Type 0} (told : X → Y) (test : X → Bool) (change : X → X) → ((x : X) → told (change x) ≡ told x) → (xs : List X)
     → map told (with_first test change xs) ≡ map told xs

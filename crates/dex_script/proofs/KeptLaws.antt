@@ -8,6 +8,7 @@ use Rattle.dex_types.specs.Rows.{PlainRow}
 use Rattle.dex_make.specs.Blanks.{blank_account}
 use Rattle.dex_make.specs.MarketBytes.{made_accounts}
 use Rattle.dex_make.specs.TokenBytes.{wallet_bytes}
+use Rattle.dex_dump.proofs.SoFarLaws.{orders-length}
 use Rattle.dex_statement.specs.declared.faults.FaultKind.{FaultKind}
 use Rattle.dex_statement.specs.declared.faults.FaultKind.TheVariants.{SetupRefused}
 use Rattle.dex_statement.specs.declared.faults.SetupCode.TheVariants as code
@@ -19,7 +20,6 @@ use Rattle.dex_script.specs.Names.{AreFew, IsReading}
 use Rattle.dex_script.specs.Pieces.{IsUnderway}
 use Rattle.dex_script.specs.Rows.{IsSetup, with_clock, with_program, with_statement}
 use Rattle.dex_script.proofs.FaultLaws.{differ, ok-same, unless-ok}
-use Rattle.dex_script.proofs.StartOrders.{length-grown}
 use Rattle.dex_script.proofs.RowParts.{Declares, market-row, mint-row, msrm-row, orders-row, srm-row, wallet-row}
 
 -- the instruction rows stay, and so do the accounts where setup rows come too late
@@ -88,7 +88,7 @@ kept-setup number before after (row.Orders market address) setup is =
     declared before _ _ after (orders-row before after market address is).declares
     (λ few. record {
       within = few.within;
-      markets = omega (arith, few.markets, length-grown market (blank_account address) before.script.start.markets);
+      markets = omega (arith, few.markets, orders-length market (blank_account address) before.script.start.markets);
       wallets = few.wallets;
     })
 kept-setup number before after other setup is = absurd setup

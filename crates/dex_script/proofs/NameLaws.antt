@@ -16,7 +16,7 @@ use Rattle.dex_script_types.specs.Known.{is_known_role}
 use Rattle.dex_script_types.proofs.FoundLaws.{all-found, is_found-same, position-any, wallets-same}
 use Rattle.dex_script.specs.declared.names.Names.{Names}
 use Rattle.dex_script.specs.declared.names.Stand.{Stand}
-use Rattle.dex_script.specs.Names.{AreAt, AreNames, FindsAmong, FindsBy, FindsIn, StandAt, are_here, market_address, market_among, wallet_among}
+use Rattle.dex_script.specs.Names.{AreAt, AreNames, FindsAmong, FindsIn, StandAt, are_here, market_address, market_among, wallet_among}
 use Rattle.dex_script.specs.Rows.{is_unknown}
 
 -- ---- the first place, from the last item to the first
@@ -50,7 +50,7 @@ from-first test f xs place none =
 -- ---- names of accounts
 
 -- where the first of an address stands is told by the addresses
-pub by-address : {X : Type 0} (of : X → Address) (test : Address → Bool) (xs : List X) → position test (map of xs) ≡ position (λ x. test (of x)) xs
+pub by-address : {X Y : Type 0} (of : X → Y) (test : Y → Bool) (xs : List X) → position test (map of xs) ≡ position (λ x. test (of x)) xs
 by-address of test xs = position_from-zero test (map of xs) ∙ position-map test of 0 xs ∙ sym (position_from-zero (λ x. test (of x)) xs)
 
 -- names of these addresses are those of all accounts that have them
@@ -74,24 +74,18 @@ here-same market market' wallet wallet' parties markets wallets =
       is_found-same wallet wallet' wallets parties.referrer,
     ) refl
 
-finds-same : (market market' wallet wallet' : Address → Option ℕ) (parties : PlainParties) (found : Option Stand)
-    → ((address : Address) → market address ≡ market' address) → ((address : Address) → wallet address ≡ wallet' address)
-    → FindsBy market wallet parties found → FindsBy market' wallet' parties found
-finds-same market market' wallet wallet' parties None markets wallets none =
-    sym (here-same market market' wallet wallet' parties markets wallets) ∙ none
-finds-same market market' wallet wallet' parties (Some at) markets wallets is = record {
-  market = sym (markets parties.market) ∙ is.market;
-  wallets =
-      wallets-same wallet wallet' wallets parties.coin parties.pc parties.discount parties.referrer at.wallets
-      is.wallets;
-}
-
 -- so names tell what the accounts tell
 pub by-names : (names : Names) (start : PlainAccounts) (parties : PlainParties) (found : Option Stand)
     → AreNames names start → FindsIn names parties found → FindsAmong start parties found
-by-names names start parties found are is =
-    finds-same (hash.get is_same names.markets) (market_among start) (hash.get is_same names.wallets)
-    (wallet_among start) parties found are.markets are.wallets is
+by-names names start parties None are none =
+    sym (here-same (hash.get is_same names.markets) (market_among start) (hash.get is_same names.wallets) (wallet_among start) parties are.markets are.wallets)
+    ∙ none
+by-names names start parties (Some at) are is = record {
+  market = sym (are.markets parties.market) ∙ is.market;
+  wallets =
+      wallets-same (hash.get is_same names.wallets) (wallet_among start) are.wallets parties.coin parties.pc parties.discount parties.referrer
+      at.wallets is.wallets;
+}
 
 -- ---- what is not found is unknown
 

@@ -1,8 +1,7 @@
 -- Rows that are read after the bare markets and wallets of a script, and added to it, are read after the script.
-use Rattle.std.proofs.Common.{◌≡◌, ◌∙◌, ◌+◌, ◌-◌, ◌^◌, ◌≤◌, ◌==◌, ℕ, ℤ, Bool, true, false, not, nat_le, List, [], ◌∷◌, ◌++◌, Result, Ok, Err, ap, append_assoc, append-nil, arith, map, max, refl, subst, sym}
+use Rattle.std.proofs.Common.{◌≡◌, ◌∙◌, ◌+◌, ◌-◌, ◌^◌, ◌≤◌, ◌==◌, ℕ, ℤ, false, not, nat_le, List, [], ◌∷◌, ◌++◌, Result, Ok, Err, ap, append_assoc, append-nil, arith, max, refl, subst, sym}
 use Rattle.std.specs.List.{AllZip}
 use Rattle.std.proofs.lemmas.Bool.{lt-leb}
-use Rattle.std.proofs.lemmas.Iterator.Adapters.{position_from-zero}
 use Rattle.dex_world.specs.declared.places.RowPlaces.{RowPlaces}
 use Rattle.dex_types.specs.Accounts.{PlainAccount, PlainAccounts, PlainMarketAccounts}
 use Rattle.dex_types.specs.Addresses.{is_same}
@@ -25,7 +24,7 @@ use Rattle.dex_script.specs.Scripts.{Refusal, draft_after, fault_in}
 use Rattle.dex_script.proofs.FaultLaws.{bind-ok, differ, ok-same, or-none}
 use Rattle.dex_script.proofs.ItemRows.{first_leg, instruction-row, second_leg, swap-row}
 use Rattle.dex_script.proofs.KeptLaws.{kept-setup}
-use Rattle.dex_script.proofs.NameLaws.{here-same, position-map, unknown-by}
+use Rattle.dex_script.proofs.NameLaws.{by-address, here-same, unknown-by}
 use Rattle.dex_script.proofs.OrderLaws.{by-row, first-row, through}
 
 -- ---- what is known among the one accounts is known among the others
@@ -54,39 +53,30 @@ swap-ok number draft words a b c d e f g = rw (a, b, c, d, e, f, g) refl
 
 -- a script that is under way, and a piece so far
 module _ (draft : PlainDraft) (under : IsUnderway draft) where
-  -- the script with this many rows, lanes and items
-  abbrev built : ℤ → List PlainRow → ℕ → ℕ → Bool → Bool → PlainDraft
-  built clock rows lanes items first late = record draft {
-    script = record draft.script { rows = rows; lanes = lanes };
-    clock = clock;
-    items = items;
-    is_first = first;
-    is_late = late;
-  }
-
-  same-built : (clock : ℤ) (rows all : List PlainRow) (lanes most items sum : ℕ) (first late : Bool) → rows ≡ all → lanes ≡ most → items ≡ sum
-      → first ≡ draft.is_first → late ≡ draft.is_late → built clock rows lanes items first late ≡ built clock all most sum draft.is_first draft.is_late
-  same-built clock rows all lanes most items sum first late a b c d e = rw (a, b, c, d, e) refl
-
   joined-item : (piece : PlainDraft) (rows : List PlainRow) (lane : ℕ)
       → with_item (joined draft piece) rows lane ≡ joined draft (with_item piece rows lane)
   joined-item piece rows lane =
-      let lanes : max (max draft.script.lanes piece.script.lanes) (lane + 1) ≡ max draft.script.lanes (max piece.script.lanes (lane + 1)) = omega arith in
+      let all = append_assoc draft.script.rows piece.script.rows rows in
+      let most : max (max draft.script.lanes piece.script.lanes) (lane + 1) ≡ max draft.script.lanes (max piece.script.lanes (lane + 1)) = omega arith in
       let sum : draft.items + piece.items + 1 ≡ draft.items + (piece.items + 1) = omega arith in
-      same-built piece.clock _ _ _ _ _ _ false true (append_assoc draft.script.rows piece.script.rows rows) lanes sum (sym under.first) (sym under.late)
+      λ i. record (joined draft piece) {
+        script = record draft.script { rows = all i; lanes = most i };
+        items = sum i;
+        is_first = sym under.first i;
+        is_late = sym under.late i;
+      }
 
   joined-clock : (piece : PlainDraft) (now : ℤ) → with_clock (joined draft piece) now ≡ joined draft (with_clock piece now)
-  joined-clock piece now =
-      ap (λ (b : Bool). built now (draft.script.rows ++ piece.script.rows) (max draft.script.lanes piece.script.lanes) (draft.items + piece.items) b draft.is_late)
-      (sym under.first)
+  joined-clock piece now = λ i. record (joined draft (with_clock piece now)) { is_first = sym under.first i }
 
   -- nothing was read of a piece
   joined-none : (piece : PlainDraft) → piece.script.rows ≡ [] → piece.script.lanes ≡ 0 → piece.items ≡ 0 → piece.clock ≡ draft.clock
       → joined draft piece ≡ draft
   joined-none piece rows lanes items clock =
-      let most : max draft.script.lanes 0 ≡ draft.script.lanes = omega arith in
-      let sum : draft.items + 0 ≡ draft.items = omega arith in
-      rw (rows, lanes, items, clock) (same-built draft.clock _ _ _ _ _ _ draft.is_first draft.is_late (append-nil draft.script.rows) most sum refl refl)
+      let all = ap (λ (more : List PlainRow). draft.script.rows ++ more) rows ∙ append-nil draft.script.rows in
+      let most : max draft.script.lanes piece.script.lanes ≡ draft.script.lanes = omega (arith, lanes) in
+      let sum : draft.items + piece.items ≡ draft.items = omega (arith, items) in
+      λ i. record draft { script = record draft.script { rows = all i; lanes = most i }; clock = clock i; items = sum i }
 
 -- ---- one more row of a piece
 
@@ -176,12 +166,8 @@ rows-joined draft number piece last (fields ∷ rows) alike is room =
 -- markets and wallets stand at the same places without their accounts
 bare-same : (start : PlainAccounts) → HaveSamePlaces (bare start) start
 bare-same start = record {
-  markets = λ address.
-      let test : PlainMarketAccounts → Bool = λ market. is_same address market.address in
-      position_from-zero test (map bare_market start.markets) ∙ position-map test bare_market 0 start.markets ∙ sym (position_from-zero test start.markets);
-  wallets = λ address.
-      let test : PlainAccount → Bool = λ wallet. is_same address wallet.address in
-      position_from-zero test (map bare_wallet start.wallets) ∙ position-map test bare_wallet 0 start.wallets ∙ sym (position_from-zero test start.wallets);
+  markets = λ address. by-address bare_market (λ (market : PlainMarketAccounts). is_same address market.address) start.markets;
+  wallets = λ address. by-address bare_wallet (λ (wallet : PlainAccount). is_same address wallet.address) start.wallets;
 }
 
 -- a reader beside a script is ready for its rows, where their clock is right

@@ -1,11 +1,9 @@
 -- Every address of the accounts so far is taken, and none is taken twice.
-use Rattle.std.proofs.Common.{◌≡◌, ◌∙◌, ◌≤◌, ◌+◌, ◌∷◌, ◌++◌, ◌==◌, [], ℕ, List, Option, true, false, ap, arith, inl, inr, length, map, refl, get_or}
-use Rattle.std.specs.List.{flat_map, list_any}
+use Rattle.std.proofs.Common.{◌≡◌, ◌∙◌, ◌≤◌, ◌+◌, ◌∷◌, ◌++◌, ◌==◌, [], List, true, false, ap, arith, inl, inr, length, map, refl, get_or}
+use Rattle.std.specs.List.{list_any}
 use Rattle.std.proofs.lemmas.Bool.{cases_Bool, eqb-false, false≢true, or_from, or_parts}
-use Rattle.std.proofs.lemmas.List.{map-append}
-use Rattle.std.proofs.lemmas.List.Concat.{flat_map-append}
 use Rattle.dex_types.specs.declared.addresses.Address.{Address}
-use Rattle.dex_types.specs.Accounts.{PlainAccount, PlainAccounts, PlainMarketAccounts}
+use Rattle.dex_types.specs.Accounts.{PlainAccount, PlainAccounts}
 use Rattle.dex_types.specs.Addresses.{is_same}
 use Rattle.dex_laws.proofs.TraderLaws.{is_same-sym}
 use Rattle.dex_market.specs.MarketAccount.{MarketWords}
@@ -18,10 +16,10 @@ use Rattle.dex_make.specs.MarketSet.{listing_of}
 use Rattle.dex_make.proofs.PartLaws.{part_apart, parts_apart}
 use Rattle.dex_sound.specs.Made.{made_market}
 use Rattle.dex_accounts.specs.StandsFor.{StandsFor}
-use Rattle.dex_state.specs.Addresses.{address_of, addresses_of, all_of_market, market_addresses, parts_of, times}
-use Rattle.dex_dump.specs.Reading.{is_among, with_orders}
+use Rattle.dex_state.specs.Addresses.{address_of, addresses_of, market_addresses, parts_of, times}
+use Rattle.dex_dump.specs.Reading.{is_among}
 use Rattle.dex_state.proofs.Times.{one, times-append, times-cons, times-same}
-use Rattle.dex_dump.proofs.TakenLaws.{AreApart, AreFree, times-new, times-none}
+use Rattle.dex_dump.proofs.TakenLaws.{AreApart, AreFree, parts, times-new, times-none}
 use Rattle.dex_script_types.specs.Known.{has_account}
 use Rattle.dex_script.specs.Known.{is_any_among, made_addresses}
 
@@ -29,84 +27,17 @@ pub record AreTaken (start : PlainAccounts) (taken : List Address) : Type 0 wher
   pub all : (address : Address) → times address (addresses_of start) ≤ times address taken
   pub once : (address : Address) → times address taken ≤ 1
 
--- the accounts have no more addresses than these beside those of the accounts before
-abbrev pub AddsOnly : PlainAccounts → List Address → PlainAccounts → Type 0
-AddsOnly start new next = (address : Address) → times address (addresses_of next) ≤ times address (addresses_of start) + times address new
+pub taken-once : (start : PlainAccounts) (taken : List Address) → AreTaken start taken → (address : Address) → times address (addresses_of start) ≤ 1
+taken-once start taken are address = omega (arith, are.all address, are.once address)
 
-pub taken-more : (start next : PlainAccounts) (taken new : List Address) → AreTaken start taken → AddsOnly start new next
+-- the accounts have no more addresses than these beside those of the accounts before
+pub taken-more : (start next : PlainAccounts) (taken new : List Address) → AreTaken start taken
+    → ((address : Address) → times address (addresses_of next) ≤ times address (addresses_of start) + times address new)
     → AreFree taken new → AreApart new → AreTaken next (taken ++ new)
 taken-more start next taken new are adds free apart = record {
   all = λ address. omega (arith, are.all address, adds address, times-append address taken new);
   once = λ address. times-new address taken new free apart (are.once address);
 }
-
--- ---- what each kind of row adds
-
-abbrev in_markets : Address → List PlainMarketAccounts → ℕ
-in_markets address markets = times address (flat_map all_of_market markets)
-
-parts : (address : Address) (accounts : PlainAccounts) → times address (addresses_of accounts)
-    ≡ times address (map address_of accounts.mints) + (times address (map address_of accounts.wallets) + in_markets address accounts.markets)
-parts address accounts =
-    times-append address (map address_of accounts.mints) (map address_of accounts.wallets ++ flat_map all_of_market accounts.markets)
-    ∙ ap (λ (n : ℕ). times address (map address_of accounts.mints) + n) (times-append address (map address_of accounts.wallets) (flat_map all_of_market accounts.markets))
-
-pushed : (address : Address) (xs : List PlainAccount) (x : PlainAccount)
-    → times address (map address_of (xs ++ x ∷ [])) ≡ times address (map address_of xs) + times address (x.address ∷ [])
-pushed address xs x =
-    ap (times address) (map-append address_of xs (x ∷ [])) ∙ times-append address (map address_of xs) (x.address ∷ [])
-
-pub mints-add : (start : PlainAccounts) (mint : PlainAccount) → AddsOnly start (mint.address ∷ []) (record start { mints = start.mints ++ mint ∷ [] })
-mints-add start mint address =
-    let next = record start { mints = start.mints ++ mint ∷ [] } in
-    omega (arith, parts address start, parts address next, pushed address start.mints mint)
-
-pub wallets-add : (start : PlainAccounts) (mints : List PlainAccount) (wallet : PlainAccount) → map address_of mints ≡ map address_of start.mints
-    → AddsOnly start (wallet.address ∷ []) (record start { mints = mints; wallets = start.wallets ++ wallet ∷ [] })
-wallets-add start mints wallet same address =
-    let next = record start { mints = mints; wallets = start.wallets ++ wallet ∷ [] } in
-    omega (arith, parts address start, parts address next, pushed address start.wallets wallet, ap (times address) same)
-
-pub names-add : (start : PlainAccounts) (srm msrm : Option Address) → AddsOnly start [] (record start { srm = srm; msrm = msrm })
-names-add start srm msrm address = omega arith
-
--- a market without open-orders accounts
-pub market-adds : (start : PlainAccounts) (market : PlainMarketAccounts) → market.orders ≡ [] → (new : List Address)
-    → ((address : Address) → times address (market_addresses market) ≤ times address new)
-    → AddsOnly start new (record start { markets = start.markets ++ market ∷ [] })
-market-adds start market none new within address =
-    let next = record start { markets = start.markets ++ market ∷ [] } in
-    let bare : flat_map all_of_market (market ∷ []) ≡ market_addresses market = rw none refl in
-    let all : in_markets address next.markets ≡ in_markets address start.markets + times address (market_addresses market) =
-    ap (times address) (flat_map-append all_of_market start.markets (market ∷ []))
-    ∙ times-append address (flat_map all_of_market start.markets) (flat_map all_of_market (market ∷ []))
-    ∙ ap (λ (xs : List Address). in_markets address start.markets + times address xs) bare in
-    omega (arith, parts address start, parts address next, all, within address)
-
-orders-grow : (address name : Address) (account : PlainAccount) (markets : List PlainMarketAccounts)
-    → in_markets address (with_orders name account markets) ≤ in_markets address markets + times address (account.address ∷ [])
-orders-grow address name account [] = omega arith
-orders-grow address name account (market ∷ markets) = elim (cases_Bool (is_same name market.address)) [
-  | inl here ↦
-      let grown : PlainMarketAccounts = record market { orders = market.orders ++ account ∷ [] } in
-      let new = times-append address (all_of_market grown) (flat_map all_of_market markets) in
-      let old = times-append address (all_of_market market) (flat_map all_of_market markets) in
-      let mine = times-append address (market_addresses market) (map address_of market.orders) in
-      let more = times-append address (market_addresses market) (map address_of grown.orders) in
-      let last = pushed address market.orders account in
-      rw here (omega arith)
-  | inr other ↦
-      let rest = orders-grow address name account markets in
-      let new = times-append address (all_of_market market) (flat_map all_of_market (with_orders name account markets)) in
-      let old = times-append address (all_of_market market) (flat_map all_of_market markets) in
-      rw other (omega arith)
-]
-
-pub orders-add : (start : PlainAccounts) (name : Address) (account : PlainAccount)
-    → AddsOnly start (account.address ∷ []) (record start { markets = with_orders name account start.markets })
-orders-add start name account address =
-    let next = record start { markets = with_orders name account start.markets } in
-    omega (arith, parts address start, parts address next, orders-grow address name account start.markets)
 
 -- ---- an address that is not taken is none of a mint
 
@@ -122,10 +53,6 @@ named-there address (account ∷ accounts) h =
           let rest = named-there address accounts (rw other at h) in
           omega arith
     ]
-
--- no mint has an address twice
-pub mint-once : (start : PlainAccounts) (taken : List Address) → AreTaken start taken → (address : Address) → times address (map address_of start.mints) ≤ 1
-mint-once start taken are address = omega (arith, parts address start, are.all address, are.once address)
 
 pub new-is-other : (start : PlainAccounts) (taken : List Address) (new mint : Address) → AreTaken start taken → is_among new taken ≡ false
     → has_account mint start.mints ≡ true → is_same new mint ≡ false

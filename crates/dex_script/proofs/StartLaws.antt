@@ -2,23 +2,22 @@
 use Rattle.std.proofs.Common.{◌≡◌, [], ℕ, List, Bool, true, false, Ok, arith, subst, sym}
 use Rattle.std.specs.List.{All}
 use Rattle.std.proofs.lemmas.List.Elements.{All-nil}
-use Rattle.dex_types.specs.Accounts.{PlainAccount, PlainAccounts}
+use Rattle.dex_types.specs.Accounts.{PlainAccounts}
 use Rattle.dex_rows.specs.Records.{rows_of}
-use Rattle.dex_token.specs.MintAccount.{IsMint}
 use Rattle.dex_accounts.specs.Decoded.{AreSound}
 use Rattle.dex_types.specs.declared.limits.Limits.{Limits}
 use Rattle.dex_types.specs.Limits.{AreLimits}
 use Rattle.dex_state.specs.Conserved.{IsConserved}
 use Rattle.dex_audit.specs.Findings.{findings}
 use Rattle.dex_dump.specs.Answers.{AnswersDump, PlainDump}
-use Rattle.dex_dump.proofs.SoFarLaws.{dump-read}
-use Rattle.dex_state.specs.Accepted.{AreAccepted, HasFew, HasMints}
+use Rattle.dex_dump.proofs.SoFarLaws.{dump-read, start-so-far}
+use Rattle.dex_state.specs.Accepted.{AreAccepted}
 use Rattle.dex_state.specs.Held.{HoldBytes}
 use Rattle.dex_statement.specs.declared.statement.Statement.{Statement}
 use Rattle.dex_statement.specs.declared.statement.Statement.TheVariants as row
 use Rattle.dex_statement.specs.Statements.{statement_of}
 use Rattle.dex_statement.specs.Words.{Fields}
-use Rattle.dex_script_types.specs.PlainScript.{PlainScript, no_accounts}
+use Rattle.dex_script_types.specs.PlainScript.{PlainScript}
 use Rattle.dex_script_types.specs.Facts.{IsStart}
 use Rattle.dex_script.specs.Drafts.{PlainDraft, no_rows}
 use Rattle.dex_script.specs.Rows.{with_row, with_statement}
@@ -30,24 +29,15 @@ use Rattle.dex_script.proofs.OrderLaws.{dump-audited, last_script, through}
 use Rattle.dex_script.proofs.RowParts.{market-row, mint-row, msrm-row, orders-row, srm-row, wallet-row}
 use Rattle.dex_script.proofs.StartRows.{IsDeclared, market-declared, mint-declared, msrm-declared, orders-declared, srm-declared, wallet-declared}
 use Rattle.dex_script.proofs.StartSupplies.{IsBacked, conserved}
-use Rattle.dex_script.proofs.Started.{IsMade, IsWalletOf, declared-start}
+use Rattle.dex_script.proofs.Started.{IsMade, declared-start}
 use Rattle.dex_script.proofs.StatedLaws.{IsStated, row-stated}
 
 nothing-declared : (limits : Limits) → AreLimits limits → (batch : Bool) → IsDeclared (no_rows limits batch)
 nothing-declared limits are batch = record {
-  declared = record {
-    mints = All-nil (λ (mint : PlainAccount). IsMint mint.bytes);
-    wallets = All-nil (IsWalletOf []);
-    markets = All-nil IsMade;
-    market_mints = All-nil (HasMints no_accounts);
-    srm = tt;
-    msrm = tt;
-    within = are;
-    few_mints = omega arith;
-    few_wallets = omega arith;
-    few_markets = omega arith;
-    few_orders = All-nil (HasFew limits);
-  };
+  accepted = (start-so-far limits are).accepted;
+  made = All-nil IsMade;
+  srm = tt;
+  msrm = tt;
   taken = record { all = λ address. omega arith; once = λ address. omega arith };
   backed = All-nil (IsBacked []);
 }
@@ -58,10 +48,8 @@ by-row number before after fields so is =
     let a = bind-ok (statement_of fields) (with_statement before number) after is in by a.0 (row-stated fields a.0 a.1) a.2
   where
     by : (statement : Statement) → IsStated statement → with_statement before number statement ≡ Ok after → IsDeclared after
-    by (row.Program program) stated told =
-        subst IsDeclared (program-row before after program told).1 (record { declared = so.declared; taken = so.taken; backed = so.backed })
-    by (row.Clock now) stated told =
-        subst IsDeclared (clock-row before after now told) (record { declared = so.declared; taken = so.taken; backed = so.backed })
+    by (row.Program program) stated told = subst IsDeclared (program-row before after program told).1 so
+    by (row.Clock now) stated told = subst IsDeclared (clock-row before after now told) so
     by (row.Mint address decimals) stated told = mint-declared before after so address decimals stated (mint-row before after address decimals told)
     by (row.Srm mint) stated told = srm-declared before after so mint (srm-row before after mint told)
     by (row.Msrm mint) stated told = msrm-declared before after so mint (msrm-row before after mint told)
@@ -69,18 +57,15 @@ by-row number before after fields so is =
         wallet-declared before after so address mint owner amount stated (wallet-row before after address mint owner amount told)
     by (row.Market words) stated told = market-declared before after so words stated (market-row before after words told)
     by (row.Orders market address) stated told = orders-declared before after so market address (orders-row before after market address told)
-    by (row.Instruction words) stated told =
-        subst IsDeclared (instruction-row number before after words told).is (record { declared = so.declared; taken = so.taken; backed = so.backed })
-    by (row.Swap words) stated told =
-        subst IsDeclared (swap-row number before after words told).is (record { declared = so.declared; taken = so.taken; backed = so.backed })
+    by (row.Instruction words) stated told = subst IsDeclared (instruction-row number before after words told).is so
+    by (row.Swap words) stated told = subst IsDeclared (swap-row number before after words told).is so
 
 -- what rows without a dump give
 pub plain-start : (limits : Limits) → AreLimits limits → (batch : Bool) (rows : List Fields) (draft : PlainDraft)
     → draft_after (no_rows limits batch) 1 rows ≡ Ok draft → IsStart draft.script.limits draft.script.start
 plain-start limits are batch rows draft is =
     let last = through (λ _. IsDeclared) by-row 1 (no_rows limits batch) draft rows (nothing-declared limits are batch) is in
-    let start = draft.script.start in
-    declared-start draft.script.limits start draft.taken last.declared last.taken (conserved start last.declared.markets last.backed)
+    declared-start draft.script.limits draft.script.start last.accepted last.made (conserved draft.script.start last.made last.backed)
 
 from-rows : (limits : Limits) → AreLimits limits → (batch : Bool) (rows : List Fields) (script : PlainScript)
     → Ok script ≡ script_from (no_rows limits batch) 1 rows → IsStart script.limits script.start

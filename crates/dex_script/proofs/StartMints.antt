@@ -1,5 +1,5 @@
 -- Mints that are declared stay declared, with their decimals, where mints are added or one has more supply.
-use Rattle.std.proofs.Common.{◌≡◌, ◌∙◌, ◌+◌, ◌∷◌, ◌++◌, [], ℕ, List, Bool, true, false, Some, ap, inl, inr, map, refl, sym}
+use Rattle.std.proofs.Common.{◌≡◌, ◌∙◌, ◌+◌, ◌∷◌, ◌++◌, [], ℕ, List, Bool, true, false, Some, ap, inl, inr, refl, sym}
 use Rattle.std.specs.List.{list_any}
 use Rattle.std.proofs.lemmas.Bool.{cases_Bool, or_left}
 use Rattle.std.proofs.lemmas.List.Folds.{list_any-append}
@@ -16,8 +16,9 @@ use Rattle.dex_state.specs.Addresses.{address_of}
 use Rattle.dex_dump.proofs.ReadingLaws.{list_any_map}
 use Rattle.dex_script_types.specs.Firsts.{first_of}
 use Rattle.dex_script_types.specs.Known.{has_account}
-use Rattle.dex_script.specs.Known.{mint_at, raised, with_supply}
-use Rattle.dex_script.proofs.FirstLaws.{first-changed, map-changed}
+use Rattle.dex_script.specs.Known.{mint_at, with_supply}
+use Rattle.dex_script.proofs.FirstLaws.{first-changed}
+use Rattle.dex_script.proofs.MintLaws.{addresses-raised, has, with_more}
 
 -- ---- the first that passes
 
@@ -31,9 +32,6 @@ found-push test told (first ∷ xs) x y h = elim (cases_Bool (test first)) [
 
 -- ---- mints
 
-abbrev here : Address → PlainAccount → Bool
-here address mint = is_same address mint.address
-
 abbrev pub mint_says : PlainAccount → MintWords
 mint_says mint = mint_words mint.bytes
 
@@ -42,7 +40,7 @@ decimals_of mint = (mint_words mint.bytes).decimals
 
 -- the first mint of an address has this many decimals
 abbrev pub HasDecimals : List PlainAccount → ℕ → Address → Type 0
-HasDecimals mints count address = first_of (here address) decimals_of mints ≡ Some count
+HasDecimals mints count address = first_of (has address) decimals_of mints ≡ Some count
 
 -- what is declared stays declared, with its decimals
 pub record Grows (mints later : List PlainAccount) : Type 0 where
@@ -50,7 +48,7 @@ pub record Grows (mints later : List PlainAccount) : Type 0 where
   pub decimals : (count : ℕ) (address : Address) → HasDecimals mints count address → HasDecimals later count address
 
 pub declared-there : {Y : Type 0} (told : PlainAccount → Y) (mints : List PlainAccount) (address : Address) (found : Y)
-    → first_of (here address) told mints ≡ Some found → has_account address mints ≡ true
+    → first_of (has address) told mints ≡ Some found → has_account address mints ≡ true
 declared-there told [] address found is = absurd (none-some found is)
 declared-there told (first ∷ mints) address found is = elim (cases_Bool (is_same address first.address)) [
   | inl mine ↦ rw mine refl
@@ -67,13 +65,10 @@ has-decimals (first ∷ mints) address words count found are = elim (cases_Bool 
   | inr other ↦ rw other (has-decimals mints address words count (rw other at found) are)
 ]
 
-pub grows-same : (mints : List PlainAccount) → Grows mints mints
-grows-same mints = record { has = λ address h. h; decimals = λ count address h. h }
-
 pub grows-push : (mints : List PlainAccount) (mint : PlainAccount) → Grows mints (mints ++ mint ∷ [])
 grows-push mints mint = record {
-  has = λ address h. list_any-append (here address) mints (mint ∷ []) ∙ or_left (has_account address mints) (list_any (here address) (mint ∷ [])) h;
-  decimals = λ count address h. found-push (here address) decimals_of mints mint count h;
+  has = λ address h. list_any-append (has address) mints (mint ∷ []) ∙ or_left (has_account address mints) (list_any (has address) (mint ∷ [])) h;
+  decimals = λ count address h. found-push (has address) decimals_of mints mint count h;
 }
 
 -- two mints with different decimals have two addresses
@@ -82,18 +77,12 @@ pub names-apart : (mints : List PlainAccount) (one other : Address) (count more 
 names-apart mints one other count more first second differ = elim (cases_Bool (is_same one other)) [
   | inl same ↦
       let there : HasDecimals mints more one =
-      ap (λ (a : Address). first_of (here a) decimals_of mints) (is_same-true one other same) ∙ second in
+      ap (λ (a : Address). first_of (has a) decimals_of mints) (is_same-true one other same) ∙ second in
       absurd (differ (same_Some count more (sym first ∙ there)))
   | inr apart ↦ apart
 ]
 
 -- ---- more supply
-
-abbrev with_more : ℕ → PlainAccount → PlainAccount
-with_more more mint = record mint { bytes = raised more mint.bytes }
-
-pub addresses-raised : (mint : Address) (more : ℕ) (mints : List PlainAccount) → map address_of (with_supply mint more mints) ≡ map address_of mints
-addresses-raised mint more mints = map-changed address_of (here mint) (with_more more) (λ _. refl) mints
 
 has-raised : (mint : Address) (more : ℕ) (address : Address) (mints : List PlainAccount)
     → has_account address (with_supply mint more mints) ≡ has_account address mints
@@ -108,5 +97,5 @@ pub grows-raised : (mint : Address) (more : ℕ) (mints : List PlainAccount) →
 grows-raised mint more mints = record {
   has = λ address h. has-raised mint more address mints ∙ h;
   decimals = λ count address h.
-      first-changed (here address) decimals_of (here mint) (with_more more) (λ _. refl) (decimals-raised more) mints ∙ h;
+      first-changed (has address) decimals_of (has mint) (with_more more) (λ _. refl) (decimals-raised more) mints ∙ h;
 }

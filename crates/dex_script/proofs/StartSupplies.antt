@@ -22,7 +22,7 @@ use Rattle.dex_state.specs.Conserved.{IsConserved, amount_of, in_vaults, in_wall
 use Rattle.dex_script_types.specs.Known.{has_account}
 use Rattle.dex_script.specs.Known.{mint_at, raised, with_supply}
 use Rattle.dex_script.specs.Mints.{AreMints}
-use Rattle.dex_script.proofs.Started.{IsMade, IsWalletOf}
+use Rattle.dex_script.proofs.Started.{IsMade}
 
 -- a mint's supply is what these wallets hold of it
 abbrev pub IsBacked : List PlainAccount → PlainAccount → Type 0
@@ -71,11 +71,12 @@ conserved start made backed =
 
 -- no wallet is of a mint that is not declared
 pub none-held : (address : Address) (mints wallets : List PlainAccount) → ((mint : Address) → has_account mint mints ≡ true → is_same address mint ≡ false)
-    → All (IsWalletOf mints) wallets → in_wallets address wallets ≡ 0
+    → All (λ (wallet : PlainAccount). has_account (wallet_words wallet.bytes).mint mints ≡ true) wallets → in_wallets address wallets ≡ 0
 none-held address mints wallets other are =
     total-none (λ (wallet : PlainAccount). amount_of address wallet.bytes) wallets
-    (All-weaker (IsWalletOf mints) (λ (wallet : PlainAccount). amount_of address wallet.bytes ≡ 0)
-    (λ wallet is. rw (other (wallet_words wallet.bytes).mint is.mint) refl) wallets are)
+    (All-weaker (λ (wallet : PlainAccount). has_account (wallet_words wallet.bytes).mint mints ≡ true)
+    (λ (wallet : PlainAccount). amount_of address wallet.bytes ≡ 0)
+    (λ wallet of. rw (other (wallet_words wallet.bytes).mint of) refl) wallets are)
 
 pub mint-backed : (address : Address) (decimals : ℕ) (mints wallets : List PlainAccount) → decimals < 2 ^ 8 → in_wallets address wallets ≡ 0
     → All (IsBacked wallets) mints → All (IsBacked wallets) (mints ++ record { address = address; bytes = mint_bytes 0 decimals } ∷ [])

@@ -1,20 +1,16 @@
 -- What a row states: its addresses are of 32 bytes, its numbers fit, and its data are bytes.
-use Rattle.std.proofs.Common.{◌≡◌, ◌<◌, ◌^◌, ◌∷◌, [], ◌==◌, ◌&&◌, ℕ, zero, suc, true, not, List, Option, Some, None, Ok, arith, refl, subst, length, nat_lt, codes, slice_index}
-use Rattle.std.specs.List.{list_all}
+use Rattle.std.proofs.Common.{◌≡◌, ◌<◌, ◌^◌, ◌==◌, ◌&&◌, ℕ, not, List, Option, Some, None, Ok, refl, subst, length, nat_lt, slice_index}
 use Rattle.std.specs.Str.Parse.{digits_value}
 use Rattle.std.proofs.lemmas.Bool.{and_parts, eqb-true, ltb-true, not-false}
-use Rattle.std.proofs.lemmas.Bool.Decides.{nat_tests}
 use Rattle.std.proofs.lemmas.Option.{cond_some, none-some}
 use Rattle.dex_instruction.specs.Numbers.{AreBytes}
 use Rattle.dex_types.specs.declared.addresses.Address.{Address}
 use Rattle.dex_rows.specs.Addresses.{address_of}
 use Rattle.dex_rows.specs.Base64.{base64_of}
 use Rattle.dex_rows.specs.Numbers.{is_numeral, number_of}
-use Rattle.dex_rows.specs.Printable.{is_printable, is_printable_byte, row_is_printable}
-use Rattle.dex_dump_rows.specs.Lines.{form_of as line_form, line_of, srm_of as line_srm}
-use Rattle.dex_dump_rows.specs.Lines.PlainLine.{Srm as SrmLine}
-use Rattle.dex_dump.proofs.ByteLaws.{base64_of-bytes, bytes-cons}
-use Rattle.dex_dump.proofs.LineLaws.{line-read}
+use Rattle.dex_rows.specs.Printable.{row_is_printable}
+use Rattle.dex_dump.proofs.ByteLaws.{base64_of-bytes}
+use Rattle.dex_dump.proofs.LineLaws.{AreFields, address_of-address, fields-bytes}
 use Rattle.dex_statement.specs.declared.faults.FaultKind.TheVariants.{BadCsv, UnknownRow, FieldCount, BadNumber, BadLabel}
 use Rattle.dex_statement.specs.declared.forms.Form.{Form}
 use Rattle.dex_statement.specs.declared.forms.Form.TheVariants as form
@@ -38,20 +34,6 @@ number-fits limit word n is =
     let small : value < limit = ltb-true value limit (and_parts (is_numeral word) (nat_lt value limit) a.0).1 in
     subst (λ (x : ℕ). x < limit) a.1 small
 
-address-size : (word : List ℕ) (address : Address) → is_printable word ≡ true → address_of word ≡ Some address → length address.0 ≡ 32
-unfolding line_of row_is_printable is_printable line_form line_srm
-address-size word address printable is = (line-read (codes "srm" ∷ word ∷ []) (SrmLine address) (rw (printable, is) refl)).size
-
-printable-byte : (c : ℕ) → is_printable_byte c ≡ true → c < 256
-printable-byte c h = grind (arith, nat_tests)
-
-printable-bytes : (field : List ℕ) → is_printable field ≡ true → AreBytes field
-unfolding is_printable
-printable-bytes [] h = λ i. omega arith
-printable-bytes (c ∷ field) h =
-    let parts = and_parts (is_printable_byte c) (list_all is_printable_byte field) h in
-    bytes-cons c field (printable-byte c parts.0) (printable-bytes field parts.1)
-
 last-zero : (found : Option Address) (address : Address) → with_last_zero found ≡ Some address
     → (found ≡ Some address) × (slice_index address.0 31 ≡ 0)
 last-zero None address is = absurd (none-some address is)
@@ -65,17 +47,6 @@ market-address : (word : List ℕ) (address : Address) → market_word word ≡ 
     → (address_of word ≡ Some address) × (slice_index address.0 31 ≡ 0)
 unfolding market_word
 market-address word address is = last-zero (address_of word) address is
-
--- ---- fields
-
-abbrev ArePrintable : Fields → Type 0
-ArePrintable fields = (place : ℕ) → is_printable (field_at fields place) ≡ true
-
-fields-printable : (fields : Fields) → row_is_printable fields ≡ true → ArePrintable fields
-unfolding row_is_printable is_printable
-fields-printable [] h place = refl
-fields-printable (field ∷ fields) h zero = (and_parts (is_printable field) (list_all is_printable fields) h).0
-fields-printable (field ∷ fields) h (suc place) = fields-printable fields (and_parts (is_printable field) (list_all is_printable fields) h).1 place
 
 -- ---- statements
 
@@ -100,9 +71,9 @@ IsStated (row.Wallet address mint owner amount) = IsWalletStated mint owner amou
 IsStated (row.Market words) = IsMarketStated words
 IsStated _ = Unit {0}
 
-module _ (fields : Fields) (are : ArePrintable fields) where
+module _ (fields : Fields) (are : AreFields fields) where
   wide : (place : ℕ) (address : Address) → address_of (field_at fields place) ≡ Some address → length address.0 ≡ 32
-  wide place address is = address-size (field_at fields place) address (are place) is
+  wide place address is = (address_of-address (field_at fields place) address is).size
 
   market-stated : Gives IsMarketStated (market_of fields)
   unfolding market_of
@@ -122,7 +93,7 @@ module _ (fields : Fields) (are : ArePrintable fields) where
         last_byte = own.1;
         coin = wide 2 coin h2;
         pc = wide 3 pc h3;
-        bytes = base64_of-bytes (field_at fields 8) bytes (printable-bytes (field_at fields 8) (are 8)) h8;
+        bytes = base64_of-bytes (field_at fields 8) bytes (are 8) h8;
       }))))))))))
 
   form-stated : (kind : Form) → Gives IsStated (stated kind fields)
@@ -162,6 +133,6 @@ pub row-stated : (fields : Fields) (statement : Statement) → statement_of fiel
 unfolding statement_of
 row-stated fields statement is =
     gives-unless IsStated (not (row_is_printable fields)) BadCsv _ (λ printable.
-    let are = fields-printable fields (not-false (row_is_printable fields) printable) in
+    let are = fields-bytes fields (not-false (row_is_printable fields) printable) in
     gives-found IsStated (form_of (field_at fields 0)) UnknownRow (λ kind. stated kind fields) (λ kind h. form-stated fields are kind))
     statement is

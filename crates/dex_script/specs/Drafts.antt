@@ -35,14 +35,10 @@ no_rows limits batch = record {
 
 -- after a dump: its accounts are there, and setup rows come too late
 abbrev pub behind_dump : Limits → Bool → PlainAccounts → PlainDraft
-behind_dump limits batch accounts = record {
+behind_dump limits batch accounts = record (no_rows limits batch) {
   script = without_rows limits accounts;
   taken = addresses_of accounts;
-  clock = pos 0;
-  is_first = true;
   is_late = true;
-  items = 0;
-  batch = batch;
 }
 
 -- what holds of a script so far, whose next row has this number: its rows are in order, and with lower numbers
