@@ -24,8 +24,12 @@ use dex_world::RowPlaces;
 use std::alloc::Global;
 use std::marker::Model;
 
-/// Rows of scripts have some so many bytes, or more.
+/// Most rows have more bytes than this.
 const SHORT: usize = 40;
+
+/// Room is taken for no more rows than this before they are read: a little more than the 128 KB from which on the C
+/// library's lists are pages of their own.
+const ROWS: usize = 512;
 
 /// A script as far as its rows are read, the places of each row, and, from its first instruction row on, the names of
 /// its markets and wallets. A contract sees it as what the rows say.
@@ -99,12 +103,13 @@ impl Reader {
         })
     }
 
-    /// This reader, with room for as many rows more as so many bytes may have, so that no list is copied as it grows.
+    /// This reader, with room for some rows more where so many bytes are still to be read. Lists that are shorter than
+    /// this are copied each time that they grow, and longer ones only get other pages.
     pub(crate) fn with_room(self, left: usize) -> Result<Reader, NoMemory>
         ensures { IfOk result (λ wide. wide ≡ self) }
     {
         let mut wide = self;
-        let count = (left / SHORT).min(wide.draft.limits.items as usize);
+        let count = (left / SHORT).min(ROWS);
         make_room(&mut wide.draft.rows, &mut wide.places, count)?;
         Ok(wide)
     }

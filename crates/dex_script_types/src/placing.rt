@@ -49,7 +49,7 @@ pub fn wallets_at<F: FindsWallets>(
     })
 }
 
-/// `wallets_at` of two wallets, as nearly all rows name: they are compared once.
+/// `wallets_at` of two wallets, as nearly all rows name.
 fn two_at<F: FindsWallets>(finder: &F, coin: Address, pc: Address) -> Option<RowWallets>
     requires { addresses.is_same coin pc ≡ false }
     ensures found { IfSome result (AreWalletsAt (F.place finder.now) (Some coin) (Some pc) None None) }

@@ -1,5 +1,5 @@
-//! Scripts played part by part: some rows are read, act, and are heard, and then the next. So no more than a part of a
-//! script's rows, and of what they leave in journals, is in memory.
+//! Scripts played part by part: some rows are read, act, and are heard, and then the next. So no more than two parts of
+//! a script's rows, and what one leaves in journals, are in memory.
 #![tactic(auto)]
 
 mod listener;

@@ -7,8 +7,9 @@ ghost use Rattle.dex_state.specs.Accepted.{AreAccepted};
 use dex_ring::RingRef;
 use dex_types::Accounts;
 
-/// A part is about so many bytes of a text, or more. Its rows and what they leave then take some 100 KB in all: the C
-/// library keeps that much from part to part, while longer lists are given back and taken anew.
+/// A part is about so many bytes of a text, or more. Its rows and what they leave then take some 100 KB in all, and the
+/// rows before as much. The C library keeps lists so short from part to part, while longer ones are given back and
+/// taken anew.
 pub(crate) const PART: usize = 12_288;
 
 /// How many bytes the next part is: more where its cells take long to open. To read a byte and let it act takes some
