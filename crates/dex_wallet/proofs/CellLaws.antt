@@ -8,8 +8,8 @@ use Rattle.dex_token.specs.TokenAccount.{WalletWords, wallet_words, with_amount}
 use Rattle.dex_token.proofs.AmountWrites.{IsWallet-with_amount, amount-with_amount, wallet_words-with_amount, with_amount-again}
 use Rattle.dex_wallet.specs.TokenAmount.{TokenAmount}
 use Rattle.dex_wallet.specs.CellState.{CellState, HasSpare, IsWalletCell, balance_of, with_entry}
-use Rattle.dex_wallet.specs.declared.wallet_cell.WalletCell.TheInside.{Inside}
-use Rattle.dex_wallet.specs.CellInside.{cell_inside, cell_of}
+use Rattle.dex_wallet.specs.declared.wallet_cell.Kept.{Kept}
+use Rattle.dex_wallet.specs.CellInside.{cell_of, kept_cell}
 use Rattle.dex_wallet.proofs.Journals.{IsWalletLegal-append, balance_after-append, moved_balance-lt}
 
 -- the amount after a movement
@@ -59,24 +59,24 @@ cell_of-moved address starting bytes now share left entries more room entry writ
     ∙ ap (λ (es : List WalletEntry). cell_of address starting (with_amount bytes after) (moved_amount entry.kind entry.amount share) es room) appended
     ∙ rw (with_amount-again bytes after starting) refl
 
--- a cell after a movement, by the fields that it had and by those that it has then
-pub record HasMoved (inside : Inside) (now : List ℕ) (left : TokenAmount) (more : List WalletEntry) (cell : CellState) (entry : WalletEntry) : Type 0 where
-  pub moved : cell_of inside.address inside.starting now left more inside.room ≡ with_entry cell entry
-  pub kept : IsWalletCell (cell_of inside.address inside.starting now left more inside.room)
+-- a cell after a movement, by what it kept and by what it keeps then
+pub record HasMoved (before : Kept) (now : List ℕ) (left : TokenAmount) (more : List WalletEntry) (cell : CellState) (entry : WalletEntry) : Type 0 where
+  pub moved : cell_of before.address before.starting now left more before.room ≡ with_entry cell entry
+  pub kept : IsWalletCell (cell_of before.address before.starting now left more before.room)
   pub words : wallet_words now ≡ record (wallet_words cell.bytes) { amount = moved_balance entry.kind entry.amount (balance_of cell.bytes) }
 
-pub has-moved : (inside : Inside) (cell : CellState) (entry : WalletEntry) (now : List ℕ) (left : TokenAmount) (more : List WalletEntry)
-    → IsWalletCell cell → balance_of cell.bytes < 2 ^ 64 → cell_inside inside ≡ cell
+pub has-moved : (before : Kept) (cell : CellState) (entry : WalletEntry) (now : List ℕ) (left : TokenAmount) (more : List WalletEntry)
+    → IsWalletCell cell → balance_of cell.bytes < 2 ^ 64 → kept_cell before ≡ cell
     → entry.before ≡ balance_of cell.bytes → CanMove entry.kind entry.amount (balance_of cell.bytes) → HasSpare cell
-    → now ≡ with_amount inside.bytes.items (moved_balance entry.kind entry.amount (balance_of inside.bytes.items))
-    → left ≡ moved_amount entry.kind entry.amount inside.share.parcel → more ≡ inside.entries.items ++ entry ∷ []
-    → HasMoved inside now left more cell entry
-has-moved inside cell entry now left more kept fits is before can spare written taken appended =
-    let moved : cell_of inside.address inside.starting now left more inside.room ≡ with_entry cell entry =
-    cell_of-moved inside.address inside.starting inside.bytes.items now inside.share.parcel left inside.entries.items more inside.room entry written taken appended
+    → now ≡ with_amount before.bytes.items (moved_balance entry.kind entry.amount (balance_of before.bytes.items))
+    → left ≡ moved_amount entry.kind entry.amount before.share.parcel → more ≡ before.entries.items ++ entry ∷ []
+    → HasMoved before now left more cell entry
+has-moved before cell entry now left more kept fits is at can spare written taken appended =
+    let moved : cell_of before.address before.starting now left more before.room ≡ with_entry cell entry =
+    cell_of-moved before.address before.starting before.bytes.items now before.share.parcel left before.entries.items more before.room entry written taken appended
     ∙ ap (λ (c : CellState). with_entry c entry) is in
     record {
       moved = moved;
-      kept = subst IsWalletCell (sym moved) (IsWalletCell-with_entry cell entry kept fits before can spare);
+      kept = subst IsWalletCell (sym moved) (IsWalletCell-with_entry cell entry kept fits at can spare);
       words = ap (λ (c : CellState). wallet_words c.bytes) moved ∙ words-with_entry cell entry kept fits can;
     }

@@ -1,9 +1,9 @@
--- What the fields of a wallet's cell stand for.
+-- What a wallet's cell keeps stands for.
 use Rattle.std.specs.Prelude.{ℕ, ◌≤◌, List, vec_capacity}
 use Rattle.dex_types.specs.declared.addresses.Address.{Address}
 use Rattle.dex_types.specs.declared.movements.WalletEntry.{WalletEntry}
 use Rattle.dex_token.specs.TokenAccount.{with_amount}
-use Rattle.dex_wallet.specs.declared.wallet_cell.WalletCell.TheInside.{Inside}
+use Rattle.dex_wallet.specs.declared.wallet_cell.Kept.{Kept}
 use Rattle.dex_wallet.specs.TokenAmount.{TokenAmount}
 use Rattle.dex_wallet.specs.CellState.{CellState, IsWalletCell}
 
@@ -18,11 +18,11 @@ cell_of address starting bytes share entries room = record {
   room = room;
 }
 
--- the cell that the fields stand for
-abbrev pub cell_inside : Inside → CellState
-cell_inside inside = cell_of inside.address inside.starting inside.bytes.items inside.share.parcel inside.entries.items inside.room
+-- the cell that what it keeps stands for
+abbrev pub kept_cell : Kept → CellState
+kept_cell kept = cell_of kept.address kept.starting kept.bytes.items kept.share.parcel kept.entries.items kept.room
 
--- what always holds of a wallet's cell holds of the fields, and the list of movements has its room reserved
-pub record IsKept (inside : Inside) : Type 0 where
-  pub cell : IsWalletCell (cell_inside inside)
-  pub reserved : inside.room ≤ vec_capacity inside.entries
+-- what always holds of a wallet's cell holds of what it keeps, and the list of movements has its room reserved
+pub record IsKept (kept : Kept) : Type 0 where
+  pub cell : IsWalletCell (kept_cell kept)
+  pub reserved : kept.room ≤ vec_capacity kept.entries

@@ -12,9 +12,15 @@ use std::marker::Model;
 /// A wallet: its token account, the parcel that the account's amount is, and the journal of its movements.
 ///
 /// The token account is always the one that the cell was made with, with the amount after all movements. Where a cell
-/// is dropped its parcel is given up.
+/// is dropped its parcel is given up. What a cell keeps stays where it is when the cell goes from hand to hand.
 #[derive(Debug, Drop)]
 pub struct WalletCell {
+    kept: Box<Kept>,
+}
+
+/// What a cell keeps.
+#[derive(Debug, Drop)]
+struct Kept {
     address: Address,
     bytes: Vec<u8>,
     share: Share,
@@ -28,11 +34,11 @@ impl Model for WalletCell {
 
     ghost Value = { CellState };
 
-    ghost use Rattle.dex_wallet.specs.CellInside.{cell_inside, IsKept};
+    ghost use Rattle.dex_wallet.specs.CellInside.{IsKept, kept_cell};
 
-    ghost view = { cell_inside };
+    ghost view = { λ cell. kept_cell cell.kept.value };
 
-    ghost invariant = { IsKept };
+    ghost invariant = { λ cell. IsKept cell.kept.value };
 }
 
 impl WalletCell {
@@ -57,13 +63,16 @@ impl WalletCell {
         let share = Share { parcel: share };
         let entries = Vec::with_capacity(alloc, room)?;
         let starting = balance(&bytes);
-        Ok(WalletCell {
+        let kept = Kept {
             address,
             bytes,
             share,
             starting,
             entries,
             room,
+        };
+        Ok(WalletCell {
+            kept: Box::new(alloc, kept)?,
         })
     }
 
@@ -72,7 +81,7 @@ impl WalletCell {
         ensures address { result ≡ self.now.address }
         ensures cell { IsWalletCell self.now }
     {
-        self.address
+        self.kept.address
     }
 
     /// What a row sees of the wallet.
@@ -80,9 +89,11 @@ impl WalletCell {
         ensures seen { result ≡ seen_of self.now }
         ensures cell { IsWalletCell self.now }
     {
-        let wallet = WalletRef { bytes: &self.bytes };
+        let wallet = WalletRef {
+            bytes: &self.kept.bytes,
+        };
         WalletSeen {
-            address: self.address,
+            address: self.kept.address,
             mint: wallet.mint(),
             owner: wallet.owner(),
             balance: wallet.amount(),
@@ -94,7 +105,7 @@ impl WalletCell {
         ensures spare { result ≡ self.now.room - length self.now.entries }
         ensures cell { IsWalletCell self.now }
     {
-        self.room - self.entries.len()
+        self.kept.room - self.kept.entries.len()
     }
 
     /// The movements, from the first to the last.
@@ -102,7 +113,7 @@ impl WalletCell {
         ensures entries { result.now ≡ self.now.entries }
         ensures cell { IsWalletCell self.now }
     {
-        &self.entries
+        &self.kept.entries
     }
 
     /// The token account.
@@ -110,7 +121,7 @@ impl WalletCell {
         ensures bytes { result.now ≡ self.now.bytes }
         ensures cell { IsWalletCell self.now }
     {
-        &self.bytes
+        &self.kept.bytes
     }
 
     /// A movement, by a row of this number that this lane submits to this market.
@@ -132,7 +143,7 @@ impl WalletCell {
             row,
             kind,
             amount,
-            before: balance(&self.bytes),
+            before: balance(&self.kept.bytes),
         }
     }
 
@@ -144,7 +155,7 @@ impl WalletCell {
         ensures cell { IsWalletCell self.new }
     {
         let probe = self.movement(market, lane, row, MoveKind::Probe, 0);
-        self.entries.push_reserved(probe);
+        self.kept.entries.push_reserved(probe);
     }
 
     /// A row of this number, which this lane submits to this market, takes an amount out, as a parcel.
@@ -159,9 +170,10 @@ impl WalletCell {
         ensures cell { IsWalletCell self.new }
     {
         let debit = self.movement(market, lane, row, MoveKind::Debit, amount);
-        self.entries.push_reserved(debit);
-        set_balance(&mut self.bytes, debit.before - amount);
-        self.share.parcel.take(amount)
+        let kept = self.kept.as_mut();
+        kept.entries.push_reserved(debit);
+        set_balance(&mut kept.bytes, debit.before - amount);
+        kept.share.parcel.take(amount)
     }
 
     /// A row of this number, which this lane submits to this market, puts a parcel in.
@@ -177,9 +189,10 @@ impl WalletCell {
     {
         let amount = parcel.amount();
         let credit = self.movement(market, lane, row, MoveKind::Credit, amount);
-        self.entries.push_reserved(credit);
-        set_balance(&mut self.bytes, credit.before + amount);
-        self.share.parcel.put(parcel);
+        let kept = self.kept.as_mut();
+        kept.entries.push_reserved(credit);
+        set_balance(&mut kept.bytes, credit.before + amount);
+        kept.share.parcel.put(parcel);
     }
 
     /// The token account and the movements, as they are. The parcel is given up.
@@ -188,7 +201,8 @@ impl WalletCell {
         ensures entries { result.1.items ≡ self.entries }
         ensures cell { IsWalletCell self }
     {
-        let WalletCell { bytes, entries, .. } = self;
+        let WalletCell { kept } = self;
+        let Kept { bytes, entries, .. } = Box::into_inner(kept);
         (bytes, entries)
     }
 }
